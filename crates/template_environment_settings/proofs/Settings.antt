@@ -55,7 +55,7 @@ same_standing : (name other : List ℕ) (c d : Compiled) → name ≡ other → 
     → ∥ IsEscapeOf d.source.escapes other d.escape ∥₁ → standing_of c ≡ standing_of d
 same_standing name other c d named source left right =
     let escape = same_escape name other c.source d.source c.escape d.escape named source left right in
-    λ i. record { tree = tree_in (source i); escape = escape i }
+    λ i. record { name = named i; tree = tree_in (source i); escape = escape i }
 
 one_standing : (name : List ℕ) (o p : Option Compiled) → option_map (λ c. c.source) o ≡ option_map (λ c. c.source) p
     → ((c : Compiled) → o ≡ Some c → ∥ IsEscapeOf c.source.escapes name c.escape ∥₁)
@@ -67,16 +67,17 @@ one_standing name (Some c) (Some d) same left right =
     ap Some (same_standing name name c d refl (same_Some _ _ same) (left c refl) (right d refl))
 
 pub one_setting : AlikeHaveOneSetting
-one_setting e other alike = λ i. record {
+one_setting brought others e other alike = λ i. record {
   templates = λ name. one_standing name (compiled_at e.templates name) (compiled_at other.templates name) (alike.sources name)
       (e.escaped name) (other.escaped name) i;
   globals = alike.globals i;
+  callables = alike.callables i;
   limit = alike.limit i;
   undefined = alike.undefined i;
 }
 
 pub same_renders : AlikeRenderTheSame
-same_renders e other alike c d one id n context =
-    let setting = one_setting e other alike in
+same_renders brought others e other alike c d one id n context =
+    let setting = one_setting brought others e other alike in
     let standing = same_standing c.name d.name c d one.name one.source ∣ one.escape ∣₁ ∣ one.other_escape ∣₁ in
     λ i. rendered (setting i) id n (standing i) context

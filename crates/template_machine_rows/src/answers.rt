@@ -1,21 +1,24 @@
 //! What comes of a case.
+use crate::brings::{Brought, brought_of};
 use crate::calls::ask;
 use crate::case::{Case, Escapes, Setting};
-use crate::escapes::{NumberedRule, ShortNames};
+use crate::own::{Brings, Own};
 use crate::report::Report;
 use crate::steps::Step;
 use std::alloc::Global;
 use std::borrow::CowStr;
 use template_compiler_syntax::{SyntaxConfig, SyntaxConfigBuilder};
+use template_callables::Extension;
 use template_environment::Environment;
-use template_machine_surroundings::{AutoEscapeRule, StateIds};
+use template_machine_surroundings::StateIds;
+use template_values_core::Value;
 use template_values_errors::Error;
 
 /// What comes of the case, in one line.
 pub(crate) fn answer(alloc: Global, case: &Case<'_>, out: &mut Report) {
     let mut ids = StateIds::new(0);
     match case.setting.escapes {
-        Escapes::ByName => {
+        Escapes::ByName if case.brings_nothing() => {
             let environment = Environment::new(alloc, &mut ids);
             answer_in(alloc, environment, &mut ids, case, out)
         }
@@ -23,17 +26,17 @@ pub(crate) fn answer(alloc: Global, case: &Case<'_>, out: &mut Report) {
             let environment = Environment::empty(alloc, &mut ids);
             answer_in(alloc, environment, &mut ids, case, out)
         }
-        Escapes::Shorter(length) => {
-            let rule = ShortNames::shorter_than(length);
-            let environment = Environment::with_auto_escape_callback(alloc, rule, &mut ids);
+        _ => {
+            let environment: Result<Environment<'_, Own>, Error> =
+                Environment::extended(alloc, &mut ids);
             answer_in(alloc, environment, &mut ids, case, out)
         }
     }
 }
 
-fn answer_in<'line, R: NumberedRule>(
+fn answer_in<'line, E: Brings>(
     alloc: Global,
-    environment: Result<Environment<'line, R>, Error>,
+    environment: Result<Environment<'line, E>, Error>,
     ids: &mut StateIds,
     case: &Case<'line>,
     out: &mut Report,
@@ -44,15 +47,16 @@ fn answer_in<'line, R: NumberedRule>(
     }
 }
 
-fn tell<'line, R: NumberedRule>(
+fn tell<'line, E: Brings>(
     alloc: Global,
-    environment: &mut Environment<'line, R>,
+    environment: &mut Environment<'line, E>,
     ids: &mut StateIds,
     case: &Case<'line>,
     out: &mut Report,
 ) {
     set(environment, &case.setting);
     out.or(set_globals(environment, case), ());
+    out.or(bring_all(alloc, environment, case), ());
     if take_all(alloc, environment, case, out) {
         match case.context.copy() {
             Ok(context) => ask(environment, ids, case, context, out),
@@ -61,7 +65,10 @@ fn tell<'line, R: NumberedRule>(
     }
 }
 
-fn set<R: AutoEscapeRule>(environment: &mut Environment<'_, R>, setting: &Setting) {
+fn set<E: Brings>(environment: &mut Environment<'_, E>, setting: &Setting) {
+    if let Escapes::Shorter(length) = setting.escapes {
+        environment.set_auto_escape_callback(E::shorter_than(length));
+    }
     environment.set_fuel(setting.fuel);
     environment.set_undefined_behavior(setting.undefined);
     if let Some(limit) = setting.limit {
@@ -70,8 +77,8 @@ fn set<R: AutoEscapeRule>(environment: &mut Environment<'_, R>, setting: &Settin
 }
 
 // Puts the values under their names, and takes those away that are removed.
-fn set_globals<R: AutoEscapeRule>(
-    environment: &mut Environment<'_, R>,
+fn set_globals<E: Extension>(
+    environment: &mut Environment<'_, E>,
     case: &Case<'_>,
 ) -> Result<(), Error> {
     for entry in case.globals.entries().unwrap_or(&[]) {
@@ -85,10 +92,48 @@ fn set_globals<R: AutoEscapeRule>(
     Ok(())
 }
 
-// Takes the steps, tells which additions are refused, and whether the case goes on behind them.
-fn take_all<'line, R: NumberedRule>(
+// Adds what the case brings, and takes those filters and tests away that are removed.
+fn bring_all<E: Brings>(
     alloc: Global,
-    environment: &mut Environment<'line, R>,
+    environment: &mut Environment<'_, E>,
+    case: &Case<'_>,
+) -> Result<(), Error> {
+    for (name, brought) in described(alloc, &case.brings.filters)? {
+        environment.add_filter(name, E::callable(brought))?;
+    }
+    for (name, brought) in described(alloc, &case.brings.tests)? {
+        environment.add_test(name, E::callable(brought))?;
+    }
+    for (name, brought) in described(alloc, &case.brings.functions)? {
+        environment.add_function(name, E::callable(brought))?;
+    }
+    for (_name, brought) in described(alloc, &case.brings.method)? {
+        environment.set_unknown_method_callback(E::method(brought));
+    }
+    for name in &case.brings.removed_filters {
+        environment.remove_filter(*name);
+    }
+    for name in &case.brings.removed_tests {
+        environment.remove_test(*name);
+    }
+    Ok(())
+}
+
+// What a map describes, by order of the names.
+fn described(alloc: Global, map: &Value) -> Result<Vec<(&str, Brought)>, Error> {
+    let mut described = Vec::new(alloc);
+    for entry in map.entries().unwrap_or(&[]) {
+        if let Some(name) = entry.key.as_str() {
+            described.push((name, brought_of(alloc, &entry.value)?))?;
+        }
+    }
+    Ok(described)
+}
+
+// Takes the steps, tells which additions are refused, and whether the case goes on behind them.
+fn take_all<'line, E: Brings>(
+    alloc: Global,
+    environment: &mut Environment<'line, E>,
     case: &Case<'line>,
     out: &mut Report,
 ) -> bool {
@@ -104,9 +149,9 @@ fn take_all<'line, R: NumberedRule>(
     true
 }
 
-fn take<'line, R: NumberedRule>(
+fn take<'line, E: Brings>(
     alloc: Global,
-    environment: &mut Environment<'line, R>,
+    environment: &mut Environment<'line, E>,
     is_owned: bool,
     step: Step<'line>,
 ) -> Result<(), Error> {
@@ -118,15 +163,15 @@ fn take<'line, R: NumberedRule>(
         Step::Prefixes { statement, comment } => {
             environment.set_syntax(prefixed(alloc, statement, comment)?)
         }
-        Step::Rule { length } => environment.set_auto_escape_callback(R::shorter_than(length)),
+        Step::Rule { length } => environment.set_auto_escape_callback(E::shorter_than(length)),
     }
     Ok(())
 }
 
 // Adds a template of texts that do not outlive the call.
-fn add_owned<R: AutoEscapeRule>(
+fn add_owned<E: Extension>(
     alloc: Global,
-    environment: &mut Environment<'_, R>,
+    environment: &mut Environment<'_, E>,
     name: &str,
     source: &str,
 ) -> Result<(), Error> {

@@ -1,27 +1,45 @@
 //! What is asked for behind the steps.
 use crate::case::{Call, Case, Setting, Source, Subject};
+use crate::invoked::call_all;
 use crate::renders::{tell_captured, tell_render};
 use crate::report::Report;
 use crate::tellings::{tell_globals, tell_new_state, tell_templates};
 use std::alloc::Global;
 use std::borrow::CowStr;
+use template_callables::Extension;
 use template_environment::{Environment, Expression, Template};
-use template_machine_surroundings::{AutoEscapeRule, StateIds};
+use template_machine_surroundings::StateIds;
 use template_values_core::Value;
 use template_values_errors::Error;
 
 /// Tells what comes of what is asked of the environment, or of the case's subject.
-pub(crate) fn ask<'line, R: AutoEscapeRule>(
-    environment: &Environment<'line, R>,
+pub(crate) fn ask<'line, E: Extension>(
+    environment: &Environment<'line, E>,
     ids: &mut StateIds,
     case: &Case<'line>,
     context: Value,
     out: &mut Report,
 ) {
-    if let Call::Globals = case.setting.call {
-        drop(context);
-        return tell_globals(environment, out);
+    match case.setting.call {
+        Call::Globals => {
+            drop(context);
+            tell_globals(environment, out)
+        }
+        Call::Calls => {
+            drop(context);
+            call_all(environment, ids, &case.calls, out)
+        }
+        _ => ask_subject(environment, ids, case, context, out),
     }
+}
+
+fn ask_subject<'line, E: Extension>(
+    environment: &Environment<'line, E>,
+    ids: &mut StateIds,
+    case: &Case<'line>,
+    context: Value,
+    out: &mut Report,
+) {
     match case.subject {
         Subject::Main(name) => {
             let template = environment.get_template(name);
@@ -36,8 +54,8 @@ pub(crate) fn ask<'line, R: AutoEscapeRule>(
     }
 }
 
-fn ask_source<'line, R: AutoEscapeRule>(
-    environment: &Environment<'line, R>,
+fn ask_source<'line, E: Extension>(
+    environment: &Environment<'line, E>,
     source: Source<'line>,
     ids: &mut StateIds,
     setting: &Setting,
@@ -52,8 +70,8 @@ fn ask_source<'line, R: AutoEscapeRule>(
     }
 }
 
-fn text_of<'line, R: AutoEscapeRule>(
-    environment: &Environment<'line, R>,
+fn text_of<'line, E: Extension>(
+    environment: &Environment<'line, E>,
     source: Source<'line>,
     ids: &mut StateIds,
     context: Value,
@@ -64,19 +82,19 @@ fn text_of<'line, R: AutoEscapeRule>(
     }
 }
 
-fn template_of<'env, 'line, R: AutoEscapeRule>(
-    environment: &'env Environment<'line, R>,
+fn template_of<'env, 'line, E: Extension>(
+    environment: &'env Environment<'line, E>,
     source: Source<'line>,
-) -> Result<Template<'env, 'line, R>, Error> {
+) -> Result<Template<'env, 'line, E>, Error> {
     match source.name {
         None => environment.template_from_str(source.text),
         Some(name) => environment.template_from_named_str(name, source.text),
     }
 }
 
-fn ask_template<'line, R: AutoEscapeRule>(
-    environment: &Environment<'line, R>,
-    template: &Result<Template<'_, 'line, R>, Error>,
+fn ask_template<'line, E: Extension>(
+    environment: &Environment<'line, E>,
+    template: &Result<Template<'_, 'line, E>, Error>,
     ids: &mut StateIds,
     setting: &Setting,
     context: Value,
@@ -88,9 +106,9 @@ fn ask_template<'line, R: AutoEscapeRule>(
     }
 }
 
-fn tell_template<'line, R: AutoEscapeRule>(
-    environment: &Environment<'line, R>,
-    template: &Template<'_, 'line, R>,
+fn tell_template<'line, E: Extension>(
+    environment: &Environment<'line, E>,
+    template: &Template<'_, 'line, E>,
     ids: &mut StateIds,
     setting: &Setting,
     context: Value,
@@ -108,8 +126,8 @@ fn tell_template<'line, R: AutoEscapeRule>(
 }
 
 // The text of a render.
-fn tell_text<R: AutoEscapeRule>(
-    template: &Template<'_, '_, R>,
+fn tell_text<E: Extension>(
+    template: &Template<'_, '_, E>,
     ids: &mut StateIds,
     context: Value,
     out: &mut Report,
@@ -118,9 +136,9 @@ fn tell_text<R: AutoEscapeRule>(
 }
 
 // What is asked of the template without a render.
-fn tell_of_template<'line, R: AutoEscapeRule>(
-    environment: &Environment<'line, R>,
-    template: &Template<'_, 'line, R>,
+fn tell_of_template<'line, E: Extension>(
+    environment: &Environment<'line, E>,
+    template: &Template<'_, 'line, E>,
     ids: &mut StateIds,
     setting: &Setting,
     out: &mut Report,
@@ -135,9 +153,9 @@ fn tell_of_template<'line, R: AutoEscapeRule>(
 }
 
 // A new state of the template, then one without a template.
-fn tell_states<'line, R: AutoEscapeRule>(
-    environment: &Environment<'line, R>,
-    template: &Template<'_, 'line, R>,
+fn tell_states<'line, E: Extension>(
+    environment: &Environment<'line, E>,
+    template: &Template<'_, 'line, E>,
     ids: &mut StateIds,
     out: &mut Report,
 ) {
@@ -146,14 +164,14 @@ fn tell_states<'line, R: AutoEscapeRule>(
     tell_new_state(&environment.empty_state(ids), out);
 }
 
-fn tell_used_names<R: AutoEscapeRule>(template: &Template<'_, '_, R>, out: &mut Report) {
+fn tell_used_names<E: Extension>(template: &Template<'_, '_, E>, out: &mut Report) {
     out.names(&template.undeclared_variables(false));
     out.push(' ');
     out.names(&template.undeclared_variables(true));
 }
 
-fn ask_expression<'line, R: AutoEscapeRule>(
-    environment: &Environment<'line, R>,
+fn ask_expression<'line, E: Extension>(
+    environment: &Environment<'line, E>,
     source: &'line str,
     ids: &mut StateIds,
     setting: &Setting,
@@ -166,12 +184,12 @@ fn ask_expression<'line, R: AutoEscapeRule>(
     }
 }
 
-fn expression_of<'env, 'line, R: AutoEscapeRule>(
+fn expression_of<'env, 'line, E: Extension>(
     alloc: Global,
-    environment: &'env Environment<'line, R>,
+    environment: &'env Environment<'line, E>,
     source: &'line str,
     is_owned: bool,
-) -> Result<Expression<'env, 'line, R>, Error> {
+) -> Result<Expression<'env, 'line, E>, Error> {
     if is_owned {
         // A source that does not outlive the call.
         let source = String::from_str(alloc, source)?;
@@ -181,8 +199,8 @@ fn expression_of<'env, 'line, R: AutoEscapeRule>(
     }
 }
 
-fn tell_expression<R: AutoEscapeRule>(
-    expression: &Expression<'_, '_, R>,
+fn tell_expression<E: Extension>(
+    expression: &Expression<'_, '_, E>,
     ids: &mut StateIds,
     setting: &Setting,
     context: Value,
@@ -195,8 +213,8 @@ fn tell_expression<R: AutoEscapeRule>(
     tell_value(&expression.eval(ids, context), out)
 }
 
-fn tell_names_of_expression<R: AutoEscapeRule>(
-    expression: &Expression<'_, '_, R>,
+fn tell_names_of_expression<E: Extension>(
+    expression: &Expression<'_, '_, E>,
     out: &mut Report,
 ) {
     out.names(&expression.undeclared_variables(false));

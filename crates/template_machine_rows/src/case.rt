@@ -9,9 +9,16 @@ use template_values_errors::{Error, ErrorKind, UndefinedBehavior};
 use template_values_json::context_from_json;
 
 // The names of a case's entries.
-const KNOWN: [&str; 17] = [
+const KNOWN: [&str; 24] = [
     "globals",
     "remove_globals",
+    "filters",
+    "tests",
+    "functions",
+    "method",
+    "remove_filters",
+    "remove_tests",
+    "calls",
     "templates",
     "main",
     "source",
@@ -29,17 +36,32 @@ const KNOWN: [&str; 17] = [
     "skip",
 ];
 
-/// A case: which globals stand, what is done, what is asked for then, and in which setting.
+/// A case: which globals stand, what is brought, what is done, what is asked for then, and in which setting.
 #[derive(Drop)]
 pub(crate) struct Case<'line> {
     /// A map of the values that are put under names.
     pub(crate) globals: Value,
     /// The names that no value stands under behind that.
     pub(crate) removed_globals: Vec<&'line str>,
+    pub(crate) brings: Brings<'line>,
+    /// A map of a list, of the calls that are made on a state.
+    pub(crate) calls: Value,
     pub(crate) steps: Vec<Step<'line>>,
     pub(crate) subject: Subject<'line>,
     pub(crate) setting: Setting,
     pub(crate) context: Value,
+}
+
+/// What is brought: maps of what is described, by name; and the names of filters and tests that are removed behind that.
+#[derive(Drop)]
+pub(crate) struct Brings<'line> {
+    pub(crate) filters: Value,
+    pub(crate) tests: Value,
+    pub(crate) functions: Value,
+    /// A map of one, if what answers for methods is described.
+    pub(crate) method: Value,
+    pub(crate) removed_filters: Vec<&'line str>,
+    pub(crate) removed_tests: Vec<&'line str>,
 }
 
 /// What a case says besides its texts and its context.
@@ -87,6 +109,8 @@ pub(crate) enum Call {
     Escape,
     Templates,
     Globals,
+    /// Calls on a state without a template.
+    Calls,
 }
 
 /// Where the text of a render goes.
@@ -117,15 +141,59 @@ impl<'line> Case<'line> {
         out.or(expect_names(entries, &KNOWN), ());
         let globals = object_of(alloc, entries.get("globals"));
         let removed = removed_of(alloc, entries.get("remove_globals"));
+        let calls = wrapped_of(alloc, entries.get("calls"));
         let steps = steps_of(alloc, entries.get("templates"), out);
         let context = object_of(alloc, entries.get("context"));
         Case {
             globals: out.or(globals, Value::none()),
             removed_globals: out.or(removed, Vec::new(alloc)),
+            brings: Brings::read(alloc, entries, out),
+            calls: out.or(calls, Value::none()),
             subject: subject_of(entries, steps.as_slice(), out),
             setting: Setting::read(entries, out),
             context: out.or(context, Value::none()),
             steps,
+        }
+    }
+}
+
+impl<'line> Case<'line> {
+    /// Whether nothing is brought.
+    pub(crate) fn brings_nothing(&self) -> bool {
+        let brings = &self.brings;
+        for map in [
+            &brings.filters,
+            &brings.tests,
+            &brings.functions,
+            &brings.method,
+        ] {
+            if !map.entries().unwrap_or(&[]).is_empty() {
+                return false;
+            }
+        }
+        true
+    }
+}
+
+impl<'line> Brings<'line> {
+    fn read(
+        alloc: Global,
+        entries: &'line Map<String, Json>,
+        out: &mut Report,
+    ) -> Brings<'line> {
+        let filters = object_of(alloc, entries.get("filters"));
+        let tests = object_of(alloc, entries.get("tests"));
+        let functions = object_of(alloc, entries.get("functions"));
+        let method = wrapped_of(alloc, entries.get("method"));
+        let removed_filters = removed_of(alloc, entries.get("remove_filters"));
+        let removed_tests = removed_of(alloc, entries.get("remove_tests"));
+        Brings {
+            filters: out.or(filters, Value::none()),
+            tests: out.or(tests, Value::none()),
+            functions: out.or(functions, Value::none()),
+            method: out.or(method, Value::none()),
+            removed_filters: out.or(removed_filters, Vec::new(alloc)),
+            removed_tests: out.or(removed_tests, Vec::new(alloc)),
         }
     }
 }
@@ -205,6 +273,9 @@ fn call_of(entries: &Map<String, Json>, out: &mut Report) -> Call {
     if truth_of(entries.get("names"), out) {
         return Call::ContextNames;
     }
+    if entries.get("calls").is_some() {
+        return Call::Calls;
+    }
     match out.or(text_of(entries.get("call")), None) {
         None => Call::Usual,
         Some("render") => Call::Render,
@@ -247,6 +318,20 @@ fn object_of(alloc: Global, object: Option<&Json>) -> Result<Value, Error> {
         None => context_from_json(alloc, b"{}"),
         Some(object) => context_from_json(alloc, object.to_vec(alloc)?.as_slice()),
     }
+}
+
+// A map of what stands, under a name; an empty one, if nothing does.
+fn wrapped_of(alloc: Global, wrapped: Option<&Json>) -> Result<Value, Error> {
+    let mut object = Vec::new(alloc);
+    match wrapped {
+        None => object.extend_from_slice(b"{}")?,
+        Some(wrapped) => {
+            object.extend_from_slice(b"{\"it\":")?;
+            object.extend_from_slice(wrapped.to_vec(alloc)?.as_slice())?;
+            object.extend_from_slice(b"}")?;
+        }
+    }
+    context_from_json(alloc, object.as_slice())
 }
 
 fn removed_of<'line>(alloc: Global, names: Option<&'line Json>) -> Result<Vec<&'line str>, Error> {

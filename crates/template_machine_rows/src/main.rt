@@ -3,6 +3,16 @@
 //!
 //! - `globals`: the values that are put under names before all else, an object;
 //! - `remove_globals`: the names that no value stands under behind that, an array of texts;
+//! - `filters`, `tests`, `functions`: what is brought under names, an object; `method`: what answers for methods that values
+//!   do not have. Each is described by a word or an object of one entry: `"arguments"` gives the list of its arguments,
+//!   `"name"` the name of the template that runs, `{"gives": value}` a value, `{"times": number}` the first argument times
+//!   a number; `{"fails": kind}` refuses; `{"filter": name}` and `{"test": name}` ask the machine further with the same
+//!   arguments, `{"lookup": name}` what a name stands for, `"call"` what the first argument comes to where it is called with
+//!   the others; `{"temp": name}` gives what is among the temps under the name, and sets the first argument there. For a
+//!   method the value is the first argument, and the method's name the second;
+//! - `remove_filters`, `remove_tests`: the names of those that are removed behind that, arrays of texts;
+//! - `calls`: calls on a state without a template, in place of all that follows, an array of objects: `apply_filter` or
+//!   `perform_test`, a name, with `args`, an array; `get_temp`, a name; `set_temp`, a name, with a `value`;
 //! - `templates`: what is done before the render, in order: `[name, source]` adds a template, `[name, null]` removes
 //!   the one of that name, `null` removes all, an object with `line_statement` and `line_comment` sets the prefixes of
 //!   the templates that are added from then on, and a number sets their rule of escapes, where `escapes` is one;
@@ -19,7 +29,7 @@
 //! - `limit`: the recursion limit; 500, if left out;
 //! - `undefined`: `lenient` (as also if left out), `chainable`, `semi_strict` or `strict`;
 //! - `escapes`: `false`, where nothing is escaped, or a number: names of fewer bytes are escaped as HTML, and others
-//!   not; left out, the ending of a name decides;
+//!   not; left out, the ending of a name decides. Where it is `false`, nothing can be brought;
 //! - `owned`: `true`, where the texts of templates and of the expression are copied, and let go before they are used;
 //! - `state`: `true`, where the state that a render left is told too;
 //! - `names`: `true`, where the names of a context are asked for in place of a render;
@@ -37,6 +47,7 @@
 //!   with a fault that leaves no text;
 //! - the value of an expression, as JSON, or `undefined`, or `function N of M` for a function, N being its number and M that
 //!   of its environment; a value that a state knows may also be `namespace N of M`, M being the number of its state;
+//! - what each of the calls on a state gives, with `, ` between: a value, `true` or `false`, and `-` where there is no temp;
 //! - `[name, name]` where names are asked for, and two such lists for those that are used: without what stands behind
 //!   dots, then with it;
 //! - `[name "source", name "source"]` for the templates that stand, and `[name value, name value]` for the globals;
@@ -53,9 +64,11 @@
 #![tactic(auto)]
 
 mod answers;
+mod brings;
 mod calls;
 mod case;
-mod escapes;
+mod invoked;
+mod own;
 mod renders;
 mod report;
 mod steps;

@@ -2,15 +2,16 @@
 use crate::case::{Place, Setting};
 use crate::report::Report;
 use crate::tellings::tell_state;
+use template_callables::Extension;
 use template_environment::{Captured, Template};
 use template_machine_output::{NullWriter, WriteWrapper};
-use template_machine_surroundings::{AutoEscapeRule, StateIds};
+use template_machine_surroundings::StateIds;
 use template_values_core::Value;
 use template_values_errors::{Error, ErrorKind};
 
 /// Renders into the place of the setting, and tells the text that it has taken.
-pub(crate) fn tell_render<R: AutoEscapeRule>(
-    template: &Template<'_, '_, R>,
+pub(crate) fn tell_render<E: Extension>(
+    template: &Template<'_, '_, E>,
     ids: &mut StateIds,
     setting: &Setting,
     context: Value,
@@ -23,8 +24,8 @@ pub(crate) fn tell_render<R: AutoEscapeRule>(
     }
 }
 
-fn tell_nowhere<R: AutoEscapeRule>(
-    template: &Template<'_, '_, R>,
+fn tell_nowhere<E: Extension>(
+    template: &Template<'_, '_, E>,
     ids: &mut StateIds,
     setting: &Setting,
     context: Value,
@@ -35,8 +36,8 @@ fn tell_nowhere<R: AutoEscapeRule>(
     tell_end(&ended, setting, out);
 }
 
-fn tell_text<R: AutoEscapeRule>(
-    template: &Template<'_, '_, R>,
+fn tell_text<E: Extension>(
+    template: &Template<'_, '_, E>,
     ids: &mut StateIds,
     setting: &Setting,
     context: Value,
@@ -48,8 +49,8 @@ fn tell_text<R: AutoEscapeRule>(
     tell_end(&ended, setting, out);
 }
 
-fn tell_room<R: AutoEscapeRule>(
-    template: &Template<'_, '_, R>,
+fn tell_room<E: Extension>(
+    template: &Template<'_, '_, E>,
     ids: &mut StateIds,
     setting: &Setting,
     context: Value,
@@ -62,8 +63,8 @@ fn tell_room<R: AutoEscapeRule>(
     }
 }
 
-fn tell_filled<R: AutoEscapeRule>(
-    template: &Template<'_, '_, R>,
+fn tell_filled<E: Extension>(
+    template: &Template<'_, '_, E>,
     ids: &mut StateIds,
     setting: &Setting,
     context: Value,
@@ -77,20 +78,20 @@ fn tell_filled<R: AutoEscapeRule>(
 }
 
 // Renders into the bytes, and tells how many of them are left.
-fn fill<'template, 'line, R: AutoEscapeRule>(
-    template: &'template Template<'_, 'line, R>,
+fn fill<'template, 'line, E: Extension>(
+    template: &'template Template<'_, 'line, E>,
     ids: &mut StateIds,
     context: Value,
     bytes: &mut [u8],
-) -> (usize, Result<Captured<'template, 'line, R>, Error>) {
+) -> (usize, Result<Captured<'template, 'line, E>, Error>) {
     let mut sink = WriteWrapper::new(bytes);
     let ended = template.render_captured_to(ids, context, &mut sink);
     (sink.w.len(), ended)
 }
 
 // What follows the text: what the render took of its fuel and left, or how it ended.
-fn tell_end<R: AutoEscapeRule>(
-    ended: &Result<Captured<'_, '_, R>, Error>,
+fn tell_end<E: Extension>(
+    ended: &Result<Captured<'_, '_, E>, Error>,
     setting: &Setting,
     out: &mut Report,
 ) {
@@ -104,8 +105,8 @@ fn tell_end<R: AutoEscapeRule>(
 }
 
 // What a render took of its fuel, where one is set, and the state that it left, where the setting tells it.
-fn tell_left<R: AutoEscapeRule>(
-    captured: &Captured<'_, '_, R>,
+fn tell_left<E: Extension>(
+    captured: &Captured<'_, '_, E>,
     setting: &Setting,
     out: &mut Report,
 ) {
@@ -119,8 +120,8 @@ fn tell_left<R: AutoEscapeRule>(
 }
 
 /// Renders into a text that is kept beside the state.
-pub(crate) fn tell_captured<R: AutoEscapeRule>(
-    template: &Template<'_, '_, R>,
+pub(crate) fn tell_captured<E: Extension>(
+    template: &Template<'_, '_, E>,
     ids: &mut StateIds,
     setting: &Setting,
     context: Value,

@@ -1,14 +1,14 @@
 //! How templates, globals and states are told.
 use crate::report::Report;
 use std::collections::BTreeSet;
+use template_callables::Extension;
 use template_environment::{Environment, State, Template};
-use template_machine_surroundings::AutoEscapeRule;
 use template_values_core::Value;
 use template_values_errors::Error;
 
 /// The templates that stand, each with its source.
-pub(crate) fn tell_templates<R: AutoEscapeRule>(
-    environment: &Environment<'_, R>,
+pub(crate) fn tell_templates<E: Extension>(
+    environment: &Environment<'_, E>,
     out: &mut Report,
 ) {
     match environment.templates() {
@@ -17,7 +17,7 @@ pub(crate) fn tell_templates<R: AutoEscapeRule>(
     }
 }
 
-fn tell_sources<R: AutoEscapeRule>(templates: &[Template<'_, '_, R>], out: &mut Report) {
+fn tell_sources<E: Extension>(templates: &[Template<'_, '_, E>], out: &mut Report) {
     out.push('[');
     let mut first = true;
     for template in templates {
@@ -33,7 +33,7 @@ fn tell_sources<R: AutoEscapeRule>(templates: &[Template<'_, '_, R>], out: &mut 
 }
 
 /// The names that values stand under, each with its value.
-pub(crate) fn tell_globals<R: AutoEscapeRule>(environment: &Environment<'_, R>, out: &mut Report) {
+pub(crate) fn tell_globals<E: Extension>(environment: &Environment<'_, E>, out: &mut Report) {
     match environment.globals() {
         Ok(globals) => tell_values(globals.as_slice(), out),
         Err(error) => out.fault(&error),
@@ -56,8 +56,8 @@ fn tell_values(globals: &[(&str, &Value)], out: &mut Report) {
 }
 
 /// What a state tells, or why there is none.
-pub(crate) fn tell_new_state<R: AutoEscapeRule>(
-    state: &Result<State<'_, '_, R>, Error>,
+pub(crate) fn tell_new_state<E: Extension>(
+    state: &Result<State<'_, '_, E>, Error>,
     out: &mut Report,
 ) {
     match state {
@@ -67,7 +67,7 @@ pub(crate) fn tell_new_state<R: AutoEscapeRule>(
 }
 
 /// What a state tells.
-pub(crate) fn tell_state<R: AutoEscapeRule>(state: &State<'_, '_, R>, out: &mut Report) {
+pub(crate) fn tell_state<E: Extension>(state: &State<'_, '_, E>, out: &mut Report) {
     tell_modes(state, out);
     if let Some((consumed, left)) = state.fuel_levels() {
         out.tell(", fuel ", &consumed);
@@ -79,7 +79,7 @@ pub(crate) fn tell_state<R: AutoEscapeRule>(state: &State<'_, '_, R>, out: &mut 
     tell_known(state, out);
 }
 
-fn tell_modes<R: AutoEscapeRule>(state: &State<'_, '_, R>, out: &mut Report) {
+fn tell_modes<E: Extension>(state: &State<'_, '_, E>, out: &mut Report) {
     out.tell("state ", &state.id());
     out.push_str(" of ");
     out.push_str(state.name());
@@ -88,15 +88,15 @@ fn tell_modes<R: AutoEscapeRule>(state: &State<'_, '_, R>, out: &mut Report) {
     out.tell(", limit ", &state.env().recursion_limit());
 }
 
-fn tell_known<R: AutoEscapeRule>(state: &State<'_, '_, R>, out: &mut Report) {
+fn tell_known<E: Extension>(state: &State<'_, '_, E>, out: &mut Report) {
     match state.known_variables() {
         Ok(names) => tell_each(state, &names, out),
         Err(error) => out.fault(&error),
     }
 }
 
-fn tell_each<R: AutoEscapeRule>(
-    state: &State<'_, '_, R>,
+fn tell_each<E: Extension>(
+    state: &State<'_, '_, E>,
     names: &BTreeSet<String>,
     out: &mut Report,
 ) {
@@ -112,7 +112,7 @@ fn tell_each<R: AutoEscapeRule>(
     out.push(']');
 }
 
-fn tell_looked_up<R: AutoEscapeRule>(state: &State<'_, '_, R>, name: &str, out: &mut Report) {
+fn tell_looked_up<E: Extension>(state: &State<'_, '_, E>, name: &str, out: &mut Report) {
     out.push_str(name);
     out.push(' ');
     match state.lookup(name) {

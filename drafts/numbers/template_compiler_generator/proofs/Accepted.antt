@@ -1,0 +1,34 @@
+-- What is generated onto no code is the piece alone; and what is accepted of it.
+use Rattle.std.proofs.Common.{◌≡◌, List, [], ◌++◌, length, Result, Ok, Err, IfOk, inl, inr, ap, ◌∙◌}
+use Rattle.template_values_errors.specs.declared.ErrorKind.{ErrorKind}
+use Rattle.template_tree.specs.Tree.{Statement, template}
+use Rattle.template_walk.specs.Runnable.{IsRunnableTemplate}
+use Rattle.template_code.specs.Code.{Code}
+use Rattle.template_code.specs.Listing.{TakesNoMore}
+use Rattle.template_code_checked.specs.Checked.{kind_in}
+use Rattle.template_code_shapes.specs.Streams.{IsGood}
+use Rattle.template_code_shapes.specs.declared.StreamKind.TheVariants.{Template}
+use Rattle.template_code_checked.specs.declared.checked.Checked.{Checked}
+use Rattle.template_compiler_statement_codegen.specs.Listed.{IsRunnableTree, body_in}
+use Rattle.template_compiler_codegen.specs.Expressions.{Coded}
+use Rattle.template_compiler_emission.specs.Puts.{NoRoom}
+use Rattle.template_compiler_generator.specs.Drafts.{Draft, Generates}
+
+pub generated_whole : (piece : Coded) (before after : Draft) → before.code ≡ [] → Generates piece before after → after.code ≡ piece 0
+generated_whole piece before after none g = g.code ∙ ap (λ (code : List Code). code ++ piece (length code)) none
+
+-- the body of a template whose constructs have a walk
+pub runnable_body : (s : Statement) → IsRunnableTree s → IsRunnableTemplate (body_in s)
+runnable_body (template body) runs = runs
+runnable_body _ runs = absurd runs
+
+-- what is accepted is a template's where its code is good as one
+pub told_template : (result : Result Checked (List ErrorKind)) (code : List Code) → IsGood Template code
+    → IfOk result (λ checked. IsGood Template code → kind_in checked ≡ Template) → IfOk result (λ checked. kind_in checked ≡ Template)
+told_template (Ok checked) code good first = first good
+told_template (Err kinds) code good first = tt
+
+-- code that takes no further instruction has no room
+pub no_room : (code : List Code) {kinds : List ErrorKind} → TakesNoMore code kinds → NoRoom kinds
+no_room code (inl full) = inl full.1
+no_room code (inr want) = inr want

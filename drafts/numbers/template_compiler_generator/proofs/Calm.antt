@@ -1,0 +1,230 @@
+-- No instruction of generated code leans on the one before it.
+use Rattle.std.proofs.Common.{◌≡◌, ℕ, zero, suc, ◌+◌, true, false, List, [], ◌∷◌, ◌++◌, length, None, Some, slice_get, refl}
+use Rattle.template_values_model.specs.Val.{Val, silent_undefined, none}
+use Rattle.template_tree.specs.declared.operators.UnaryOpKind.{UnaryOpKind}
+use Rattle.template_tree.specs.declared.operators.UnaryOpKind.TheVariants.{Not, Neg}
+use Rattle.template_tree.specs.Tree.{Expression, Optional, Expressions, Links, Arguments, Assignments, Statement, Statements, variable, constant, unary, binary, chain, conditional, attribute, item, call, filtered, tested, list_literal, tuple_literal, map_literal, absent, given, no_expressions, expressions_more, no_links, links_more, no_arguments, arguments_more, positional, keyword, positional_spread, keyword_spread, no_assignments, assignments_more, raw, print, for_loop, if_condition, with_block, set, set_block, auto_escape, filter_block, continue_loop, break_loop, do_call, no_statements, statements_more}
+use Rattle.template_tree.specs.Tree as tree
+use Rattle.template_walk.specs.Expressions.{Passing, alone, spreads, Callee, by_name, by_method, by_value, callee_of}
+use Rattle.template_code.specs.Code.{Code}
+use Rattle.template_code_shapes.specs.Effects.{leans}
+use Rattle.template_compiler_codegen.specs.Core.{Core, empty, straight, both, leaping, either, rounds, within, leave, sealed, loading, chosen, Ways, no_ways, own_ways, closing_with, flat}
+use Rattle.template_compiler_codegen.specs.Expressions.{unary_code, listed_core, mapped_core, stretches_core, entries_stretches_core, rest_count, keywords_core, keyword_count, passed_core, called_core, filters_core, object_core, positional_cores, keyword_cores, expression_core, optional_core, expressions_core, codes_of, entries_core, chain_core, linked_core}
+use Rattle.template_compiler_codegen.specs.Statements.{target_core, targets_core, assignments_core, iterable_core, statement_core, statements_core}
+
+abbrev pub AreCalm : List Code → Type 0
+AreCalm [] = Unit {0}
+AreCalm (c ∷ code) = (leans (Some c) ≡ false) × AreCalm code
+
+-- nowhere in the code
+abbrev pub IsCalm : List Code → Type 0
+IsCalm code = (q : ℕ) → leans (slice_get code q) ≡ false
+
+pub calm_everywhere : (code : List Code) → AreCalm code → IsCalm code
+calm_everywhere [] h q = refl
+calm_everywhere (c ∷ code) h zero = h.0
+calm_everywhere (c ∷ code) h (suc q) = calm_everywhere code h.1 q
+
+calm_both : (code more : List Code) → AreCalm code → AreCalm more → AreCalm (code ++ more)
+calm_both [] more h k = k
+calm_both (c ∷ code) more h k = (h.0, calm_both code more h.1 k)
+
+-- a core has no such instruction
+abbrev pub IsCalmCore : Core → Type 0
+IsCalmCore empty = Unit {0}
+IsCalmCore (straight c) = leans (Some c) ≡ false
+IsCalmCore (both a b) = IsCalmCore a × IsCalmCore b
+IsCalmCore (leaping leap c) = ((to : ℕ) → leans (Some (leap to)) ≡ false) × IsCalmCore c
+IsCalmCore (either a b) = IsCalmCore a × IsCalmCore b
+IsCalmCore (rounds target body) = IsCalmCore target × IsCalmCore body
+IsCalmCore (within close c) = (leans (Some close) ≡ false) × IsCalmCore c
+IsCalmCore (leave stays) = Unit {0}
+IsCalmCore (sealed c) = IsCalmCore c
+IsCalmCore (loading o c) = IsCalmCore c
+IsCalmCore (chosen holds a b) = IsCalmCore a × IsCalmCore b
+
+pub flat_calm : (c : Core) (ways : Ways) → IsCalmCore c → AreCalm ways.closings → (place : ℕ) → AreCalm (flat ways c place)
+flat_calm empty ways h k place = tt
+flat_calm (straight c) ways h k place = (h, tt)
+flat_calm (both a b) ways h k place = calm_both (flat ways a place) (flat ways b (place + length (flat ways a place))) (flat_calm a ways h.0 k place) (flat_calm b ways h.1 k (place + length (flat ways a place)))
+flat_calm (leaping leap c) ways h k place = (h.0 (suc place + length (flat ways c (suc place))), flat_calm c ways h.1 k (suc place))
+flat_calm (either a b) ways h k place =
+    let begins = suc (suc place + length (flat ways a (suc place))) in
+    (refl, calm_both (flat ways a (suc place)) (_ ∷ flat ways b begins) (flat_calm a ways h.0 k (suc place)) (refl, flat_calm b ways h.1 k begins))
+flat_calm (rounds target body) ways h k place =
+    let stored = flat no_ways target (suc place) in
+    let begins = suc place + length stored in
+    let ends_at = suc (begins + length (flat (own_ways 0 0) body begins)) in
+    let round = flat (own_ways ends_at place) body begins in
+    (refl, calm_both stored (round ++ (_ ∷ [])) (flat_calm target no_ways h.0 tt (suc place)) (calm_both round (_ ∷ []) (flat_calm body (own_ways ends_at place) h.1 tt begins) (refl, tt)))
+flat_calm (within close c) ways h k place = flat_calm c (closing_with close ways) h.1 (h.0, k) place
+flat_calm (leave true) ways h k place = calm_both ways.closings (_ ∷ []) k (refl, tt)
+flat_calm (leave false) ways h k place = calm_both ways.closings (_ ∷ []) k (refl, tt)
+flat_calm (sealed c) ways h k place = flat_calm c no_ways h tt place
+flat_calm (loading (Some v) c) ways h k place = (refl, tt)
+flat_calm (loading None c) ways h k place = flat_calm c no_ways h tt place
+flat_calm (chosen true a b) ways h k place = flat_calm a ways h.0 k place
+flat_calm (chosen false a b) ways h k place = flat_calm b ways h.1 k place
+
+abbrev EachCalm : List Core → Type 0
+EachCalm [] = Unit {0}
+EachCalm (c ∷ cores) = IsCalmCore c × EachCalm cores
+
+-- so has each argument none
+abbrev PassedCalm : List (Passing Core Core) → Type 0
+PassedCalm [] = Unit {0}
+PassedCalm (alone c ∷ args) = IsCalmCore c × PassedCalm args
+PassedCalm (spreads c ∷ args) = IsCalmCore c × PassedCalm args
+
+abbrev NamedCalm : List (Passing (List ℕ × Core) Core) → Type 0
+NamedCalm [] = Unit {0}
+NamedCalm (alone c ∷ named) = IsCalmCore c.1 × NamedCalm named
+NamedCalm (spreads c ∷ named) = IsCalmCore c × NamedCalm named
+
+listed_calm : (n : ℕ) → IsCalmCore (listed_core n)
+listed_calm zero = tt
+listed_calm (suc n) = refl
+
+mapped_calm : (n : ℕ) → IsCalmCore (mapped_core n)
+mapped_calm zero = tt
+mapped_calm (suc n) = refl
+
+stretches_calm : (n : ℕ) (args : List (Passing Core Core)) → PassedCalm args → IsCalmCore (stretches_core n args)
+stretches_calm n [] h = tt
+stretches_calm n (alone c ∷ args) h = (h.0, stretches_calm (suc n) args h.1)
+stretches_calm n (spreads c ∷ args) h = (listed_calm n, (h.0, stretches_calm 0 args h.1))
+
+named_calm : (n : ℕ) (named : List (Passing (List ℕ × Core) Core)) → NamedCalm named → IsCalmCore (entries_stretches_core n named)
+named_calm n [] h = tt
+named_calm n (alone c ∷ named) h = (refl, (h.0, named_calm (suc n) named h.1))
+named_calm n (spreads c ∷ named) h = (mapped_calm n, (h.0, named_calm 0 named h.1))
+
+keywords_calm : (named : List (Passing (List ℕ × Core) Core)) → NamedCalm named → IsCalmCore (keywords_core named)
+keywords_calm named h = (named_calm 0 named h, (mapped_calm (rest_count 0 named), (refl, tt)))
+
+passed_calm : (front : ℕ) (args : List (Passing Core Core)) (named : List (Passing (List ℕ × Core) Core)) → PassedCalm args → NamedCalm named → IsCalmCore (passed_core front args named)
+passed_calm front args named h k =
+    (stretches_calm front args h, (keywords_calm named k, ((listed_calm (rest_count front args + keyword_count named), refl), tt)))
+
+called_calm : (callee : Callee) (whole object : Core) (args : List (Passing Core Core)) (named : List (Passing (List ℕ × Core) Core)) → IsCalmCore whole → IsCalmCore object → PassedCalm args → NamedCalm named
+    → IsCalmCore (called_core callee whole object args named)
+called_calm (by_name name) whole object args named f g h k = (passed_calm 0 args named h k, refl)
+called_calm (by_method name) whole object args named f g h k = (g, (passed_calm 1 args named h k, refl))
+called_calm by_value whole object args named f g h k = (f, (passed_calm 1 args named h k, refl))
+
+unary_calm : (op : UnaryOpKind) → leans (Some (unary_code op)) ≡ false
+unary_calm Not = refl
+unary_calm Neg = refl
+
+mutual
+  pub expression_calm : (e : Expression) → IsCalmCore (expression_core e)
+  expression_calm (variable name) = refl
+  expression_calm (constant v) = refl
+  expression_calm (unary op e) = (expression_calm e, unary_calm op)
+  expression_calm (binary op left right) = (expression_calm left, (((λ to. refl), expression_calm right), (((λ to. refl), expression_calm right), (expression_calm right, refl))))
+  expression_calm (chain first links) = (expression_calm first, chain_calm links)
+  expression_calm (conditional test branch otherwise) = (expression_calm test, (expression_calm branch, optional_calm silent_undefined otherwise))
+  expression_calm (attribute e name) = (expression_calm e, refl)
+  expression_calm (item e key) = (expression_calm e, (expression_calm key, refl))
+  expression_calm (tree.slice e start stop by) = (expression_calm e, (optional_calm none start, (optional_calm none stop, (optional_calm none by, refl))))
+  expression_calm (list_literal es) = (expressions_calm es, refl)
+  expression_calm (tuple_literal es) = (expressions_calm es, refl)
+  expression_calm (map_literal ks vs) = (entries_calm ks (codes_of vs) (each_calm vs), refl)
+  expression_calm (call callee args) =
+      called_calm (callee_of callee) (expression_core callee) (object_core callee) (positional_cores args) (keyword_cores args)
+      (expression_calm callee) (object_calm callee) (positional_calm args) (keyword_calm args)
+  expression_calm (filtered name (given e) args) = (expression_calm e, (passed_calm 1 (positional_cores args) (keyword_cores args) (positional_calm args) (keyword_calm args), refl))
+  expression_calm (tested name e args) = (expression_calm e, (passed_calm 1 (positional_cores args) (keyword_cores args) (positional_calm args) (keyword_calm args), refl))
+  expression_calm _ = tt
+
+  object_calm : (e : Expression) → IsCalmCore (object_core e)
+  object_calm (attribute e name) = expression_calm e
+  object_calm _ = tt
+
+  positional_calm : (args : Arguments) → PassedCalm (positional_cores args)
+  positional_calm no_arguments = tt
+  positional_calm (arguments_more (positional e) args) = (expression_calm e, positional_calm args)
+  positional_calm (arguments_more (positional_spread e) args) = (expression_calm e, positional_calm args)
+  positional_calm (arguments_more _ args) = positional_calm args
+
+  keyword_calm : (args : Arguments) → NamedCalm (keyword_cores args)
+  keyword_calm no_arguments = tt
+  keyword_calm (arguments_more (keyword name e) args) = (expression_calm e, keyword_calm args)
+  keyword_calm (arguments_more (keyword_spread e) args) = (expression_calm e, keyword_calm args)
+  keyword_calm (arguments_more _ args) = keyword_calm args
+
+  optional_calm : (missing : Val) (o : Optional) → IsCalmCore (optional_core missing o)
+  optional_calm missing absent = refl
+  optional_calm missing (given e) = expression_calm e
+
+  expressions_calm : (es : Expressions) → IsCalmCore (expressions_core es)
+  expressions_calm no_expressions = tt
+  expressions_calm (expressions_more e es) = (expression_calm e, expressions_calm es)
+
+  each_calm : (es : Expressions) → EachCalm (codes_of es)
+  each_calm no_expressions = tt
+  each_calm (expressions_more e es) = (expression_calm e, each_calm es)
+
+  entries_calm : (ks : Expressions) (pieces : List Core) → EachCalm pieces → IsCalmCore (entries_core ks pieces)
+  entries_calm no_expressions pieces h = tt
+  entries_calm (expressions_more k ks) [] h = tt
+  entries_calm (expressions_more k ks) (piece ∷ pieces) h = (expression_calm k, (h.0, entries_calm ks pieces h.1))
+
+  chain_calm : (links : Links) → IsCalmCore (chain_core links)
+  chain_calm no_links = tt
+  chain_calm (links_more op e links) = ((expression_calm e, refl), (linked_calm links, (refl, refl)))
+
+  linked_calm : (links : Links) → IsCalmCore (linked_core links)
+  linked_calm no_links = tt
+  linked_calm (links_more op e links) = ((λ to. refl), ((expression_calm e, refl), linked_calm links))
+
+filters_calm : (e : Expression) → IsCalmCore (filters_core e)
+filters_calm (filtered name absent args) = (passed_calm 1 (positional_cores args) (keyword_cores args) (positional_calm args) (keyword_calm args), refl)
+filters_calm (filtered name (given e) args) =
+    (filters_calm e, (passed_calm 1 (positional_cores args) (keyword_cores args) (positional_calm args) (keyword_calm args), refl))
+filters_calm _ = tt
+
+mutual
+  target_calm : (e : Expression) → IsCalmCore (target_core e)
+  target_calm (variable name) = refl
+  target_calm (attribute e name) = (expression_calm e, refl)
+  target_calm (list_literal targets) = (refl, targets_calm targets)
+  target_calm _ = tt
+
+  targets_calm : (es : Expressions) → IsCalmCore (targets_core es)
+  targets_calm no_expressions = tt
+  targets_calm (expressions_more e es) = (target_calm e, targets_calm es)
+
+assignments_calm : (a : Assignments) → IsCalmCore (assignments_core a)
+assignments_calm no_assignments = tt
+assignments_calm (assignments_more target e more) = (expression_calm e, (target_calm target, assignments_calm more))
+
+iterable_calm : (target e : Expression) (condition : Optional) → IsCalmCore (iterable_core target e condition)
+iterable_calm target e absent = expression_calm e
+iterable_calm target e (given condition) =
+    (refl, (expression_calm e, (refl, (((refl, target_calm target), (expression_calm condition, ((refl, (refl, refl)), refl))), (refl, refl)))))
+
+mutual
+  statement_calm : (st : Statement) → IsCalmCore (statement_core st)
+  statement_calm (raw text) = refl
+  statement_calm (print e) = (expression_calm e, refl)
+  statement_calm (for_loop target e condition false body otherwise) =
+      (iterable_calm target e condition, (refl, ((target_calm target, statements_calm body), ((refl, (refl, ((λ to. refl), statements_calm otherwise))), refl))))
+  statement_calm (if_condition e body otherwise) =
+      (expression_calm e, ((statements_calm body, statements_calm otherwise), ((λ to. refl), statements_calm body)))
+  statement_calm (with_block assignments body) = (refl, (assignments_calm assignments, ((refl, statements_calm body), refl)))
+  statement_calm (set target e) = (expression_calm e, target_calm target)
+  statement_calm (set_block target absent body) = (refl, ((refl, (refl, statements_calm body)), (refl, target_calm target)))
+  statement_calm (set_block target (given filters) body) =
+      (refl, ((refl, (refl, statements_calm body)), (refl, (filters_calm filters, target_calm target))))
+  statement_calm (filter_block filters body) = (refl, ((refl, (refl, statements_calm body)), (refl, (filters_calm filters, refl))))
+  statement_calm (auto_escape e body) = (expression_calm e, (refl, ((refl, statements_calm body), refl)))
+  statement_calm (tree.include e ignore_missing) = (expression_calm e, refl)
+  statement_calm (do_call callee args) = (expression_calm (call callee args), refl)
+  statement_calm continue_loop = tt
+  statement_calm break_loop = tt
+  statement_calm _ = tt
+
+  pub statements_calm : (sts : Statements) → IsCalmCore (statements_core sts)
+  statements_calm no_statements = tt
+  statements_calm (statements_more st sts) = (statement_calm st, statements_calm sts)

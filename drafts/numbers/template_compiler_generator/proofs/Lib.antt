@@ -1,0 +1,13 @@
+pub mod Building
+pub mod Texts
+pub mod Segments
+pub mod Calm
+pub mod Plain
+pub mod Moving
+pub mod Rounds
+pub mod Keeping
+pub mod Running
+pub mod Whole
+pub mod Pieces
+mod Numbers
+mod Accepted

@@ -1,0 +1,5 @@
+use Rattle.template_compiler_generator.proofs.Whole as laws
+use Rattle.template_compiler_generator.proofs.certificates.expressions_are_certified.Goals as goal
+
+pub returns : goal.returns
+returns c = laws.expressions_certified

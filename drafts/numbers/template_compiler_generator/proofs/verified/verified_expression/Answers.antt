@@ -1,0 +1,21 @@
+use Rattle.std.proofs.Common.{List, ap, sym, subst, rules}
+use Rattle.template_code.specs.Code.{Code}
+use Rattle.template_code_shapes.specs.Streams.{IsGood}
+use Rattle.template_code_shapes.specs.declared.StreamKind.TheVariants.{Expression as ExpressionStream}
+use Rattle.template_compiler_generator.specs.Drafts.{Draft}
+use Rattle.template_compiler_generator.specs.View.{draft_of}
+use Rattle.template_tree.specs.View.{expression_of}
+use Rattle.template_compiler_generator.proofs.Accepted.{no_room}
+use Rattle.template_compiler_generator.proofs.verified.verified_expression.Goals as goal
+
+pub accepted-requires : goal.accepted-requires
+accepted-requires c =
+    let good = c.expressions_are_accepted.ensures (expression_of c.args.expr.now) c.requires (draft_of c.new-generator.result) (draft_of c.compile_expr.new.self)
+    (ap (λ (d : Draft). d.code) c.new-generator.ensures.draft) c.in_ok-compile_expr.ensures.added in
+    let P : List Code → Type 0 = λ code. IsGood ExpressionStream code in
+    (ExpressionStream, subst P (sym c.in_ok-instructions.ensures.code) good)
+
+pub returns-in_err-compile_expr-clause-refused : goal.returns-in_err-compile_expr-clause-refused
+returns-in_err-compile_expr-clause-refused c =
+    let room = no_room _ (c.in_err-compile_expr.ensures.refused c.new-generator.ensures.fresh) in
+    search rules

@@ -1,0 +1,107 @@
+//! What is generated for a tree is accepted by the check of streams.
+
+ghost use Rattle.std.specs.Prelude.{◌≡◌, IfOk, IfErr};
+ghost use Rattle.template_code.specs.Listing.{code_in};
+ghost use Rattle.template_code_checked.specs.Checked.{kind_in, stream_in};
+ghost use Rattle.template_code_shapes.specs.Streams.{IsGood};
+ghost use Rattle.template_code_shapes.specs.declared.StreamKind.{StreamKind};
+ghost use Rattle.template_compiler_codegen.specs.Statements.{standalone_code, template_code};
+ghost use Rattle.template_compiler_emission.specs.Puts.{NoRoom};
+ghost use Rattle.template_compiler_numbers.specs.Numbers.{numbered_in};
+ghost use Rattle.template_compiler_statement_codegen.specs.Listed.{IsRunnableTree, body_in};
+ghost use Rattle.template_compiler_generator.specs.Acceptance.{ExpressionsAreAccepted, TemplatesAreAccepted};
+ghost use Rattle.template_tree_statements.specs.View.{statement_of};
+ghost use Rattle.template_tree.specs.View.{expression_of};
+ghost use Rattle.template_values_errors.specs.Memory.{NoMemory};
+ghost use Rattle.template_walk.specs.Runnable.{IsRunnable};
+
+use crate::{CodeGenerator, expressions_are_certified, templates_are_certified};
+use std::alloc::Global;
+use template_code::Instructions;
+use template_code_checked::{Checked, verify};
+use template_code_shapes::{StreamKind, certified_is_good};
+use template_tree::Expr;
+use template_tree_statements::Stmt;
+use template_values_errors::Error;
+
+/// Whatever draft is generated for a template, onto one without code, is a good stream of a template with its numbers. The
+/// function does nothing: it stands for the law in its contract.
+pub fn templates_are_accepted()
+    ensures { TemplatesAreAccepted }
+{
+    templates_are_certified();
+    certified_is_good();
+}
+
+/// The same of an expression that stands alone.
+pub fn expressions_are_accepted()
+    ensures { ExpressionsAreAccepted }
+{
+    expressions_are_certified();
+    certified_is_good();
+}
+
+// What is good of either kind is accepted, unless no memory is left.
+fn accepted<'source>(
+    alloc: Global,
+    instructions: Instructions<'source>,
+) -> Result<Checked<'source>, Error>
+    requires { (kind : StreamKind) × IsGood kind (code_in instructions) }
+    ensures stream { IfOk result (λ checked. stream_in checked ≡ instructions.entry) }
+    ensures first { IfOk result (λ checked.
+        IsGood StreamKind.Template (code_in instructions.entry) → kind_in checked ≡ StreamKind.Template) }
+    ensures refused { IfErr result NoMemory }
+{
+    match verify(alloc, instructions) {
+        Ok(checked) => Ok(checked),
+        Err((error, _instructions)) => Err(error),
+    }
+}
+
+/// Generates the instructions of a template with a name and its source, and has them checked. They are accepted, as a
+/// template's: never is `BadStream` told.
+///
+/// # Errors
+///
+/// Those of [`CodeGenerator::compile_stmt`], and
+/// [`ErrorKind::OutOfMemory`](template_values_errors::ErrorKind::OutOfMemory).
+pub fn verified_template<'source>(
+    alloc: Global,
+    file: &'source str,
+    source: &'source str,
+    tree: &Stmt<'source>,
+) -> Result<Checked<'source>, Error>
+    requires { IsRunnableTree (statement_of tree.now) }
+    ensures code { IfOk result (λ checked. code_in (stream_in checked) ≡ numbered_in (template_code (body_in (statement_of tree.now)))) }
+    ensures kind { IfOk result (λ checked. kind_in checked ≡ StreamKind.Template) }
+    ensures refused { IfErr result NoRoom }
+{
+    templates_are_accepted();
+    let mut generator = CodeGenerator::new(alloc, file, source);
+    generator.compile_stmt(tree)?;
+    let instructions = generator.finish()?;
+    accepted(alloc, instructions)
+}
+
+/// The same of an expression that stands alone.
+///
+/// # Errors
+///
+/// Those of [`CodeGenerator::compile_expr`], and
+/// [`ErrorKind::OutOfMemory`](template_values_errors::ErrorKind::OutOfMemory).
+pub fn verified_expression<'source>(
+    alloc: Global,
+    file: &'source str,
+    source: &'source str,
+    expr: &Expr<'source>,
+) -> Result<Checked<'source>, Error>
+    requires { IsRunnable (expression_of expr.now) }
+    ensures code { IfOk result (λ checked. code_in (stream_in checked) ≡ numbered_in (standalone_code (expression_of expr.now))) }
+    ensures refused { IfErr result NoRoom }
+{
+    expressions_are_accepted();
+    let mut generator = CodeGenerator::new(alloc, file, source);
+    generator.compile_expr(expr)?;
+    let instructions = generator.finish()?;
+    accepted(alloc, instructions)
+}
