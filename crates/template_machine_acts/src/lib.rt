@@ -59,18 +59,14 @@ pub fn containers_act()
     ensures counted { UnpackListsActs }
 {}
 
-/// Keyword arguments are built and merged; and names, methods and values are called, which gives a value, makes a namespace or
-/// compares arguments with those of the call before; or that faults.
+/// Keyword arguments are built and merged, or that faults; and names, methods and values are called, filters and tests too: what
+/// is replied to the call, a value in the world that it leaves or a fault, is what the instruction comes to.
 pub fn calls_act()
     ensures kwargs { BuildKwargsActs }
     ensures merged { MergeKwargsActs }
     ensures function { CallFunctionActs }
     ensures method { CallMethodActs }
     ensures object { CallObjectActs }
-{}
-
-/// No filter and no test is known.
-pub fn unknown_act()
     ensures filter { ApplyFilterActs }
     ensures test { PerformTestActs }
 {}

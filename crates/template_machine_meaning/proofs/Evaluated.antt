@@ -18,13 +18,13 @@ use Rattle.template_machine_meaning.specs.Replies.{kinded}
 use Rattle.template_machine_meaning.specs.Keys.{Key}
 use Rattle.template_machine_meaning.specs.Surroundings.{runners}
 use Rattle.template_machine_meaning.specs.Meaning.{Setting, around_of, walks_of, evaluation, alone, handed, evaluated}
-use Rattle.template_machine_meaning.specs.Isolation.{AgreesAt, IsolatesExpressions}
+use Rattle.template_machine_meaning.specs.Isolation.{AgreesAt, AskNoNames, IsolatesExpressions}
 use Rattle.template_machine_meaning.proofs.Known.{base}
 use Rattle.template_machine_meaning.proofs.Turned.{over_context, same_known}
 use Rattle.template_machine_meaning.proofs.Walks.{in_expression}
 use Rattle.template_machine_meaning.proofs.Replies.{RunsSo, runs_so}
 
-module _ (names : List ℕ → Type 0) (d : Val) (setting : Setting) where
+module _ (names : List ℕ → Type 0) (d : Val) (setting : Setting) (ask : AskNoNames setting.callables) where
   -- no key runs
   none_so : (o : Option Process) → RunsSo names d (option_map (λ (p : Process) (w : World). ended breaks w) o)
   none_so None = tt
@@ -43,11 +43,11 @@ module _ (names : List ℕ → Type 0) (d : Val) (setting : Setting) where
   same_evaluation id e listed c agrees =
       let w = first_world id setting.globals escapes.None c in
       let r = evaluation setting e w in
-      let at = runs_so names d (around_of setting None) (runners (walks_of setting None) 0) runners_so (base []) (standalone_walk e) (base []) w
+      let at = runs_so names d (around_of setting None) ask (runners (walks_of setting None) 0) runners_so (base []) (standalone_walk e) (base []) w
       (λ name i. absurd i, agrees) (in_expression names (base []) (base []) e (λ name i. inl (listed name i)) (λ v. over (v ∷ [])) (λ v name i. i)) in
       (sym (ap (λ (q : Run World). q.items) at.same), sym (ap (λ (q : Run World). handed q.after q.end) at.same ∙ same_handed r.after r.end))
 
 pub isolates_expressions : IsolatesExpressions
-isolates_expressions setting id e c d agrees fuel =
+isolates_expressions setting ask id e c d agrees fuel =
     cut_alike World World fuel (evaluated setting id e c) (evaluated setting id e d)
-    (same_evaluation (λ name. IsTrue (stands_in name e)) d setting id e (λ name h. h) c (λ name h. sym (agrees name h)))
+    (same_evaluation (λ name. IsTrue (stands_in name e)) d setting ask id e (λ name h. h) c (λ name h. sym (agrees name h)))

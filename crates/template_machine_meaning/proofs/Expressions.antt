@@ -1,8 +1,6 @@
 -- Each runnable expression settles.
-use Rattle.std.proofs.Common.{◌≡◌, ℕ, inl, inr, Bool, true, false, List, [], ◌∷◌, ◌++◌, length, Option, None, Some, Result, Ok, Err, if◌then◌else◌, refl, ap, ◌∙◌}
+use Rattle.std.proofs.Common.{◌≡◌, ℕ, inl, inr, Bool, true, false, List, [], ◌∷◌, ◌++◌, Option, None, Some, Result, Ok, Err, refl, ap, ◌∙◌}
 use Rattle.template_values_errors.specs.declared.ErrorKind.{ErrorKind}
-use Rattle.template_values_errors.specs.declared.ErrorKind.TheVariants.{UnknownFilter, UnknownTest}
-use Rattle.template_values_model.specs.Val as values
 use Rattle.template_values_model.specs.Val.{Val, silent_undefined, none, text}
 use Rattle.template_values_forms.specs.Truth as truths
 use Rattle.template_values_operators.specs.Kinds.{list_made}
@@ -12,22 +10,24 @@ use Rattle.template_tree.specs.declared.operators.UnaryOpKind.TheVariants.{Not, 
 use Rattle.template_tree.specs.declared.operators.BinOpKind.{BinOpKind}
 use Rattle.template_tree.specs.declared.operators.BinOpKind.TheVariants.{ScAnd, ScOr}
 use Rattle.template_tree.specs.Tree.{Expression, Optional, Expressions, Links, Arguments, variable, constant, slice, unary, binary, chain, conditional, attribute, item, call, filtered, tested, list_literal, tuple_literal, map_literal, absent, given, no_expressions, expressions_more, no_links, links_more, no_arguments, arguments_more, positional, keyword, positional_spread, keyword_spread}
-use Rattle.template_process.specs.Process.{Ask, look_up, operate, compare, get_attribute, get_item, get_slice, build_list, build_tuple, build_map, build_kwargs, merge_kwargs, spread, call_function, call_method, call_value, apply_filter, perform_test, truth_of, value, truth, tells, Process, step, asks, on_value, on_truth, on_all}
-use Rattle.template_process.specs.Trace.{Reply, run, replied}
+use Rattle.template_process.specs.Process.{Ask, look_up, operate, compare, get_attribute, get_item, get_slice, build_list, build_tuple, build_map, build_kwargs, merge_kwargs, spread, call_function, call_method, call_value, apply_filter, perform_test, truth_of, value, truth, Process, step, asks, on_value, on_truth, on_all}
+use Rattle.template_process.specs.Trace.{run, replied}
 use Rattle.template_walk.specs.Constants.{constant_of}
 use Rattle.template_walk.specs.Containers.{tuple_made, map_made, kwargs_made}
 use Rattle.template_walk.specs.Expressions.{folded, unary_ask, binary_walk, Giving, Passing, alone, spreads, listed, stretches_walk, mapped, entries_stretches, has_spread, merged_if, keywords_walk, run_if, passed_walk, Callee, by_name, by_method, by_value, callee_of, called_walk, expression_walk, object_walk, positional_walks, keyword_walks, optional_walk, expressions_walk, walks_of, entries_walk, chain_walk, linked_walk, filter_walk, filters_walk}
 use Rattle.template_walk.specs.Operators.{operated, compared, inverted, negated}
 use Rattle.template_walk.specs.Runnable.{IsRunnable, IsRunnableIfGiven, AreRunnableArguments, AreRunnable, IsRunnableChain, AreRunnableLinks, AreFilters}
-use Rattle.template_machine_meaning.specs.World.{World, looked_up, value_named, given_at, put_given}
+use Rattle.template_machine_meaning.specs.World.{World, looked_up, value_named}
 use Rattle.template_machine_meaning.specs.Records.{known_of}
 use Rattle.template_machine_meaning.specs.Undefined.{forbids_truth, forbids_operator, forbids_link, forbids_slicing}
-use Rattle.template_machine_meaning.specs.Replies.{told, changed, guarded, replied_with, kinded}
-use Rattle.template_machine_meaning.specs.Functions.{Called, gives, makes, compares, name_called, first_method, first_called}
+use Rattle.template_machine_meaning.specs.Replies.{guarded, replied_with, kinded}
+use Rattle.template_machine_meaning.specs.Functions.{Invoked, filter_named, test_named, Called, invokes, name_called, first_method, first_called}
+use Rattle.template_machine_meaning.specs.Calls.{call_reply}
 use Rattle.template_machine_meaning.specs.Spreads.{items_of_each, merged_keywords}
-use Rattle.template_machine_meaning.specs.Surroundings.{Programs, attribute_given, item_given, are_as_before, made_namespace, called_reply, answer}
-use Rattle.template_machine_meaning.proofs.Settling.{Walk, Settles, settles_then, settles_now, settles_step, settles_value, settles_items, settles_given}
+use Rattle.template_machine_meaning.specs.Surroundings.{Programs, attribute_given, item_given, answer}
+use Rattle.template_machine_meaning.proofs.Settling.{Walk, Settles, settles_then, settles_now, settles_step, settles_value, settles_items}
 use Rattle.template_machine_meaning.proofs.Keeping.{Keeps}
+use Rattle.template_machine_meaning.proofs.Calling.{settles_come, call_comes}
 
 -- what gives the walk of an argument: the argument itself, or it stands behind a name
 abbrev pub itself : Giving → Giving
@@ -68,27 +68,11 @@ module _ (s : Programs) (base : World) where
   pub given_by : (w : World) → Keeps base w → (e : Ask) (r : Result Val ErrorKind) → ((n : ℕ) → answer s n w e ≡ replied_with w value r) → Gives w (λ m go. step (asks e (on_value go)))
   given_by w kept e r is = settles_step s w (Kept base) (λ m go. asks e (on_value go)) (settles_value s w (Kept base) e r (λ v. kept) is)
 
-  -- what arguments are answered that are compared with those of the call before
-  abbrev compared_reply : World → ℕ → List Val → Bool → Reply World
-  compared_reply w number vs b =
-      if b then told w (tells (value (values.truth false)))
-      else changed (record w { given = put_given number vs w.given }) (value (values.truth true))
-
-  compared_by : (w : World) → Keeps base w → (e : Ask) (number : ℕ) (vs : List Val) (b : Bool) → ((n : ℕ) → answer s n w e ≡ compared_reply w number vs b) → Gives w (λ m go. step (asks e (on_value go)))
-  compared_by w kept e number vs true is = given_by w kept e (Ok (values.truth false)) is
-  compared_by w kept e number vs false is =
-      settles_step s w (Kept base) (λ m go. asks e (on_value go))
-      (settles_given s w (record w { given = put_given number vs w.given }) (Kept base) e (values.truth true)
-      (record { loops = kept.loops; outer = kept.outer; saved = kept.saved; captures = kept.captures }) is)
-
   -- a step, and a call
-  called_by : (w : World) → Keeps base w → (e : Ask) (c : Called) → ((n : ℕ) → answer s n w e ≡ called_reply w c) → Gives w (λ m go. step (asks e (on_value go)))
-  called_by w kept e (gives r) is = given_by w kept e r is
-  called_by w kept e (makes entries) is =
-      settles_step s w (Kept base) (λ m go. asks e (on_value go))
-      (settles_given s w (made_namespace w entries) (Kept base) e (values.namespace w.id (length w.namespaces))
-      (record { loops = kept.loops; outer = kept.outer; saved = kept.saved; captures = kept.captures }) is)
-  called_by w kept e (compares number vs) is = compared_by w kept e number vs (are_as_before vs (given_at number w.given)) is
+  called_by : (w : World) → Keeps base w → (e : Ask) (c : Called) → ((n : ℕ) → answer s n w e ≡ call_reply s.around w c)
+      → Gives w (λ m go. step (asks e (on_value go)))
+  called_by w kept e c is =
+      settles_step s w (Kept base) (λ m go. asks e (on_value go)) (settles_come s base w e (call_reply s.around w c) (call_comes base s.around w kept c) is)
 
   -- a step, and a test of a value
   decided_by : (w : World) (v : Val) (P Q : Walk Val) → Gives w P → Gives w Q → Gives w (λ m go. step (asks (truth_of v) (on_truth (P m go) (Q m go))))
@@ -216,23 +200,24 @@ module _ (s : Programs) (base : World) where
       → (named : List (Passing (List ℕ × Giving) Giving)) → EachPassed value_walk named → Always (λ m go. called_walk callee whole object (λ front. passed_walk front args named) go)
   settles_called (by_name name) whole object f g args each named others w kept =
       settles_then s w (Kept base) (Kept base) (λ m go. passed_walk [] args named go) (λ vs m go. step (asks (call_function name vs) (on_value go))) (settles_passed [] args each named others w kept)
-      (λ vs x k. called_by x k (call_function name vs) (name_called x.globals.functions (looked_up name x) vs) (λ n. refl))
+      (λ vs x k. called_by x k (call_function name vs) (name_called x.globals (looked_up name x) vs) (λ n. refl))
   settles_called (by_method name) whole object f g args each named others w kept =
       given_then w (λ m go. object go) (λ v m go. passed_walk (v ∷ []) args named (λ vs. step (asks (call_method name vs) (on_value go)))) (g w kept)
       (λ v x k. settles_then s x (Kept base) (Kept base) (λ m go. passed_walk (v ∷ []) args named go) (λ vs m go. step (asks (call_method name vs) (on_value go))) (settles_passed (v ∷ []) args each named others x k)
-      (λ vs y l. called_by y l (call_method name vs) (first_method y.globals.functions (known_of y) name vs) (λ n. refl)))
+      (λ vs y l. called_by y l (call_method name vs) (first_method y.globals (known_of y) name vs) (λ n. refl)))
   settles_called by_value whole object f g args each named others w kept =
       given_then w (λ m go. whole go) (λ v m go. passed_walk (v ∷ []) args named (λ vs. step (asks (call_value vs) (on_value go)))) (f w kept)
       (λ v x k. settles_then s x (Kept base) (Kept base) (λ m go. passed_walk (v ∷ []) args named go) (λ vs m go. step (asks (call_value vs) (on_value go))) (settles_passed (v ∷ []) args each named others x k)
-      (λ vs y l. called_by y l (call_value vs) (first_called y.globals.functions vs) (λ n. refl)))
+      (λ vs y l. called_by y l (call_value vs) (first_called y.globals vs) (λ n. refl)))
 
   -- a filter or a test, over a value and arguments
-  settles_handed : (e : List Val → Ask) (r : Result Val ErrorKind) → ((w : World) (vs : List Val) (n : ℕ) → answer s n w (e vs) ≡ replied_with w value r) → (v : Val)
+  settles_handed : (e : List Val → Ask) (what : Invoked)
+      → ((w : World) (vs : List Val) (n : ℕ) → answer s n w (e vs) ≡ call_reply s.around w (invokes what vs)) → (v : Val)
       → (args : List (Passing Giving Giving)) → EachPassed itself args → (named : List (Passing (List ℕ × Giving) Giving)) → EachPassed value_walk named
       → Always (λ m go. passed_walk (v ∷ []) args named (λ vs. step (asks (e vs) (on_value go))))
-  settles_handed e r is v args each named others w kept =
+  settles_handed e what is v args each named others w kept =
       settles_then s w (Kept base) (Kept base) (λ m go. passed_walk (v ∷ []) args named go) (λ vs m go. step (asks (e vs) (on_value go))) (settles_passed (v ∷ []) args each named others w kept)
-      (λ vs x k. given_by x k (e vs) r (λ n. is x vs n))
+      (λ vs x k. called_by x k (e vs) (invokes what vs) (λ n. is x vs n))
 
   mutual
     pub settles_expression : (e : Expression) → IsRunnable e → Always (walk_of e)
@@ -282,10 +267,10 @@ module _ (s : Programs) (base : World) where
         (positional_walks args) (settles_positional args h.2) (keyword_walks args) (settles_keyword args h.2) w kept
     settles_expression (filtered name (given e) args) h w kept =
         given_then w (walk_of e) (λ v m go. filter_walk name args v go) (settles_expression e h.0 w kept)
-        (λ v. settles_handed (apply_filter name) (Err UnknownFilter) (λ x vs n. refl) v (positional_walks args) (settles_positional args h.1) (keyword_walks args) (settles_keyword args h.1))
+        (λ v. settles_handed (apply_filter name) (filter_named name) (λ x vs n. refl) v (positional_walks args) (settles_positional args h.1) (keyword_walks args) (settles_keyword args h.1))
     settles_expression (tested name e args) h w kept =
         given_then w (walk_of e) (λ v m go. passed_walk (v ∷ []) (positional_walks args) (keyword_walks args) (λ vs. step (asks (perform_test name vs) (on_value go)))) (settles_expression e h.0 w kept)
-        (λ v. settles_handed (perform_test name) (Err UnknownTest) (λ x vs n. refl) v (positional_walks args) (settles_positional args h.1) (keyword_walks args) (settles_keyword args h.1))
+        (λ v. settles_handed (perform_test name) (test_named name) (λ x vs n. refl) v (positional_walks args) (settles_positional args h.1) (keyword_walks args) (settles_keyword args h.1))
     settles_expression _ h w kept = absurd h
 
     settles_object : (callee : Expression) → IsRunnable callee → ObjectGives (callee_of callee) (object_walk callee)
@@ -352,7 +337,7 @@ module _ (s : Programs) (base : World) where
   -- a filter of a block, over a value
   settles_filter : (name : List ℕ) (args : Arguments) → AreRunnableArguments args → (v : Val) → Always (λ m go. filter_walk name args v go)
   settles_filter name args h v =
-      settles_handed (apply_filter name) (Err UnknownFilter) (λ x vs n. refl) v (positional_walks args) (settles_positional args h) (keyword_walks args) (settles_keyword args h)
+      settles_handed (apply_filter name) (filter_named name) (λ x vs n. refl) v (positional_walks args) (settles_positional args h) (keyword_walks args) (settles_keyword args h)
 
   -- all of them
   pub settles_filters : (filters : Expression) → AreFilters filters → (v : Val) → Always (λ m go. filters_walk filters v go)

@@ -2,6 +2,7 @@ mod Rows
 pub mod Bounds
 pub mod Settling
 pub mod Keeping
+pub mod Calling
 pub mod Expressions
 pub mod Scopes
 pub mod Loops
@@ -11,6 +12,7 @@ pub mod Included
 pub mod Statements
 pub mod Ends
 pub mod Evaluating
+pub mod Fair
 pub mod RunsKept
 pub mod Known
 pub mod Walks

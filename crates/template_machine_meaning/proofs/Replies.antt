@@ -1,9 +1,9 @@
 -- The answers over one context are those over the other, where both agree on the names.
-use Rattle.std.proofs.Common.{◌≡◌, ℕ, ◌+◌, Bool, true, false, nat_le, List, [], ◌∷◌, ◌++◌, Option, None, Some, Result, Ok, Err, map, refl, sym, ap, subst, ◌∙◌}
+use Rattle.std.proofs.Common.{◌≡◌, ℕ, zero, suc, ◌+◌, ◌-◌, Bool, true, false, nat_le, List, [], ◌∷◌, ◌++◌, Option, None, Some, Result, Ok, Err, map, refl, sym, ap, subst, ◌∙◌}
 use Rattle.std.specs.Option.{option_or}
 use Rattle.std.specs.Prelude.{if◌then◌else◌, is_some, slice_get, unwrap_or}
 use Rattle.template_values_errors.specs.declared.ErrorKind.{ErrorKind}
-use Rattle.template_values_errors.specs.declared.ErrorKind.TheVariants.{InvalidOperation, UnknownFilter, UnknownTest}
+use Rattle.template_values_errors.specs.declared.ErrorKind.TheVariants.{InvalidOperation}
 use Rattle.template_values_errors.specs.declared.modes.AutoEscape.{AutoEscape}
 use Rattle.template_values_model.specs.Val as values
 use Rattle.template_values_model.specs.Val.{Val, undefined}
@@ -14,22 +14,26 @@ use Rattle.template_values_forms.specs.Truth as truths
 use Rattle.template_values_operators.specs.Iterated.{iterated}
 use Rattle.template_values_operators.specs.Kinds.{list_made}
 use Rattle.template_values_operators.specs.Slices.{slice_of}
+use Rattle.template_callables.specs.Callables.{Asked, call, filter, test, lookup, Stated, finishes, refuses, goes_on, Says}
 use Rattle.template_process.specs.Process.{Looping, Ask, look_up, store, negate, invert, operate, compare, get_attribute, get_item, get_slice, set_attribute, build_list, build_tuple, build_map, build_kwargs, merge_kwargs, call_function, call_method, call_value, apply_filter, perform_test, truth_of, unpack, spread, write_raw, write_value, open_frame, close_frame, open_loop, next_item, did_not_iterate, close_loop, open_escape, close_escape, begin_capture, end_capture, include, Answer, done, value, truth, items, Told, tells, fails, breaks_off, leaves, Process, over, step, asks, amiss, cut_short, stuck}
 use Rattle.template_process.specs.Drive.{End, ends, faults}
 use Rattle.template_process.specs.Trace.{paid, written, Reply, Run, run, behind, go_on, replied}
 use Rattle.template_walk.specs.Containers.{tuple_made, map_made, kwargs_made}
 use Rattle.template_walk.specs.Operators.{operated, compared, inverted, negated}
-use Rattle.template_machine_meaning.specs.World.{Loop, Frame, Capture, World, local_at, looked_up, value_named, given_at, put_given, drop_given, has_room, loop_over}
+use Rattle.template_machine_meaning.specs.World.{Loop, Frame, Capture, World, local_at, looked_up, value_named, given_at, put_given, drop_given, depth_of, has_room, loop_over}
 use Rattle.template_machine_meaning.specs.Records.{known_of}
 use Rattle.template_machine_meaning.specs.Undefined.{forbids_printing, forbids_iterating, forbids_truth, forbids_slicing, forbids_operator, forbids_link}
 use Rattle.template_machine_meaning.specs.Replies.{told, changed, refused, kinded, guarded, replied_with, changed_with}
-use Rattle.template_machine_meaning.specs.Functions.{Called, gives, makes, compares, name_called, first_method, first_called}
-use Rattle.template_machine_meaning.specs.Spreads.{items_of_each, merged_keywords}
 use Rattle.template_machine_meaning.specs.Keys.{Key, Around}
 use Rattle.template_machine_meaning.specs.Plans as plans
 use Rattle.template_machine_meaning.specs.Plans.{Purpose, includes, Plan, replies, enters, room_for, caller_of, after_by, given, wrapped_by, told_by, came, Runners, came_from, settled}
 use Rattle.template_machine_meaning.specs.Includes.{Found, choices_in, first_standing, include_levels, include_within, not_found, included_by, included_from}
-use Rattle.template_machine_meaning.specs.Surroundings.{with_text, printed_reply, attribute_given, item_given, unpacked, unpacked_into, empty_frame, loop_frame, opened_loop, asked_once, next_reply, is_held, escape_named, escape_put_back, captured, are_as_before, called_reply, put_attribute, with_attribute, plan, respond}
+use Rattle.template_machine_meaning.specs.Namespaces.{put_attribute, with_attribute}
+use Rattle.template_machine_meaning.specs.Functions.{Invoked, filter_named, test_named, Called, gives, makes, compares, invokes, value_called, name_called, first_method, first_called}
+use Rattle.template_machine_meaning.specs.Calls.{are_as_before, view_of, with_temps, said, unknown, stated_reply, decided, truth_told, tested, answered_by, called_reply, further_reply, beyond, call_reply}
+use Rattle.template_machine_meaning.specs.Spreads.{items_of_each, merged_keywords}
+use Rattle.template_machine_meaning.specs.Surroundings.{with_text, printed_reply, attribute_given, item_given, unpacked, unpacked_into, empty_frame, loop_frame, opened_loop, asked_once, next_reply, is_held, escape_named, escape_put_back, captured, plan, respond}
+use Rattle.template_machine_meaning.specs.Isolation.{IsNoLookup, AsksNoName, SaysNoName, AskNoNames}
 use Rattle.template_machine_meaning.proofs.Known.{Known, inner, stored, closed, cleared, learnt, IsSafe, May, Within}
 use Rattle.template_machine_meaning.proofs.Turned.{context_before, over_frames, over_context, Fits, fits_less, finds, same_known, same_depth, pushes, many, fits_stored, fits_cleared, fits_closed}
 
@@ -85,13 +89,92 @@ module _ (names : List ℕ → Type 0) (d : Val) where
   Plans k w (enters x) (enters y) = Enters k w x y
   Plans k w _ _ = ⊥
 
+  -- what is given or refused, and calls: what they make, compare or set is not in the frames
+  module _ (k : Known) where
+    gave_so : {X : Type 0} (w : World) → Fits names d k w.frames → (answer : X → Answer) (r : Result X ErrorKind)
+        → Replies k (replied_with w answer r) (replied_with (over_context d w) answer r)
+    gave_so w fits answer (Ok x) = record { same = refl; stays = tt; fits = λ t. fits }
+    gave_so w fits answer (Err kind) = record { same = refl; stays = tt; fits = λ t. fits }
+
+    refused_so : (w : World) (kind : ErrorKind) → Replies k (refused w kind) (refused (over_context d w) kind)
+    refused_so w kind = record { same = refl; stays = tt; fits = λ t. absurd t }
+
+    compared_so : (w : World) → Fits names d k w.frames → (number : ℕ) (vs : List Val) (b : Bool)
+        → Replies k (if b then told w (tells (value (values.truth false))) else changed (record w { given = put_given number vs w.given }) (value (values.truth true)))
+        (if b then told (over_context d w) (tells (value (values.truth false)))
+        else changed (record (over_context d w) { given = put_given number vs w.given }) (value (values.truth true)))
+    compared_so w fits number vs true = record { same = refl; stays = tt; fits = λ t. fits }
+    compared_so w fits number vs false = record { same = refl; stays = tt; fits = λ t. fits }
+
+    -- a test's value is taken for true or false by what is known of records
+    decided_stays : (r : Result Bool ErrorKind) → Stays (decided r)
+    decided_stays (Ok b) = tt
+    decided_stays (Err kind) = tt
+
+    truth_stays : (known : forms.Known) (t : Told) → Stays t → Stays (truth_told known t)
+    truth_stays known (tells (value v)) stays = decided_stays (kinded (truths.truth_of known v))
+    truth_stays known _ stays = stays
+
+    truth_is_told : (known : forms.Known) (t : Told) → IsTold (truth_told known t) → IsTold t
+    truth_is_told known (tells a) is = tt
+    truth_is_told known _ is = is
+
+    tested_so : (what : Invoked) (r q : Reply World) → Replies k r q → Replies k (tested what r) (tested what q)
+    tested_so (test_named name) r q so = record {
+      same = ap (tested (test_named name)) so.same
+          ∙ ap (λ (known : forms.Known). record (over_reply d r) { told = truth_told known r.told }) (same_known names d r.after);
+      stays = truth_stays (known_of r.after) r.told so.stays;
+      fits = λ t. so.fits (truth_is_told (known_of r.after) r.told t);
+    }
+    tested_so _ r q so = so
+
+    module _ (a : Around) (ask : AskNoNames a.callables) where
+      -- what is asked further, and is no name's value
+      abbrev GoesSo : (World → Asked → Reply World) → Type 0
+      GoesSo go = (w : World) → Fits names d k w.frames → (asked : Asked) → IsNoLookup asked → Replies k (go w asked) (go (over_context d w) asked)
+
+      module _ (go : World → Asked → Reply World) (so : GoesSo go) where
+        stated_so : (w : World) → Fits names d k w.frames → (answer : Stated) → AsksNoName answer
+            → Replies k (stated_reply go w answer) (stated_reply go (over_context d w) answer)
+        stated_so w fits (finishes temps v) asks_none = record { same = refl; stays = tt; fits = λ t. fits }
+        stated_so w fits (refuses kinds) asks_none = record { same = refl; stays = tt; fits = λ t. absurd t }
+        stated_so w fits (goes_on temps asked) asks_none = so (with_temps temps w) fits asked asks_none
+
+        answered_so : (w : World) → Fits names d k w.frames → (what : Invoked) (vs : List Val) (o : Option Says) → SaysNoName o
+            → Replies k (answered_by a go w what vs o) (answered_by a go (over_context d w) what vs o)
+        answered_so w fits what vs None asks_none = refused_so w (unknown what)
+        answered_so w fits what vs (Some says) asks_none =
+            let answer = says (view_of a w) vs in
+            tested_so what (stated_reply go w answer) (stated_reply go (over_context d w) answer) (stated_so w fits answer (asks_none (view_of a w) vs))
+
+        called_so : (w : World) → Fits names d k w.frames → (c : Called) → Replies k (called_reply a go w c) (called_reply a go (over_context d w) c)
+        called_so w fits (gives r) = gave_so w fits value r
+        called_so w fits (makes entries) = record { same = refl; stays = tt; fits = λ t. fits }
+        called_so w fits (compares number vs) = compared_so w fits number vs (are_as_before vs (given_at number w.given))
+        called_so w fits (invokes what vs) = answered_so w fits what vs (said a.callables what) (ask what)
+
+        further_so : GoesSo (further_reply a go)
+        further_so w fits (call v vs) other = called_so w fits (value_called w.globals v vs)
+        further_so w fits (filter name vs) other = answered_so w fits (filter_named name) vs (said a.callables (filter_named name)) (ask (filter_named name))
+        further_so w fits (test name vs) other = answered_so w fits (test_named name) vs (said a.callables (test_named name)) (ask (test_named name))
+        further_so w fits (lookup name) other = absurd other
+
+      beyond_so : (left : ℕ) → GoesSo (beyond a left)
+      beyond_so zero w fits asked other = refused_so w InvalidOperation
+      beyond_so (suc left) w fits asked other = further_so (beyond a left) (beyond_so left) w fits asked other
+
+      -- as many levels are left
+      call_replies_so : (w : World) → Fits names d k w.frames → (c : Called) → Replies k (call_reply a w c) (call_reply a (over_context d w) c)
+      call_replies_so w fits c =
+          subst (λ n. Replies k (call_reply a w c) (called_reply a (beyond a (a.limit - (n + w.outer))) (over_context d w) c)) (sym (many names d w.frames))
+          (called_so (beyond a (a.limit - depth_of w)) (beyond_so (a.limit - depth_of w)) w fits c)
+
   module _ (k : Known) (w : World) (fits : Fits names d k w.frames) where
     abbrev other : World
     other = over_context d w
 
     replied_so : {X : Type 0} (answer : X → Answer) (r : Result X ErrorKind) → Replies k (replied_with w answer r) (replied_with other answer r)
-    replied_so answer (Ok x) = record { same = refl; stays = tt; fits = λ t. fits }
-    replied_so answer (Err kind) = record { same = refl; stays = tt; fits = λ t. fits }
+    replied_so answer r = gave_so k w fits answer r
 
     -- what a safe name stands for; under all frames the globals are the same
     stands_so : (name : List ℕ) → IsSafe names k name → looked_up name other ≡ looked_up name w
@@ -104,23 +187,12 @@ module _ (names : List ℕ → Type 0) (d : Val) where
       fits = λ t. fits;
     }
 
-    -- calls: what they make or compare is not in the frames
-    compared_so : (number : ℕ) (vs : List Val) (b : Bool)
-        → Replies k (if b then told w (tells (value (values.truth false))) else changed (record w { given = put_given number vs w.given }) (value (values.truth true)))
-        (if b then told other (tells (value (values.truth false))) else changed (record other { given = put_given number vs w.given }) (value (values.truth true)))
-    compared_so number vs true = record { same = refl; stays = tt; fits = λ t. fits }
-    compared_so number vs false = record { same = refl; stays = tt; fits = λ t. fits }
-
-    called_so : (c : Called) → Replies k (called_reply w c) (called_reply other c)
-    called_so (gives r) = replied_so value r
-    called_so (makes entries) = record { same = refl; stays = tt; fits = λ t. fits }
-    called_so (compares number vs) = compared_so number vs (are_as_before vs (given_at number w.given))
-
-    call_so : (name : List ℕ) (vs : List Val) → IsSafe names k name
-        → Replies k (called_reply w (name_called w.globals.functions (looked_up name w) vs)) (called_reply other (name_called w.globals.functions (looked_up name other) vs))
-    call_so name vs safe =
-        subst (λ o. Replies k (called_reply w (name_called w.globals.functions (looked_up name w) vs)) (called_reply other (name_called w.globals.functions o vs)))
-        (sym (stands_so name safe)) (called_so (name_called w.globals.functions (looked_up name w) vs))
+    -- what a name stands for is called
+    call_so : (a : Around) → AskNoNames a.callables → (name : List ℕ) (vs : List Val) → IsSafe names k name
+        → Replies k (call_reply a w (name_called w.globals (looked_up name w) vs)) (call_reply a other (name_called w.globals (looked_up name other) vs))
+    call_so a ask name vs safe =
+        subst (λ o. Replies k (call_reply a w (name_called w.globals (looked_up name w) vs)) (call_reply a other (name_called w.globals o vs)))
+        (sym (stands_so name safe)) (call_replies_so k a ask w fits (name_called w.globals (looked_up name w) vs))
 
     -- a namespace takes an attribute
     put_so : (number : ℕ) (name : List ℕ) (v : Val) (o : Option (List (Val × Val)))
@@ -259,11 +331,8 @@ module _ (names : List ℕ → Type 0) (d : Val) where
       fits = λ t. so.back r.after (runs.fits (told_over x.wraps (given x.purpose (caller_of w) r.after) r.end t));
     }
 
-    nothing_so : (l : Known) (kind : ErrorKind) → Replies l (refused w kind) (refused other kind)
-    nothing_so l kind = record { same = refl; stays = tt; fits = λ t. absurd t }
-
     came_from_so : (l : Known) (x y : plans.Within) → Enters l w x y → (o : Option (World → Run World)) → RunsSo o → Replies l (came_from w x o) (came_from other y o)
-    came_from_so l x y so None runs = nothing_so l InvalidOperation
+    came_from_so l x y so None runs = refused_so l w InvalidOperation
     came_from_so l x y so (Some runs) all =
         let z : plans.Within = record x { begins = over_context d x.begins } in
         subst (λ u. Replies l (came w x (runs x.begins)) (came other u (runs u.begins))) (sym so.same)
@@ -283,7 +352,7 @@ module _ (names : List ℕ → Type 0) (d : Val) where
     roomy_so : (found : Found) (room : Bool) → Plans k w (if room then enters (include_within w found) else replies (refused w InvalidOperation))
         (if room then enters (include_within other found) else replies (refused other InvalidOperation))
     roomy_so found true = entered_so found
-    roomy_so found false = nothing_so k InvalidOperation
+    roomy_so found false = refused_so k w InvalidOperation
 
     included_so : (limit : ℕ) (found : Found) → Plans k w (room_for limit include_levels w (include_within w found)) (room_for limit include_levels other (include_within other found))
     included_so limit found =
@@ -299,12 +368,12 @@ module _ (names : List ℕ → Type 0) (d : Val) where
         → Plans k w (included_by limit w ignore_missing vs r) (included_by limit other ignore_missing vs r)
     by_so limit ignore_missing vs (Ok None) = missing_so ignore_missing vs
     by_so limit ignore_missing vs (Ok (Some found)) = included_so limit found
-    by_so limit ignore_missing vs (Err kind) = nothing_so k kind
+    by_so limit ignore_missing vs (Err kind) = refused_so k w kind
 
     from_so : (a : Around) (ignore_missing : Bool) (choices : Result (List Val) ErrorKind)
         → Plans k w (included_from a w ignore_missing choices) (included_from a other ignore_missing choices)
     from_so a ignore_missing (Ok vs) = by_so a.limit ignore_missing vs (first_standing a vs)
-    from_so a ignore_missing (Err kind) = nothing_so k kind
+    from_so a ignore_missing (Err kind) = refused_so k w kind
 
     known_so : {X : Type 0} (answer : X → Answer) (r : forms.Known → Result X ErrorKind)
         → Replies k (replied_with w answer (r (known_of w))) (replied_with other answer (r (known_of other)))
@@ -312,65 +381,66 @@ module _ (names : List ℕ → Type 0) (d : Val) where
         at_known k (replies (replied_with w answer (r (known_of w)))) (λ known. replies (replied_with other answer (r known))) (replied_so answer (r (known_of w)))
 
     -- each event that may be asked
-    plans_so : (a : Around) (e : Ask) → May names k e → Plans (learnt k e) w (plan a w e) (plan a other e)
-    plans_so a (look_up name) may = look_up_so name may
-    plans_so a (store name v) may =
+    plans_so : (a : Around) → AskNoNames a.callables → (e : Ask) → May names k e → Plans (learnt k e) w (plan a w e) (plan a other e)
+    plans_so a ask (look_up name) may = look_up_so name may
+    plans_so a ask (store name v) may =
         framed_so (stored name k) _ _ w.frames fits (λ f gs h. record { same = refl; stays = tt; fits = λ t. fits_stored names d name v k f gs h })
-    plans_so a (negate v) may = replied_so value (kinded (negated v))
-    plans_so a (invert v) may =
+    plans_so a ask (negate v) may = replied_so value (kinded (negated v))
+    plans_so a ask (invert v) may =
         known_so value (λ known. guarded (forbids_truth a.undefined v) (kinded (inverted known v)))
-    plans_so a (operate op left right) may =
+    plans_so a ask (operate op left right) may =
         known_so value (λ known. guarded (forbids_operator a.undefined op left right) (kinded (operated known op left right)))
-    plans_so a (compare op left right) may =
+    plans_so a ask (compare op left right) may =
         known_so value (λ known. guarded (forbids_link a.undefined op left right) (kinded (compared known op left right)))
-    plans_so a (get_attribute v name) may = known_so value (λ known. attribute_given a.undefined known v name)
-    plans_so a (get_item v key) may = known_so value (λ known. item_given a.undefined known v key)
-    plans_so a (get_slice v start stop by) may = replied_so value (guarded (forbids_slicing a.undefined v) (kinded (slice_of v start stop by)))
-    plans_so a (build_list vs) may = replied_so value (kinded (list_made vs))
-    plans_so a (build_tuple vs) may = replied_so value (kinded (tuple_made vs))
-    plans_so a (build_map entries) may = replied_so value (kinded (map_made entries))
-    plans_so a (build_kwargs entries) may = replied_so value (kinded (kwargs_made entries))
-    plans_so a (merge_kwargs vs) may = known_so value (λ known. merged_keywords a.undefined known vs)
-    plans_so a (apply_filter name vs) may = nothing_so k UnknownFilter
-    plans_so a (perform_test name vs) may = nothing_so k UnknownTest
-    plans_so a (call_function name vs) may = call_so name vs may
-    plans_so a (set_attribute name v holder) may = attribute_so name v holder
-    plans_so a (call_method name vs) may =
-        at_known k (replies (called_reply w (first_method w.globals.functions (known_of w) name vs))) (λ known. replies (called_reply other (first_method w.globals.functions known name vs)))
-        (called_so (first_method w.globals.functions (known_of w) name vs))
-    plans_so a (call_value vs) may = called_so (first_called w.globals.functions vs)
-    plans_so a (truth_of v) may = known_so truth (λ known. guarded (forbids_truth a.undefined v) (kinded (truths.truth_of known v)))
-    plans_so a (unpack n v) may = replied_so items (unpacked_into n (unpacked v))
-    plans_so a (spread vs) may = known_so items (λ known. items_of_each known vs)
-    plans_so a (write_raw text) may = text_so text w.captures
-    plans_so a (write_value v) may =
+    plans_so a ask (get_attribute v name) may = known_so value (λ known. attribute_given a.undefined known v name)
+    plans_so a ask (get_item v key) may = known_so value (λ known. item_given a.undefined known v key)
+    plans_so a ask (get_slice v start stop by) may = replied_so value (guarded (forbids_slicing a.undefined v) (kinded (slice_of v start stop by)))
+    plans_so a ask (build_list vs) may = replied_so value (kinded (list_made vs))
+    plans_so a ask (build_tuple vs) may = replied_so value (kinded (tuple_made vs))
+    plans_so a ask (build_map entries) may = replied_so value (kinded (map_made entries))
+    plans_so a ask (build_kwargs entries) may = replied_so value (kinded (kwargs_made entries))
+    plans_so a ask (merge_kwargs vs) may = known_so value (λ known. merged_keywords a.undefined known vs)
+    plans_so a ask (apply_filter name vs) may = call_replies_so k a ask w fits (invokes (filter_named name) vs)
+    plans_so a ask (perform_test name vs) may = call_replies_so k a ask w fits (invokes (test_named name) vs)
+    plans_so a ask (call_function name vs) may = call_so a ask name vs may
+    plans_so a ask (set_attribute name v holder) may = attribute_so name v holder
+    plans_so a ask (call_method name vs) may =
+        at_known k (replies (call_reply a w (first_method w.globals (known_of w) name vs)))
+        (λ known. replies (call_reply a other (first_method w.globals known name vs)))
+        (call_replies_so k a ask w fits (first_method w.globals (known_of w) name vs))
+    plans_so a ask (call_value vs) may = call_replies_so k a ask w fits (first_called w.globals vs)
+    plans_so a ask (truth_of v) may = known_so truth (λ known. guarded (forbids_truth a.undefined v) (kinded (truths.truth_of known v)))
+    plans_so a ask (unpack n v) may = replied_so items (unpacked_into n (unpacked v))
+    plans_so a ask (spread vs) may = known_so items (λ known. items_of_each known vs)
+    plans_so a ask (write_raw text) may = text_so text w.captures
+    plans_so a ask (write_value v) may =
         let r : forms.Known → Result (List ℕ) ErrorKind = λ known. guarded (forbids_printing a.undefined v) (kinded (escaped w.escape known v)) in
         at_known k (replies (printed_reply w (r (known_of w)))) (λ known. replies (printed_reply other (r known))) (printed_so (r (known_of w)))
-    plans_so a open_frame may = opens_so a.limit w.opened empty_frame refl
-    plans_so a close_frame may =
+    plans_so a ask open_frame may = opens_so a.limit w.opened empty_frame refl
+    plans_so a ask close_frame may =
         framed_so (closed k) _ _ w.frames fits (λ f gs h. record { same = refl; stays = tt; fits = λ t. fits_closed names d k f gs may h })
-    plans_so a (open_loop how v) may =
+    plans_so a ask (open_loop how v) may =
         let r : forms.Known → Result (List Val) ErrorKind = λ known. guarded (forbids_iterating a.undefined v) (kinded (iterated known v)) in
         let opening : World → Result (List Val) ErrorKind → Plan = λ v r. replies (changed_with v (λ after. done) (λ after. after) (opened_loop a.limit v how r)) in
         at_known (inner [] k) (opening w (r (known_of w))) (λ known. opening other (r known)) (loop_so a.limit how (r (known_of w)))
-    plans_so a next_item may =
+    plans_so a ask next_item may =
         framed_so (cleared k) _ _ w.frames fits (λ f gs h. looped_so (cleared k) _ _ f.loop (λ x. next_so f gs h x (slice_get x.items x.asked)))
-    plans_so a did_not_iterate may =
+    plans_so a ask did_not_iterate may =
         framed_so k _ _ w.frames fits (λ f gs h. looped_so k _ _ f.loop (λ x. record { same = refl; stays = tt; fits = λ t. fits }))
-    plans_so a close_loop may =
+    plans_so a ask close_loop may =
         framed_so (closed k) _ _ w.frames fits (λ f gs h. looped_so (closed k) _ _ f.loop (λ x. left_so x gs (fits_closed names d k f gs may h) (is_held w x)))
-    plans_so a (open_escape v) may = escape_so (escape_named w.first v (text_in v))
-    plans_so a close_escape may = put_back_so w.saved
-    plans_so a (begin_capture keep) may = record { same = refl; stays = tt; fits = λ t. fits }
-    plans_so a end_capture may = capture_so w.captures
-    plans_so a (include ignore_missing v) may =
+    plans_so a ask (open_escape v) may = escape_so (escape_named w.first v (text_in v))
+    plans_so a ask close_escape may = put_back_so w.saved
+    plans_so a ask (begin_capture keep) may = record { same = refl; stays = tt; fits = λ t. fits }
+    plans_so a ask end_capture may = capture_so w.captures
+    plans_so a ask (include ignore_missing v) may =
         at_known k (included_from a w ignore_missing (choices_in (known_of w) v)) (λ known. included_from a other ignore_missing (choices_in known v))
         (from_so a ignore_missing (choices_in (known_of w) v))
-    plans_so a _ may = record { same = refl; stays = tt; fits = λ t. absurd t }
+    plans_so a ask _ may = record { same = refl; stays = tt; fits = λ t. absurd t }
 
-    pub responds_so : (a : Around) (runners : Runners) → ((key : Key) → RunsSo (runners key)) → (e : Ask) → May names k e
+    pub responds_so : (a : Around) → AskNoNames a.callables → (runners : Runners) → ((key : Key) → RunsSo (runners key)) → (e : Ask) → May names k e
         → Replies (learnt k e) (respond a runners w e) (respond a runners other e)
-    responds_so a runners so e may = settled_so (learnt k e) runners so (plan a w e) (plan a other e) (plans_so a e may)
+    responds_so a ask runners so e may = settled_so (learnt k e) runners so (plan a w e) (plan a other e) (plans_so a ask e may)
 
   -- a process that asks what it may
   told_so : (start : Known) (go on : Answer → World → Run World) (after : World) (t : Told) → Stays t
@@ -386,16 +456,16 @@ module _ (names : List ℕ → Type 0) (d : Val) where
       let at = told_so start go go r.after r.told stays so in
       record { same = ap (replied go) same ∙ ap (behind r.items) at.same; fits = at.fits }
 
-  pub runs_so : (a : Around) (runners : Runners) → ((key : Key) → RunsSo (runners key)) → (start : Known) (p : Process) (k : Known) (w : World)
-      → Fits names d k w.frames → Within names start k p → Runs start (run (respond a runners) p w) (run (respond a runners) p (over_context d w))
-  runs_so a runners so start (over operands) k w fits h = record { same = refl; fits = λ t. fits_less names d start k w.frames h fits }
-  runs_so a runners so start (step p) k w fits h =
-      let at = runs_so a runners so start p k w fits h in
+  pub runs_so : (a : Around) → AskNoNames a.callables → (runners : Runners) → ((key : Key) → RunsSo (runners key))
+      → (start : Known) (p : Process) (k : Known) (w : World) → Fits names d k w.frames → Within names start k p → Runs start (run (respond a runners) p w) (run (respond a runners) p (over_context d w))
+  runs_so a ask runners so start (over operands) k w fits h = record { same = refl; fits = λ t. fits_less names d start k w.frames h fits }
+  runs_so a ask runners so start (step p) k w fits h =
+      let at = runs_so a ask runners so start p k w fits h in
       record { same = ap (behind (paid [] ∷ [])) at.same; fits = at.fits }
-  runs_so a runners so start (asks e go) k w fits h =
-      let at = responds_so k w fits a runners so e h.0 in
+  runs_so a ask runners so start (asks e go) k w fits h =
+      let at = responds_so k w fits a ask runners so e h.0 in
       replied_on start (λ b v. run (respond a runners) (go b) v) (respond a runners w e) (respond a runners (over_context d w) e) at.same at.stays
-      (λ b t. runs_so a runners so start (go b) (learnt k e) (respond a runners w e).after (at.fits t) (h.1 b))
-  runs_so a runners so start amiss k w fits h = record { same = refl; fits = λ t. absurd t }
-  runs_so a runners so start cut_short k w fits h = record { same = refl; fits = λ t. absurd t }
-  runs_so a runners so start stuck k w fits h = record { same = refl; fits = λ t. absurd t }
+      (λ b t. runs_so a ask runners so start (go b) (learnt k e) (respond a runners w e).after (at.fits t) (h.1 b))
+  runs_so a ask runners so start amiss k w fits h = record { same = refl; fits = λ t. absurd t }
+  runs_so a ask runners so start cut_short k w fits h = record { same = refl; fits = λ t. absurd t }
+  runs_so a ask runners so start stuck k w fits h = record { same = refl; fits = λ t. absurd t }

@@ -1,21 +1,22 @@
 -- Worked rows, computed: texts, prices and ends.
-use Rattle.std.proofs.Common.{◌≡◌, ℕ, pos, false, List, [], ◌∷◌, None, Some, Option, codes, bytes_eq, refl}
-use Rattle.std.specs.Prelude.{if◌then◌else◌}
-use Rattle.template_values_errors.specs.declared.ErrorKind.TheVariants.{InvalidOperation, UndefinedError, TooManyArguments, UnknownFilter, UnknownTest, UnknownFunction, BadInclude, OutOfFuel}
+use Rattle.std.proofs.Common.{◌≡◌, ℕ, suc, ◌+◌, ◌==◌, pos, true, false, List, [], ◌∷◌, None, Some, Option, codes, bytes_eq, refl}
+use Rattle.std.specs.Prelude.{if◌then◌else◌, unwrap_or}
+use Rattle.template_values_errors.specs.declared.ErrorKind.TheVariants.{WriteFailure, InvalidOperation, UndefinedError, TooManyArguments, UnknownFilter, UnknownTest, UnknownFunction, CannotUnpack, BadInclude, OutOfFuel}
 use Rattle.template_values_errors.specs.declared.modes.AutoEscape.TheVariants as escapes
 use Rattle.template_values_errors.specs.declared.modes.UndefinedBehavior.{UndefinedBehavior}
 use Rattle.template_values_errors.specs.declared.modes.UndefinedBehavior.TheVariants.{Lenient, Strict}
-use Rattle.template_values_model.specs.Val.{Val, int, text, map, function, namespace, no_pairs, pairs_more}
+use Rattle.template_values_model.specs.Val.{Val, undefined, int, text, map, function, namespace, no_pairs, pairs_more}
 use Rattle.template_tree.specs.declared.operators.BinOpKind.TheVariants as operators
 use Rattle.template_tree.specs.declared.operators.CompareOpKind.TheVariants.{Lt, Gt}
 use Rattle.std.specs.Fmt as fmt
 use Rattle.template_values_forms.specs.Printed as printed_forms
 use Rattle.template_tree.specs.Tree as tree
 use Rattle.template_tree.specs.Tree.{Expression, Expressions, Arguments, Statement, Statements, variable, constant, binary, chain, filtered, tested, attribute, call, list_literal, absent, given, no_expressions, expressions_more, no_arguments, arguments_more, positional, keyword, positional_spread, keyword_spread, no_links, links_more, raw, print, for_loop, set, set_block, filter_block, no_statements, statements_more}
+use Rattle.template_callables.specs.Callables.{filter, lookup, finishes, refuses, goes_on, Says, Callables, no_callables}
 use Rattle.template_process.specs.Drive.{End, ends, faults}
 use Rattle.template_process.specs.Trace.{Run, text_of, price_of}
 use Rattle.template_process.specs.Fuel.{under}
-use Rattle.template_machine_meaning.specs.World.{Globals, World, range_number, dict_number, namespace_number}
+use Rattle.template_machine_meaning.specs.World.{Globals, World, local_at, range_number, dict_number, namespace_number}
 use Rattle.template_machine_meaning.specs.Meaning.{Standing, Setting, rendered, evaluated}
 
 abbrev number : ℕ → Expression
@@ -30,7 +31,7 @@ statements [] = no_statements
 statements (s ∷ ss) = statements_more s (statements ss)
 
 abbrev named : List ℕ → List ℕ → Statements → Option Standing
-named name other t = if bytes_eq name other then Some (record { tree = t; escape = escapes.None }) else None
+named name other t = if bytes_eq name other then Some (record { name = name; tree = t; escape = escapes.None }) else None
 
 abbrev passing : List Expression → Arguments
 passing [] = no_arguments
@@ -39,16 +40,18 @@ passing (e ∷ es) = arguments_more (positional e) (passing es)
 -- the functions that an environment has by itself, and what stands behind them in order of names
 abbrev globals : List (List ℕ × Val) → Globals
 globals more = record {
-  functions = Some 0;
+  environment = 0;
+  has_own = true;
   named = (codes "dict", function 0 dict_number) ∷ (codes "namespace", function 0 namespace_number) ∷ (codes "range", function 0 range_number) ∷ more;
 }
 
 -- one template, named `b`, stands
 abbrev setting : UndefinedBehavior → List (List ℕ × Val) → Statements → Setting
-setting mode more b = record { templates = λ name. named (codes "b") name b; globals = globals more; limit = 500; undefined = mode }
+setting mode more b = record { templates = λ name. named (codes "b") name b; globals = globals more; callables = no_callables; limit = 500; undefined = mode }
 
+-- one named `a` is rendered
 abbrev run_under : Setting → List Statement → Val → Run World
-run_under within ss context = rendered within 0 5 (record { tree = statements ss; escape = escapes.None }) context
+run_under within ss context = rendered within 0 5 (record { name = codes "a"; tree = statements ss; escape = escapes.None }) context
 
 abbrev run_of : UndefinedBehavior → Statements → List Statement → Val → Run World
 run_of mode b ss context = run_under (setting mode [] b) ss context
@@ -308,6 +311,126 @@ namespace_end = refl
 foreign_end : value_over (namespace 1 0) (variable (codes "x")) ≡ faults (InvalidOperation ∷ [])
 unfolding printed_forms.level_limit fmt.digits
 foreign_end = refl
+
+-- what a user brought: `double` doubles a number; `down` counts down to nothing by asking for itself; `keep` sets t, `kept` gives
+-- what is set; `where` gives the name of what runs; `x` asks for what x stands for; `unpack` and `write` state faults
+abbrev doubled : Says
+doubled view (int (pos n) ∷ []) = finishes [] (int (pos (n + n)))
+doubled view vs = finishes [] undefined
+
+abbrev counted_down : Says
+counted_down view (int (pos (suc n)) ∷ []) = goes_on [] (filter (codes "down") (int (pos n) ∷ []))
+counted_down view vs = finishes [] (text (codes "down"))
+
+abbrev keeping : Says
+keeping view (v ∷ vs) = finishes ((codes "t", v) ∷ []) v
+keeping view [] = finishes [] undefined
+
+abbrev says_named : List ℕ → Option Says
+says_named name =
+    if bytes_eq name (codes "double") then Some doubled
+    else (if bytes_eq name (codes "down") then Some counted_down
+    else (if bytes_eq name (codes "keep") then Some keeping
+    else (if bytes_eq name (codes "kept") then Some (λ view vs. finishes [] (unwrap_or (local_at (codes "t") view.temps) undefined))
+    else (if bytes_eq name (codes "where") then Some (λ view vs. finishes [] (text view.name))
+    else (if bytes_eq name (codes "x") then Some (λ view vs. goes_on [] (lookup (codes "x")))
+    else (if bytes_eq name (codes "unpack") then Some (λ view vs. refuses (CannotUnpack ∷ []))
+    else (if bytes_eq name (codes "write") then Some (λ view vs. refuses (CannotUnpack ∷ WriteFailure ∷ []))
+    else None)))))))
+
+-- they are filters and tests alike; the one function gives its first argument doubled; a method that a value does not have gives its name
+abbrev brought : Callables
+brought = record {
+  filters = says_named;
+  tests = says_named;
+  functions = λ number. if number == 3 then Some doubled else None;
+  methods = Some (λ v name view vs. finishes [] (text name));
+  formats = None;
+}
+
+-- under a limit of depth; `f` and `g` stand for functions of numbers 3 and 4
+abbrev bringing : ℕ → Statements → Setting
+bringing limit b = record {
+  templates = λ name. named (codes "b") name b;
+  globals = globals ((codes "f", function 0 3) ∷ (codes "g", function 0 4) ∷ []);
+  callables = brought;
+  limit = limit;
+  undefined = Lenient;
+}
+
+abbrev brought_run : List Statement → Run World
+brought_run ss = run_under (bringing 500 no_statements) ss (only (codes "x") (int (pos 7)))
+
+abbrev filtering : List ℕ → ℕ → Statement
+filtering name n = print (filtered name (given (number n)) no_arguments)
+
+abbrev testing : List ℕ → ℕ → Statement
+testing name n = print (tested name (number n) no_arguments)
+
+-- `{{ 3|double }}` and `{{ 1|x }}`
+double_text : text_of (brought_run (filtering (codes "double") 3 ∷ filtering (codes "x") 1 ∷ [])).items ≡ codes "67"
+unfolding printed_forms.level_limit fmt.digits
+double_text = refl
+
+-- `{{ 3 is double }}` and `{{ 0 is double }}`: a test's value is true or false
+tested_text : text_of (brought_run (testing (codes "double") 3 ∷ testing (codes "double") 0 ∷ [])).items ≡ codes "truefalse"
+unfolding printed_forms.level_limit fmt.digits
+tested_text = refl
+
+-- `{{ 1 is unpack }}` and `{{ 1|write }}`: no callable may tell that the sink failed
+stated_end : (brought_run (testing (codes "unpack") 1 ∷ [])).end ≡ faults (CannotUnpack ∷ [])
+unfolding printed_forms.level_limit fmt.digits
+stated_end = refl
+
+no_sink_end : (brought_run (filtering (codes "write") 1 ∷ [])).end ≡ faults (InvalidOperation ∷ [])
+unfolding printed_forms.level_limit fmt.digits
+no_sink_end = refl
+
+-- `{{ 2|down }}` and `{{ 3|down }}` under a limit of three levels, of which the template has one
+abbrev down_run : ℕ → Run World
+down_run n = run_under (bringing 3 no_statements) (filtering (codes "down") n ∷ []) (map no_pairs)
+
+down_text : text_of (down_run 2).items ≡ codes "down"
+unfolding printed_forms.level_limit fmt.digits
+down_text = refl
+
+too_deep_end : (down_run 3).end ≡ faults (InvalidOperation ∷ [])
+unfolding printed_forms.level_limit fmt.digits
+too_deep_end = refl
+
+-- `{{ x.m() }}`, where x is a number
+method_text : text_of (brought_run (print (call (attribute (variable (codes "x")) (codes "m")) no_arguments) ∷ [])).items ≡ codes "m"
+unfolding printed_forms.level_limit fmt.digits
+method_text = refl
+
+-- `{{ 1|kept }}{{ 5|keep }}{{ 1|kept }}`
+kept_text : text_of (brought_run (filtering (codes "kept") 1 ∷ filtering (codes "keep") 5 ∷ filtering (codes "kept") 1 ∷ [])).items ≡ codes "55"
+unfolding printed_forms.level_limit fmt.digits
+kept_text = refl
+
+-- `{{ f(4) }}` and `{{ g(4) }}`: nothing has the number 4
+abbrev calling : List ℕ → Statement
+calling name = print (call (variable name) (passing (number 4 ∷ [])))
+
+function_text : text_of (brought_run (calling (codes "f") ∷ [])).items ≡ codes "8"
+unfolding printed_forms.level_limit fmt.digits
+function_text = refl
+
+no_function_end : (brought_run (calling (codes "g") ∷ [])).end ≡ faults (InvalidOperation ∷ [])
+unfolding printed_forms.level_limit fmt.digits
+no_function_end = refl
+
+-- `{{ 1|where }}{% include "b" %}{{ 1|where }}`, where b is `{{ 1|where }}`
+where_text : text_of (run_under (bringing 500 (statements (filtering (codes "where") 1 ∷ [])))
+    (filtering (codes "where") 1 ∷ tree.include (constant (text (codes "b"))) false ∷ filtering (codes "where") 1 ∷ []) (map no_pairs)).items ≡ codes "aba"
+unfolding printed_forms.level_limit fmt.digits
+where_text = refl
+
+-- `1|where`, as an expression alone
+where_end : (evaluated (bringing 500 no_statements) 0 (filtered (codes "where") (given (number 1)) no_arguments) (map no_pairs)).end
+    ≡ ends (text (codes "<expression>") ∷ [])
+unfolding printed_forms.level_limit fmt.digits
+where_end = refl
 
 -- `{{ 1 < x < 3 }}`
 abbrev chain_row : ℕ → Run World

@@ -15,7 +15,8 @@ use Rattle.template_walk.specs.Runnable.{IsTarget, AreTargets, AreAssignments}
 use Rattle.template_machine_meaning.specs.World.{Loop, Frame, World, put_local, has_room}
 use Rattle.template_machine_meaning.specs.Records.{known_of}
 use Rattle.template_machine_meaning.specs.Replies.{changed, replied_with, changed_with}
-use Rattle.template_machine_meaning.specs.Surroundings.{Programs, unpacked, unpacked_into, pushed, may_hold_loop, put_attribute, answer}
+use Rattle.template_machine_meaning.specs.Namespaces.{may_hold_loop, put_attribute}
+use Rattle.template_machine_meaning.specs.Surroundings.{Programs, unpacked, unpacked_into, pushed, answer}
 use Rattle.template_machine_meaning.proofs.Settling.{Walk, Settles, settles_then, settles_now, settles_step, settles_refused, settles_before, settles_to}
 use Rattle.template_machine_meaning.proofs.Keeping.{Keeps, loops_of, Top, top, on_frames_is}
 use Rattle.template_machine_meaning.proofs.Expressions.{Kept, settles_expression}

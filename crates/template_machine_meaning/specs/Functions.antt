@@ -1,8 +1,8 @@
 -- What is called: the functions that an environment has by itself, the methods of values, and values.
-use Rattle.std.specs.Prelude.{ℕ, zero, suc, ◌==◌, ◌-◌, ◌%◌, ◌^◌, ◌++◌, ℤ, pos, negsuc, ◌+ℤ◌, ◌*ℤ◌, int_le, nat_le, ◌&&◌, List, [], ◌∷◌, length, slice_get, Option, None, Some, unwrap_or, Result, Ok, Err, codes, bytes_eq, if◌then◌else◌}
+use Rattle.std.specs.Prelude.{ℕ, zero, suc, ◌==◌, ◌-◌, ◌%◌, ◌^◌, ◌++◌, ℤ, pos, negsuc, ◌+ℤ◌, ◌*ℤ◌, int_le, nat_le, Bool, ◌&&◌, List, [], ◌∷◌, length, slice_get, Option, None, Some, unwrap_or, Result, Ok, Err, codes, bytes_eq, if◌then◌else◌}
 use Rattle.std.specs.Ordering.{int_eq}
 use Rattle.template_values_errors.specs.declared.ErrorKind.{ErrorKind}
-use Rattle.template_values_errors.specs.declared.ErrorKind.TheVariants.{InvalidOperation, UnknownFunction, UnknownMethod, TooManyArguments, MissingArgument}
+use Rattle.template_values_errors.specs.declared.ErrorKind.TheVariants.{InvalidOperation, UnknownFunction, TooManyArguments, MissingArgument}
 use Rattle.template_values_model.specs.Val as values
 use Rattle.template_values_model.specs.Val.{Val, Pairs, no_pairs, pairs_more, int, list, keyword_map, «module», function, loop_record, macro_record, namespace, vals_of}
 use Rattle.template_values_model.specs.Lookup.{value_at}
@@ -12,7 +12,7 @@ use Rattle.template_values_forms.specs.Known.{LoopSeen, MacroSeen, Known}
 use Rattle.template_values_operators.specs.Kinds.{is_undefined}
 use Rattle.template_values_operators.specs.Slices.{step_count}
 use Rattle.template_walk.specs.Containers.{map_made}
-use Rattle.template_machine_meaning.specs.World.{range_number, dict_number, namespace_number}
+use Rattle.template_machine_meaning.specs.World.{Globals, range_number, dict_number, own_functions}
 use Rattle.template_machine_meaning.specs.Replies.{kinded}
 
 -- a bound or a step of a range: a whole number of 64 bits
@@ -82,33 +82,49 @@ namespace_given (keyword_map ps ∷ []) = Ok (names_in ps)
 namespace_given (v ∷ []) = Err InvalidOperation
 namespace_given _ = Err TooManyArguments
 
--- what a call comes to: a value or a refusal; a namespace that is made; or arguments that are compared with those that
--- `changed` was called with last for the loop of a number
+-- what is called of a user's own: the filter or the test of a name, the function of a number, or what answers for a method that
+-- a value does not have
+pub data Invoked : Type 0 where
+  filter_named : List ℕ → Invoked
+  test_named : List ℕ → Invoked
+  function_numbered : ℕ → Invoked
+  method_of : Val → List ℕ → Invoked
+
+-- what a call comes to: a value or a refusal; a namespace that is made; arguments that are compared with those that `changed`
+-- was called with last for the loop of a number; or a call of a user's own
 pub data Called : Type 0 where
   gives : Result Val ErrorKind → Called
   makes : List (Val × Val) → Called
   compares : ℕ → List Val → Called
+  invokes : Invoked → List Val → Called
 
 abbrev pub namespace_called : Result (List (Val × Val)) ErrorKind → Called
 namespace_called (Ok entries) = makes entries
 namespace_called (Err kind) = gives (Err kind)
 
-abbrev pub function_called : ℕ → List Val → Called
-function_called number vs =
+-- a function that an environment has by itself
+abbrev pub own_called : ℕ → List Val → Called
+own_called number vs =
     if number == range_number then gives (range_given vs)
     else (if number == dict_number then gives (dict_given vs)
-    else (if number == namespace_number then namespace_called (namespace_given vs)
-    else gives (Err InvalidOperation)))
+    else namespace_called (namespace_given vs))
 
--- a value is called: a function of the environment of this number; no other can be
-abbrev pub value_called : Option ℕ → Val → List Val → Called
-value_called (Some id) (function other number) vs = if other == id then function_called number vs else gives (Err InvalidOperation)
-value_called _ v vs = gives (Err InvalidOperation)
+-- those that a user gave to it come behind the numbers of these
+abbrev pub function_called : Bool → ℕ → List Val → Called
+function_called has_own number vs =
+    if nat_le own_functions number then invokes (function_numbered number) vs
+    else (if has_own then own_called number vs else gives (Err InvalidOperation))
+
+-- a value is called: a function of the environment itself; no other can be
+abbrev pub value_called : Globals → Val → List Val → Called
+value_called g (function other number) vs =
+    if other == g.environment then function_called g.has_own number vs else gives (Err InvalidOperation)
+value_called g v vs = gives (Err InvalidOperation)
 
 -- what a name stands for is called
-abbrev pub name_called : Option ℕ → Option Val → List Val → Called
-name_called functions (Some v) vs = value_called functions v vs
-name_called functions None vs = gives (Err UnknownFunction)
+abbrev pub name_called : Globals → Option Val → List Val → Called
+name_called g (Some v) vs = value_called g v vs
+name_called g None vs = gives (Err UnknownFunction)
 
 -- one argument of several, in turn, as the items of the loop are
 abbrev pub place_or_first : Option ℕ → ℕ
@@ -119,40 +135,44 @@ abbrev pub cycled : Option ℕ → List Val → Result Val ErrorKind
 cycled at [] = Err MissingArgument
 cycled at (v ∷ vs) = Ok (unwrap_or (slice_get (v ∷ vs) (place_or_first at % length (v ∷ vs))) values.undefined)
 
-abbrev pub loop_called : List ℕ → ℕ → Option LoopSeen → List Val → Called
-loop_called name number (Some seen) vs =
+abbrev pub loop_called : List ℕ → ℕ → Option LoopSeen → List Val → Called → Called
+loop_called name number (Some seen) vs missing =
     if bytes_eq name (codes "cycle") then gives (cycled seen.place vs)
     else (if bytes_eq name (codes "changed") then compares number vs
-    else gives (Err UnknownMethod))
-loop_called name number None vs = gives (Err InvalidOperation)
+    else missing)
+loop_called name number None vs missing = gives (Err InvalidOperation)
 
 -- what an object has under the name is called
-abbrev pub member_called : Option ℕ → Option Val → List Val → Called
-member_called functions (Some v) vs = value_called functions v vs
-member_called functions None vs = gives (Err UnknownMethod)
+abbrev pub member_called : Globals → Option Val → List Val → Called → Called
+member_called g (Some v) vs missing = value_called g v vs
+member_called g None vs missing = missing
 
 -- a method of an object; records that are not known have none, as a macro
-abbrev pub macro_called : Option MacroSeen → Called
-macro_called (Some seen) = gives (Err UnknownMethod)
-macro_called None = gives (Err InvalidOperation)
+abbrev pub macro_called : Option MacroSeen → Called → Called
+macro_called (Some seen) missing = missing
+macro_called None missing = gives (Err InvalidOperation)
 
-abbrev pub entries_called : Option ℕ → List ℕ → Option (List (Val × Val)) → List Val → Called
-entries_called functions name (Some entries) vs = member_called functions (value_at name (values.map (pairs_of entries))) vs
-entries_called functions name None vs = gives (Err InvalidOperation)
+abbrev pub entries_called : Globals → List ℕ → Option (List (Val × Val)) → List Val → Called → Called
+entries_called g name (Some entries) vs missing = member_called g (value_at name (values.map (pairs_of entries))) vs missing
+entries_called g name None vs missing = gives (Err InvalidOperation)
 
-abbrev pub method_called : Option ℕ → Known → List ℕ → Val → List Val → Called
-method_called functions known name (loop_record id number) vs = loop_called name number (known.loops id number) vs
-method_called functions known name (namespace id number) vs = entries_called functions name (known.namespaces id number) vs
-method_called functions known name (macro_record id number) vs = macro_called (known.macros id number)
-method_called functions known name (values.map ps) vs = member_called functions (value_at name (values.map ps)) vs
-method_called functions known name («module» ps s) vs = member_called functions (value_at name («module» ps s)) vs
-method_called functions known name v vs = gives (Err UnknownMethod)
+abbrev pub method_or : Globals → Known → List ℕ → Val → List Val → Called → Called
+method_or g known name (loop_record id number) vs missing = loop_called name number (known.loops id number) vs missing
+method_or g known name (namespace id number) vs missing = entries_called g name (known.namespaces id number) vs missing
+method_or g known name (macro_record id number) vs missing = macro_called (known.macros id number) missing
+method_or g known name (values.map ps) vs missing = member_called g (value_at name (values.map ps)) vs missing
+method_or g known name («module» ps s) vs missing = member_called g (value_at name («module» ps s)) vs missing
+method_or g known name v vs missing = missing
+
+-- where it has none, a user's own answers for it
+abbrev pub method_called : Globals → Known → List ℕ → Val → List Val → Called
+method_called g known name v vs = method_or g known name v vs (invokes (method_of v name) vs)
 
 -- a call over no values at all has no callee and no object
-abbrev pub first_called : Option ℕ → List Val → Called
-first_called functions (v ∷ vs) = value_called functions v vs
-first_called functions [] = gives (Err InvalidOperation)
+abbrev pub first_called : Globals → List Val → Called
+first_called g (v ∷ vs) = value_called g v vs
+first_called g [] = gives (Err InvalidOperation)
 
-abbrev pub first_method : Option ℕ → Known → List ℕ → List Val → Called
-first_method functions known name (v ∷ vs) = method_called functions known name v vs
-first_method functions known name [] = gives (Err InvalidOperation)
+abbrev pub first_method : Globals → Known → List ℕ → List Val → Called
+first_method g known name (v ∷ vs) = method_called g known name v vs
+first_method g known name [] = gives (Err InvalidOperation)

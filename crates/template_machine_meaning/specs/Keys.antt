@@ -3,6 +3,7 @@ use Rattle.std.specs.Prelude.{ℕ, List, Option}
 use Rattle.template_values_errors.specs.declared.modes.AutoEscape.{AutoEscape}
 use Rattle.template_values_errors.specs.declared.modes.UndefinedBehavior.{UndefinedBehavior}
 use Rattle.template_values_model.specs.Val.{Val}
+use Rattle.template_callables.specs.Callables.{Callables}
 
 -- where a stream is at home: in the template that is rendered, in one that stands under a name, or in one that was handed in
 pub data Home : Type 0 where
@@ -33,8 +34,11 @@ whole_of s = record { stream = s; part = whole }
 pub record Head : Type 0 where
   pub escape : AutoEscape
 
--- what no run changes: the heads of the templates; the limit of the depth; and what may be done with undefined values
+-- what no run changes: the name of what is rendered or evaluated; the heads of the templates; what the environment was given of
+-- its user's own; the limit of the depth; and what may be done with undefined values
 pub record Around : Type 0 where
+  pub name : List ℕ
   pub head : Home → Option Head
+  pub callables : Callables
   pub limit : ℕ
   pub undefined : UndefinedBehavior

@@ -5,7 +5,9 @@ pub mod Replies
 pub mod Keys
 pub mod Plans
 pub mod Includes
+pub mod Namespaces
 pub mod Functions
+pub mod Calls
 pub mod Spreads
 pub mod Surroundings
 pub mod Meaning

@@ -1,11 +1,13 @@
 -- What a template means for a context, under a bound; and what an expression does, without one.
-use Rattle.std.specs.Prelude.{ℕ, suc, List, [], ◌∷◌, Option, None, Some, option_map, Result, Ok, Err}
+use Rattle.std.specs.Prelude.{ℕ, suc, List, [], ◌∷◌, Option, None, Some, option_map, Result, Ok, Err, codes}
+use Rattle.std.specs.Option.{option_map_or}
 use Rattle.template_values_errors.specs.declared.ErrorKind.{ErrorKind}
 use Rattle.template_values_errors.specs.declared.modes.AutoEscape.{AutoEscape}
 use Rattle.template_values_errors.specs.declared.modes.AutoEscape.TheVariants as escapes
 use Rattle.template_values_errors.specs.declared.modes.UndefinedBehavior.{UndefinedBehavior}
 use Rattle.template_values_model.specs.Val.{Val}
 use Rattle.template_values_frozen.specs.Frozen.{frozen}
+use Rattle.template_callables.specs.Callables.{Callables}
 use Rattle.template_tree.specs.Tree.{Expression, Statements}
 use Rattle.template_process.specs.Drive.{End, ends, faults}
 use Rattle.template_process.specs.Trace.{Run, run}
@@ -17,16 +19,18 @@ use Rattle.template_machine_meaning.specs.Keys as keys
 use Rattle.template_machine_meaning.specs.Keys.{Home, standing, kept, Stream, own, Part, whole, Key, whole_of, Head, Around}
 use Rattle.template_machine_meaning.specs.Surroundings.{Programs, runners, answer, ran}
 
--- a template that stands: its tree, and the escape of its name when it was added
+-- a template that stands: its name, its tree, and the escape of its name when it was added
 pub record Standing : Type 0 where
+  pub name : List ℕ
   pub tree : Statements
   pub escape : AutoEscape
 
--- what no render changes: the templates that stand; what stands under all frames; the limit of the depth; and what may be done
--- with undefined values
+-- what no render changes: the templates that stand; what stands under all frames; what the environment was given of its user's
+-- own; the limit of the depth; and what may be done with undefined values
 pub record Setting : Type 0 where
   pub templates : List ℕ → Option Standing
   pub globals : Globals
+  pub callables : Callables
   pub limit : ℕ
   pub undefined : UndefinedBehavior
 
@@ -50,6 +54,8 @@ head_of t = record { escape = t.escape }
 
 abbrev pub around_of : Setting → Option Standing → Around
 around_of setting root = record {
+  name = option_map_or (λ (t : Standing). t.name) root (codes "<expression>");
+  callables = setting.callables;
   head = λ home. option_map head_of (template_at setting root home);
   limit = setting.limit;
   undefined = setting.undefined;

@@ -8,7 +8,7 @@ use Rattle.template_process.specs.Drive.{End, ends, faults}
 use Rattle.template_process.specs.Trace.{Item, paid, written, Reply, Run}
 use Rattle.template_machine_meaning.specs.World.{World, has_room}
 use Rattle.template_machine_meaning.specs.Replies.{refused}
-use Rattle.template_machine_meaning.specs.Keys.{Key}
+use Rattle.template_machine_meaning.specs.Keys.{Stream, Key}
 
 -- why a run is entered: that says what is told at its end, and what is put back
 pub data Purpose : Type 0 where
@@ -31,17 +31,18 @@ room_for limit levels w x = if has_room limit levels w then enters x else replie
 
 -- what of a run's world is put back behind a run within it, whatever its end
 pub record Caller : Type 0 where
+  pub here : Stream
   pub outer : ℕ
   pub escape : AutoEscape
   pub saved : List AutoEscape
   pub first : AutoEscape
 
 abbrev pub caller_of : World → Caller
-caller_of w = record { outer = w.outer; escape = w.escape; saved = w.saved; first = w.first }
+caller_of w = record { here = w.here; outer = w.outer; escape = w.escape; saved = w.saved; first = w.first }
 
 -- all else stays as the run within left it
 abbrev pub put_back : Caller → World → World
-put_back c v = record v { outer = c.outer; escape = c.escape; saved = c.saved; first = c.first }
+put_back c v = record v { here = c.here; outer = c.outer; escape = c.escape; saved = c.saved; first = c.first }
 
 abbrev pub after_by : Purpose → Caller → World → World
 after_by includes c v = put_back c v

@@ -3,13 +3,15 @@
 ghost use Rattle.template_machine_meaning.specs.Isolation.{IsolatesExpressions, IsolatesNames};
 
 /// Over two contexts that agree on the names that a template and the templates that stand use, and on
-/// those that the engine gives, a render leaves the same trace and comes to the same end.
+/// those that the engine gives, a render leaves the same trace and comes to the same end, where no
+/// callable of a user's own asks for a name.
 pub fn isolation()
     ensures { IsolatesNames }
 {}
 
 /// Over two contexts that agree on the names that stand in an expression, its evaluation leaves the same
-/// trace and comes to the same end, with its value handed out.
+/// trace and comes to the same end, with its value handed out, where no callable of a user's own asks for
+/// a name.
 pub fn expression_isolation()
     ensures { IsolatesExpressions }
 {}

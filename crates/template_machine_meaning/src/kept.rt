@@ -4,7 +4,7 @@ ghost use Rattle.template_machine_meaning.specs.Keeps.{ExpressionFaultsAreMeant,
 
 /// A run counts as much depth around its frames at its end as at its start. A machine has faults of its own, for want of
 /// memory, for a sink that fails, or for code that is lost: none of these stands among the kinds that the run ends with, nor
-/// among those that wrap its faults, however many includes they come from.
+/// among those that wrap its faults, however many includes they come from, and whatever a user's own callables state.
 pub fn runs_keep()
     ensures { RunsKeep }
 {}
