@@ -1,22 +1,21 @@
 -- What an environment gives to its runs, and what becomes of it.
-use Rattle.std.specs.Prelude.{ℕ, List, [], ◌∷◌, Some, bytes_eq, codes}
-use Rattle.std.specs.BTreeMap.{insert_entry}
-use Rattle.std.specs.Cmp.Lexicographic.{slice_cmp}
+use Rattle.std.specs.Prelude.{ℕ, true, List, [], ◌∷◌, bytes_eq, codes}
 use Rattle.std.specs.Map.{remove_entry}
-use Rattle.std.specs.Ordering.{nat_cmp}
 use Rattle.template_values_model.specs.Val.{Val, function}
+use Rattle.template_values_named.specs.Named.{with_named}
 use Rattle.template_machine_meaning.specs.World.{Globals, range_number, dict_number, namespace_number}
 
 -- the functions that the environment of a number has by itself, under their names
 abbrev pub own_globals : ℕ → Globals
 own_globals id = record {
-  functions = Some id;
+  environment = id;
+  has_own = true;
   named = (codes "dict", function id dict_number) ∷ (codes "namespace", function id namespace_number) ∷ (codes "range", function id range_number) ∷ [];
 }
 
 -- the name has the value from now on: names stand in their order
 abbrev pub with_global : List ℕ → Val → Globals → Globals
-with_global name v g = record g { named = insert_entry (slice_cmp nat_cmp) g.named name v }
+with_global name v g = record g { named = with_named name v g.named }
 
 -- the name has none
 abbrev pub without_global : List ℕ → Globals → Globals

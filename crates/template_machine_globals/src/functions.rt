@@ -8,3 +8,6 @@ pub const DICT: usize = 1;
 
 /// The number of the function `namespace`.
 pub const NAMESPACE: usize = 2;
+
+/// How many there are: a user's functions have the numbers from here on.
+pub const OWN_FUNCTIONS: usize = 3;

@@ -1,5 +1,5 @@
 //! Values under names that all runs know.
-ghost use Rattle.std.specs.Prelude.{◌≡◌, ◌||◌, ℕ, List, [], None, Some, IfOk, IfErr, OnOk, OnErr, bytes_eq, if◌then◌else◌, is_some, map, option_copied};
+ghost use Rattle.std.specs.Prelude.{◌≡◌, ◌||◌, ℕ, List, [], None, Some, IfOk, IfErr, OnOk, OnErr, bytes_eq, false, if◌then◌else◌, is_some, map, option_copied};
 ghost use Rattle.std.specs.BTreeSet.{contains_text};
 ghost use Rattle.std.specs.Cmp.Lexicographic.{slice_cmp};
 ghost use Rattle.std.specs.List.Sorted.{IsStrictlySortedBy};
@@ -10,45 +10,46 @@ ghost use Rattle.template_machine_meaning.specs.World.{local_at};
 ghost use Rattle.template_machine_globals.specs.Globals.{own_globals, with_global, without_global};
 
 use crate::functions::{DICT, NAMESPACE, RANGE};
-use crate::names::{add_names, entries_of, put};
 use std::alloc::Global;
-use std::collections::{BTreeMap, BTreeSet};
+use std::collections::BTreeSet;
 use std::marker::Model;
 use template_values_core::Value;
 use template_values_errors::Error;
+use template_values_named::NamedValues;
 
-/// What an environment gives to each run: its number, where its own functions can be called; and names with their values, which a
+/// What an environment gives to each run: its number; whether it has functions by itself; and names with their values, which a
 /// template finds where no frame knows the name.
 #[derive(Drop)]
 pub struct Globals {
-    functions: Option<u64>,
-    named: BTreeMap<String, Value>,
+    environment: u64,
+    has_own: bool,
+    named: NamedValues,
 }
 
 impl Model for Globals {
     ghost use Rattle.template_machine_meaning.specs.World as worlds;
     ghost use Rattle.template_machine_globals.specs.Codes.{globals_code};
-    ghost use Rattle.template_machine_globals.specs.Named.{named_in};
 
     ghost Value = { worlds.Globals };
 
     ghost coded = { globals_code };
 
-    ghost view = { λ g. record { functions = g.functions; named = named_in g.named } };
+    ghost view = { λ g. record { environment = g.environment; has_own = g.has_own; named = g.named } };
 }
 
 impl Globals {
-    /// No names, and no functions that can be called.
-    pub fn empty(alloc: Global) -> Globals
-        ensures { result ≡ record { functions = None; named = [] } }
+    /// No names, and no functions, for the environment of a number.
+    pub fn empty(alloc: Global, id: u64) -> Globals
+        ensures { result ≡ record { environment = id; has_own = false; named = [] } }
     {
         Globals {
-            functions: None,
-            named: BTreeMap::new(alloc),
+            environment: id,
+            has_own: false,
+            named: NamedValues::new(alloc),
         }
     }
 
-    /// The functions `range`, `dict` and `namespace` of the environment of a number, under their names, which can be called.
+    /// The functions `range`, `dict` and `namespace` of the environment of a number, under their names.
     ///
     /// # Errors
     ///
@@ -58,8 +59,9 @@ impl Globals {
         ensures refused { IfErr result NoMemory }
     {
         let mut globals = Globals {
-            functions: Some(id),
-            named: BTreeMap::new(alloc),
+            environment: id,
+            has_own: true,
+            named: NamedValues::new(alloc),
         };
         globals.insert(alloc, "range", Value::function(id, RANGE))?;
         globals.insert(alloc, "dict", Value::function(id, DICT))?;
@@ -67,12 +69,20 @@ impl Globals {
         Ok(globals)
     }
 
-    /// The number of the environment whose own functions can be called, if they can.
+    /// The number of the environment.
     #[inline]
-    pub fn functions(&self) -> Option<u64>
-        ensures { result ≡ self.now.functions }
+    pub fn environment(&self) -> u64
+        ensures { result ≡ self.now.environment }
     {
-        self.functions
+        self.environment
+    }
+
+    /// Whether the environment has functions by itself, which can be called.
+    #[inline]
+    pub fn has_own(&self) -> bool
+        ensures { result ≡ self.now.has_own }
+    {
+        self.has_own
     }
 
     /// The value of a name, if it has one. Logarithmic in the number of names.
@@ -91,11 +101,12 @@ impl Globals {
         ensures put { OnOk result (self.new ≡ with_global name.now value self.old) }
         ensures found { OnOk result ((other : List ℕ)
             → local_at other self.new.named ≡ (if bytes_eq name.now other then Some value else local_at other self.old.named)) }
-        ensures functions { self.new.functions ≡ self.old.functions }
+        ensures environment { self.new.environment ≡ self.old.environment }
+        ensures own { self.new.has_own ≡ self.old.has_own }
         ensures refused { IfErr result NoMemory }
         ensures unchanged { OnErr result (self.new ≡ self.old) }
     {
-        put(&mut self.named, String::from_str(alloc, name)?, value)?;
+        let _replaced = self.named.insert(alloc, name, value)?;
         Ok(())
     }
 
@@ -104,7 +115,8 @@ impl Globals {
         ensures removed { self.new ≡ without_global name.now self.old }
         ensures found { (other : List ℕ)
             → local_at other self.new.named ≡ (if bytes_eq name.now other then None else local_at other self.old.named) }
-        ensures functions { self.new.functions ≡ self.old.functions }
+        ensures environment { self.new.environment ≡ self.old.environment }
+        ensures own { self.new.has_own ≡ self.old.has_own }
     {
         let _removed = self.named.remove(name);
     }
@@ -119,7 +131,7 @@ impl Globals {
         ensures ordered { IfOk result (λ entries. IsStrictlySortedBy (slice_cmp nat_cmp) (map (λ e. e.0.now) entries.items)) }
         ensures refused { IfErr result NoMemory }
     {
-        entries_of(alloc, &self.named)
+        self.named.entries(alloc)
     }
 
     /// Adds the names to a set of names. Takes a look-up in the set for each name.
@@ -132,6 +144,6 @@ impl Globals {
             ≡ (contains_text names.old q || is_some (local_at q self.now.named))) }
         ensures refused { IfErr result NoMemory }
     {
-        add_names(alloc, names, &self.named)
+        self.named.add_names(alloc, names)
     }
 }

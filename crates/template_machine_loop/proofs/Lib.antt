@@ -6,3 +6,4 @@ pub mod Failing
 pub mod Stretching
 mod Onward
 mod Following
+mod Calling

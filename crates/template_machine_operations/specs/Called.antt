@@ -5,7 +5,7 @@ use Rattle.template_values_errors.specs.Memory.{NoMemory}
 use Rattle.template_values_model.specs.Val.{Val}
 use Rattle.template_values_core.specs.Shape.{pairs_in}
 use Rattle.template_machine_meaning.specs.Functions as functions
-use Rattle.template_machine_meaning.specs.Functions.{gives, makes, compares}
+use Rattle.template_machine_meaning.specs.Functions.{gives, makes, compares, function_numbered, invokes}
 use Rattle.template_machine_operations.specs.declared.called.Called.{Called}
 use Rattle.template_machine_operations.specs.declared.called.Called.TheVariants as called
 
@@ -19,4 +19,11 @@ abbrev pub Comes : Result Called (List ErrorKind) → List Val → functions.Cal
 Comes (Ok (called.Value v)) args reply = reply ≡ gives (Ok v)
 Comes (Ok (called.Namespace entries)) args reply = reply ≡ makes (pairs_in entries.items)
 Comes (Ok (called.Changed number)) args reply = reply ≡ compares number args
+Comes (Ok (called.Function number)) args reply = reply ≡ invokes (function_numbered number) args
 Comes (Err kinds) args reply = NoMemory kinds ⊎ (refusal_of reply ≡ Some kinds)
+
+-- so does a call of a method, where one that is missing comes to that
+abbrev pub ComesOr : functions.Called → Result (Option Called) (List ErrorKind) → List Val → functions.Called → Type 0
+ComesOr missing (Ok (Some came)) args reply = Comes (Ok came) args reply
+ComesOr missing (Ok None) args reply = reply ≡ missing
+ComesOr missing (Err kinds) args reply = NoMemory kinds ⊎ (refusal_of reply ≡ Some kinds)

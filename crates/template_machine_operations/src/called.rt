@@ -10,4 +10,6 @@ pub enum Called {
     Namespace(Vec<Entry>),
     /// The arguments are to be compared with those that `changed` was called with last for the loop of this number.
     Changed(usize),
+    /// A function that a user gave to the environment is to be called: the one of this number.
+    Function(usize),
 }

@@ -1,52 +1,42 @@
 //! Calls of methods.
-ghost use Rattle.std.specs.Prelude.{◌≡◌, Some, drop, option_copied, option_map};
+ghost use Rattle.std.specs.Prelude.{◌≡◌, List, option_copied, option_map};
+ghost use Rattle.template_values_model.specs.Val.{Val};
 ghost use Rattle.template_values_model.specs.Lookup.{entry_at, is_text};
 ghost use Rattle.template_values_core.specs.Maps.{pairs_of};
 ghost use Rattle.template_values_core.specs.Shape.{pairs_in};
 ghost use Rattle.template_values_forms.specs.Views.{loop_seen, macro_seen};
-ghost use Rattle.template_machine_meaning.specs.Functions.{cycled, entries_called, first_method, loop_called, macro_called, member_called, method_called};
+ghost use Rattle.template_machine_meaning.specs.Functions as functions;
+ghost use Rattle.template_machine_meaning.specs.Functions.{cycled, entries_called, loop_called, macro_called, member_called, method_or};
 ghost use Rattle.template_machine_operations.specs.Answers.{Answers};
-ghost use Rattle.template_machine_operations.specs.Called.{Comes, refusal_of};
+ghost use Rattle.template_machine_operations.specs.Called.{ComesOr};
 
 use crate::called::Called;
-use crate::calls::call;
+use crate::calls::call_value;
 use std::alloc::Global;
+use template_machine_globals::Globals;
 use template_values_core::{Content, Entry, Value};
 use template_values_errors::{Error, ErrorKind};
 use template_values_forms::{LoopView, MacroView, Records};
 use template_values_operators::refusal;
 
-/// Calls a method of the first of the values with the others: what a map, a module or a namespace has under the name, or what
-/// a loop does by itself. As dear as the function; `cycle` and `changed` take one step.
+/// Calls a method of an object: what a map, a module or a namespace has under the name, or what a loop does by itself; none
+/// where the object has no method of this name. As dear as [`call_value`](crate::call_value); `cycle` and `changed` take one
+/// step.
 ///
 /// # Errors
 ///
-/// [`ErrorKind::UnknownMethod`] where it has none of this name; [`ErrorKind::InvalidOperation`] at a foreign record, and where
-/// there are no values at all; else as [`call_value`](crate::call_value).
+/// [`ErrorKind::InvalidOperation`] at a foreign record; [`ErrorKind::MissingArgument`] at `cycle` without arguments; else as
+/// [`call_value`](crate::call_value).
 pub fn call_method<R: Records>(
     alloc: Global,
-    functions: Option<u64>,
-    name: &str,
-    values: &[Value],
-    records: &R,
-) -> Result<Called, Error>
-    ensures { Comes result (drop 1 values.now) (first_method functions (R.known records.now) name.now values.now) }
-{
-    match values.split_first() {
-        Some((object, args)) => call_method_of(alloc, functions, name, object, args, records),
-        None => refusal(),
-    }
-}
-
-fn call_method_of<R: Records>(
-    alloc: Global,
-    functions: Option<u64>,
+    globals: &Globals,
     name: &str,
     object: &Value,
     args: &[Value],
     records: &R,
-) -> Result<Called, Error>
-    ensures { Comes result args.now (method_called functions (R.known records.now) name.now object.now args.now) }
+) -> Result<Option<Called>, Error>
+    ensures { (missing : functions.Called) →
+        ComesOr missing result args.now (method_or globals.now (R.known records.now) name.now object.now args.now missing) }
 {
     match object.content() {
         Content::Loop(id, number) => call_of_loop(
@@ -55,14 +45,14 @@ fn call_method_of<R: Records>(
             records.loop_view(id, number),
             args,
         ),
-        Content::Macro(id, number) => Err(macro_refusal(records.macro_view(id, number))),
+        Content::Macro(id, number) => call_of_macro(records.macro_view(id, number)),
         Content::Namespace(id, number) => {
-            call_of_namespace(alloc, functions, name, records.namespace(id, number), args)
+            call_of_namespace(alloc, globals, name, records.namespace(id, number), args)
         }
         Content::Map(_) | Content::Module(_, _) => {
-            call_member(alloc, functions, object.value_at(name), args)
+            call_member(alloc, globals, object.value_at(name), args)
         }
-        _ => Err(Error::new(ErrorKind::UnknownMethod)),
+        _ => Ok(None),
     }
 }
 
@@ -73,18 +63,19 @@ fn call_of_loop(
     number: usize,
     view: Option<LoopView<'_>>,
     args: &[Value],
-) -> Result<Called, Error>
-    ensures { Comes result args.now (loop_called name.now number (option_map loop_seen view.entry) args.now) }
+) -> Result<Option<Called>, Error>
+    ensures { (missing : functions.Called) →
+        ComesOr missing result args.now (loop_called name.now number (option_map loop_seen view.entry) args.now missing) }
 {
     let Some(view) = view else {
         return refusal();
     };
     if name == "cycle" {
-        Ok(Called::Value(cycle(view.place, args)?))
+        Ok(Some(Called::Value(cycle(view.place, args)?)))
     } else if name == "changed" {
-        Ok(Called::Changed(number))
+        Ok(Some(Called::Changed(number)))
     } else {
-        Err(Error::new(ErrorKind::UnknownMethod))
+        Ok(None)
     }
 }
 
@@ -98,27 +89,28 @@ fn cycle(place: Option<usize>, args: &[Value]) -> Result<Value, Error>
 }
 
 /// A macro has no methods; one that is not known is refused.
-fn macro_refusal(view: Option<MacroView<'_>>) -> Error
-    ensures { refusal_of (macro_called (option_map macro_seen view.entry)) ≡ Some result }
+fn call_of_macro(view: Option<MacroView<'_>>) -> Result<Option<Called>, Error>
+    ensures { (missing : functions.Called) (args : List Val) →
+        ComesOr missing result args (macro_called (option_map macro_seen view.entry) missing) }
 {
     match view {
-        Some(_) => Error::new(ErrorKind::UnknownMethod),
-        None => Error::new(ErrorKind::InvalidOperation),
+        Some(_) => Ok(None),
+        None => refusal(),
     }
 }
 
 fn call_of_namespace(
     alloc: Global,
-    functions: Option<u64>,
+    globals: &Globals,
     name: &str,
     entries: Option<&[Entry]>,
     args: &[Value],
-) -> Result<Called, Error>
-    ensures { let entries = option_map (λ es. pairs_in es.now) entries.entry in
-        Comes result args.now (entries_called functions name.now entries args.now) }
+) -> Result<Option<Called>, Error>
+    ensures { let entries = option_map (λ es. pairs_in es.now) entries.entry in (missing : functions.Called) →
+        ComesOr missing result args.now (entries_called globals.now name.now entries args.now missing) }
 {
     match entries {
-        Some(entries) => call_member(alloc, functions, entry_at(entries, name), args),
+        Some(entries) => call_member(alloc, globals, entry_at(entries, name), args),
         None => refusal(),
     }
 }
@@ -126,15 +118,16 @@ fn call_of_namespace(
 /// Calls what an object has under a name.
 fn call_member(
     alloc: Global,
-    functions: Option<u64>,
+    globals: &Globals,
     member: Option<&Value>,
     args: &[Value],
-) -> Result<Called, Error>
-    ensures { Comes result args.now (member_called functions (option_copied member.entry) args.now) }
+) -> Result<Option<Called>, Error>
+    ensures { (missing : functions.Called) →
+        ComesOr missing result args.now (member_called globals.now (option_copied member.entry) args.now missing) }
 {
     match member {
-        Some(callee) => call(alloc, functions, callee, args),
-        None => Err(Error::new(ErrorKind::UnknownMethod)),
+        Some(callee) => Ok(Some(call_value(alloc, globals, callee, args)?)),
+        None => Ok(None),
     }
 }
 

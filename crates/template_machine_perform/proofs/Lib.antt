@@ -7,5 +7,3 @@ pub mod Straying
 mod Catching
 mod Unanswered
 mod Naming
-mod Declining
-mod Calling

@@ -1,26 +1,24 @@
-//! What a machine does at each instruction but an include and a return.
+//! What a machine does at each instruction but an include, a call and a return.
 #![tactic(auto)]
 
 mod asides;
 mod at_once;
 mod attributes;
-mod calls;
+mod bounds;
 mod captures;
 mod escapes;
-mod filters;
 mod frames;
 mod loops;
 mod names;
 mod operands;
 mod plain;
-mod rules;
 mod scoped;
 mod writing;
 
 pub use asides::{made_of, number_given};
 pub use at_once::{begin_at_once, perform_at_once};
 pub use attributes::set_attr;
-pub use calls::{call_function, call_method, call_object};
+pub use bounds::Bounds;
 pub use captures::{begin_capture, end_capture};
 pub use escapes::{pop_auto_escape, push_auto_escape};
 pub use frames::{pop_frame, push_with};
@@ -29,6 +27,6 @@ pub use names::{
     lookup, lookup_at_once, lookup_global, number_named, store_local, store_local_at_once,
     store_number,
 };
-pub use plain::{perform, perform_at_length};
-pub use rules::Rules;
+pub use operands::straight;
+pub use plain::perform_at_length;
 pub use writing::{emit, emit_raw, emit_value};

@@ -6,7 +6,6 @@ ghost use Rattle.template_machine_operands.specs.Operands.{operands_in};
 ghost use Rattle.template_machine_steps.specs.Performs.{Leads, ruled};
 ghost use Rattle.template_machine_perform.specs.Performs.{straight, operator_in, IsOfOperands};
 
-use crate::filters::{apply_filter, perform_test};
 use std::alloc::Global;
 use template_code::{CompareOp, Instruction};
 use template_machine_operands::Operands;
@@ -20,9 +19,13 @@ use template_machine_steps::{
 use template_tree::{BinOpKind, CompareOpKind};
 use template_values_errors::{Error, ErrorKind, UndefinedBehavior};
 
-// Behind the instruction, where it was performed.
+/// Behind the instruction, where it was performed.
+///
+/// # Errors
+///
+/// That with which it was refused.
 #[inline(always)]
-pub(crate) fn straight(done: Result<(), Error>) -> Result<Way, Error>
+pub fn straight(done: Result<(), Error>) -> Result<Way, Error>
     ensures { result ≡ straight done }
 {
     match done {
@@ -126,8 +129,6 @@ fn perform_without_operator(
         Instruction::UnpackLists(count) => {
             straight(unpack_lists(alloc, *count, operands, state))
         }
-        Instruction::ApplyFilter(_, count, _) => straight(apply_filter(*count, operands)),
-        Instruction::PerformTest(_, count, _) => straight(perform_test(*count, operands)),
         Instruction::Neg => straight(negate(operands)),
         Instruction::Not => straight(invert(mode, operands, state)),
         Instruction::IsUndefined => straight(is_undefined(operands)),

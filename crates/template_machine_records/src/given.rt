@@ -1,7 +1,7 @@
 //! What `changed` was called with.
 ghost use Rattle.std.specs.Prelude.{◌≡◌, ◌==◌, [], IfErr, OnErr, OnOk, length, option_map};
 ghost use Rattle.template_values_errors.specs.Memory.{NoMemory};
-ghost use Rattle.template_machine_meaning.specs.Surroundings.{are_as_before};
+ghost use Rattle.template_machine_meaning.specs.Calls.{are_as_before};
 ghost use Rattle.template_machine_meaning.specs.World.{drop_given, given_at, put_given};
 
 use crate::call::{Call, position};

@@ -2,7 +2,7 @@
 ghost use Rattle.std.specs.Prelude.{Option};
 ghost use Rattle.template_code.specs.Listing.{code_in};
 ghost use Rattle.template_machine_loop.specs.Outcomes.{TellsFailures};
-ghost use Rattle.template_machine_loop.specs.Programs.{programs_of, Standing};
+ghost use Rattle.template_machine_loop.specs.Programs.{programs_under, Standing};
 ghost use Rattle.template_machine_loop.specs.Runs.{Evaluates, Runs};
 
 use std::alloc::Global;
@@ -14,8 +14,8 @@ use template_values_core::Value;
 use template_values_errors::Error;
 
 /// Runs a template's code in a state, and the templates that it includes among those that stand, in the time that
-/// [`run_to_end`] tells. A fuel, if one is set, is charged before each instruction. Texts of printed values may be made
-/// in `scratch`, which loses what it holds and keeps its room.
+/// [`run_to_end`] tells. Where it calls what is a user's own, `templates` answers. A fuel, if one is set, is charged before each
+/// instruction. Texts of printed values may be made in `scratch`, which loses what it holds and keeps its room.
 ///
 /// # Errors
 ///
@@ -23,7 +23,7 @@ use template_values_errors::Error;
 /// `OutOfMemory`, `WriteFailure`, and `BadStream`.
 pub fn run_code<'env, T: Templates, S: Sink>(
     alloc: Global,
-    rules: Rules,
+    rules: Rules<'_>,
     templates: &'env T,
     code: &'env Instructions<'_>,
     state: &mut State<'env>,
@@ -32,8 +32,8 @@ pub fn run_code<'env, T: Templates, S: Sink>(
     sink: &mut S,
 ) -> Result<(), Error>
     ensures runs { (root : Option Standing) →
-        Runs (programs_of (T.standing templates.now) root rules.limit rules.undefined) (code_in code.now) state.old left.old (S.taken sink.old)
-        result state.new left.new (S.taken sink.new) }
+        Runs (programs_under (T.standing templates.now) (T.callables templates.now) root rules.entry) (code_in code.now)
+        state.old left.old (S.taken sink.old) result state.new left.new (S.taken sink.new) }
     ensures failures { TellsFailures result (S.failures sink.old) (S.failures sink.new) }
 {
     let _operands = run_to_end(alloc, rules, templates, code, state, left, scratch, sink)?;
@@ -49,7 +49,7 @@ pub fn run_code<'env, T: Templates, S: Sink>(
 /// meets.
 pub fn run_expression<'env, T: Templates, S: Sink>(
     alloc: Global,
-    rules: Rules,
+    rules: Rules<'_>,
     templates: &'env T,
     code: &'env Instructions<'_>,
     state: &mut State<'env>,
@@ -58,8 +58,8 @@ pub fn run_expression<'env, T: Templates, S: Sink>(
     sink: &mut S,
 ) -> Result<Value, Error>
     ensures evaluates { (root : Option Standing) →
-        Evaluates (programs_of (T.standing templates.now) root rules.limit rules.undefined) (code_in code.now) state.old left.old (S.taken sink.old)
-        result state.new left.new (S.taken sink.new) }
+        Evaluates (programs_under (T.standing templates.now) (T.callables templates.now) root rules.entry) (code_in code.now)
+        state.old left.old (S.taken sink.old) result state.new left.new (S.taken sink.new) }
     ensures failures { TellsFailures result (S.failures sink.old) (S.failures sink.new) }
 {
     let mut operands = run_to_end(alloc, rules, templates, code, state, left, scratch, sink)?;

@@ -1,8 +1,10 @@
-//! What surrounds a running template: its frames, its depth, the escape in force, and what of its text is captured.
+//! What surrounds a running template: where it stands, its frames, its depth, the escape in force, what of its text is captured,
+//! and what callables have set.
 #![tactic(auto)]
 
 mod caller;
 mod capture;
+mod home;
 mod records;
 mod state;
 

@@ -5,10 +5,15 @@ ghost use Rattle.template_values_forms.specs.Views.{loop_seen};
 ghost use Rattle.template_values_model.specs.Val as values;
 ghost use Rattle.template_values_core.specs.Shape.{pairs_in};
 ghost use Rattle.template_process.specs.Process as process;
+ghost use Rattle.template_callables.specs.Callables.{Asked};
+ghost use Rattle.template_process.specs.Trace.{Reply};
+ghost use Rattle.template_machine_meaning.specs.Calls.{called_reply};
 ghost use Rattle.template_machine_meaning.specs.Functions.{compares};
+ghost use Rattle.template_machine_meaning.specs.Keys.{Around};
+ghost use Rattle.template_machine_meaning.specs.World.{World};
 ghost use Rattle.template_machine_meaning.specs.Records.{known_of, loop_numbered, loops_of, seen_of};
 ghost use Rattle.template_machine_meaning.specs.Replies as replies;
-ghost use Rattle.template_machine_meaning.specs.Surroundings.{called_reply, made_namespace, may_hold_loop, may_hold_loops, put_attribute, with_attribute};
+ghost use Rattle.template_machine_meaning.specs.Namespaces.{made_namespace, may_hold_loop, may_hold_loops, put_attribute, with_attribute};
 ghost use Rattle.template_machine_frames.specs.Frames.{Becomes};
 
 use crate::state::State;
@@ -94,8 +99,8 @@ impl<'env> State<'env> {
     ///
     /// [`ErrorKind::OutOfMemory`]; the state is then as it was.
     pub fn changed(&mut self, number: usize, args: Vec<Value>) -> Result<bool, Error>
-        ensures told { IfOk result (λ is.
-            called_reply self.old (compares number args.items) ≡ replies.changed self.new (process.value (values.truth is))) }
+        ensures told { IfOk result (λ is. (a : Around) (go : World → Asked → Reply World) →
+            called_reply a go self.old (compares number args.items) ≡ replies.changed self.new (process.value (values.truth is))) }
         ensures refused { IfErr result NoMemory }
         ensures unchanged { OnErr result (self.new ≡ self.old) }
     {

@@ -1,5 +1,5 @@
 use Rattle.template_code.specs.Code as codes
-use Rattle.template_machine_meaning.specs.Surroundings.{with_attribute}
+use Rattle.template_machine_meaning.specs.Namespaces.{with_attribute}
 use Rattle.template_machine_operands.specs.Operands.{operands_in}
 use Rattle.template_machine_acts.proofs.Framing.{set_attribute_acts}
 use Rattle.template_machine_steps.specs.Performs.{spot}

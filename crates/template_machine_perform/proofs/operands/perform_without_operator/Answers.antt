@@ -96,18 +96,10 @@ pub returns-in-MergeKwargs : goal.returns-in-MergeKwargs
 returns-in-MergeKwargs c program limit =
     straight_leads _ (codes.merge_kwargs _) _ _ _ _ _ _ _ (ap code_of c.in-MergeKwargs.is) c.straight-in-MergeKwargs.ensures (c.merge_kwargs.ensures program limit c.args.state.now refl)
 
-pub returns-in-ApplyFilter : goal.returns-in-ApplyFilter
-returns-in-ApplyFilter c program limit =
-    straight_leads _ (codes.apply_filter _ _ _) _ _ _ _ _ _ _ (ap code_of c.in-ApplyFilter.is) c.straight-in-ApplyFilter.ensures (c.apply_filter.ensures (ruled program limit c.args.mode) _ _ c.args.state.now)
-
-pub returns-in-PerformTest : goal.returns-in-PerformTest
-returns-in-PerformTest c program limit =
-    straight_leads _ (codes.perform_test _ _ _) _ _ _ _ _ _ _ (ap code_of c.in-PerformTest.is) c.straight-in-PerformTest.ensures (c.perform_test.ensures (ruled program limit c.args.mode) _ _ c.args.state.now)
-
 pub returns-in_default : goal.returns-in_default
 returns-in_default c program limit =
     let h = c.in_default in
     astray_out (ruled program limit c.args.mode) (code_of c.args.instruction.now) _ c.args.state.now _ _ _ _
     (λ before place left taken. unanswered_astray (ruled program limit c.args.mode) before _ (spot place _ c.args.state.now left taken)
-    (none_left c.args.instruction.now c.requires.operands c.requires.no_operator h.not-LoadConst h.not-Swap h.not-DupTop h.not-DiscardTop h.not-GetAttr h.not-GetItem h.not-Slice h.not-BuildList h.not-BuildTuple h.not-BuildMap h.not-BuildKwargs h.not-MergeKwargs h.not-UnpackList h.not-UnpackLists h.not-ApplyFilter h.not-PerformTest h.not-Neg h.not-Not h.not-IsUndefined h.not-CompareAndPreserve h.not-Jump h.not-JumpIfFalse h.not-JumpIfFalseOrPop h.not-JumpIfTrueOrPop))
+    (none_left c.args.instruction.now c.requires.operands c.requires.no_operator h.not-LoadConst h.not-Swap h.not-DupTop h.not-DiscardTop h.not-GetAttr h.not-GetItem h.not-Slice h.not-BuildList h.not-BuildTuple h.not-BuildMap h.not-BuildKwargs h.not-MergeKwargs h.not-UnpackList h.not-UnpackLists h.not-Neg h.not-Not h.not-IsUndefined h.not-CompareAndPreserve h.not-Jump h.not-JumpIfFalse h.not-JumpIfFalseOrPop h.not-JumpIfTrueOrPop))
     c.new.ensures

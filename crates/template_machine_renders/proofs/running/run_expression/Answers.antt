@@ -1,6 +1,6 @@
 use Rattle.std.proofs.Common.{rules}
 use Rattle.template_code.specs.Listing.{code_in}
-use Rattle.template_machine_loop.specs.Programs.{programs_of}
+use Rattle.template_machine_loop.specs.Programs.{programs_under}
 use Rattle.template_machine_renders.proofs.Uppermost.{evaluates_uppermost}
 use Rattle.template_machine_renders.proofs.running.run_expression.Goals as goal
 
@@ -9,7 +9,7 @@ returns-in_err-operands-clause-evaluates g c root = let runs = c.in_err-operands
 
 pub returns-clause-evaluates : goal.returns-clause-evaluates
 returns-clause-evaluates g c root =
-    evaluates_uppermost (programs_of (g.T.Templates.standing c.args.templates.now) root c.args.rules.limit c.args.rules.undefined) (code_in c.args.code.now)
+    evaluates_uppermost (programs_under (g.T.Templates.standing c.args.templates.now) (g.T.Callbacks.callables c.args.templates.now) root c.args.rules) (code_in c.args.code.now)
     c.args.state.now c.args.left.now (g.S.Sink.taken c.args.sink.now) _ _ c.take_uppermost.result c.run_to_end.new.state c.run_to_end.new.left
     (g.S.Sink.taken c.run_to_end.new.sink) (c.in_ok-operands.ensures.runs root) c.take_uppermost.ensures.taken c.take_uppermost.ensures.none
     c.take_uppermost.ensures.kind

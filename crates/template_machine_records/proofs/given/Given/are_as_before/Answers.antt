@@ -1,7 +1,7 @@
 -- Arguments are compared one by one.
 use Rattle.std.proofs.Common.{◌∙◌, ap, List, Option}
 use Rattle.template_values_model.specs.Val.{Val}
-use Rattle.template_machine_meaning.specs.Surroundings.{are_as_before}
+use Rattle.template_machine_meaning.specs.Calls.{are_as_before}
 use Rattle.template_machine_records.proofs.Comparing.{lists_alike}
 use Rattle.template_machine_records.proofs.given.Given.are_as_before.Goals as goal
 

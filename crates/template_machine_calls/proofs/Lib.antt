@@ -1,0 +1,4 @@
+pub mod Saying
+pub mod Chaining
+pub mod Beginning
+pub mod Giving

@@ -1,0 +1,37 @@
+use Rattle.std.proofs.Common.{refl, ap}
+use Rattle.template_process.specs.Process as events
+use Rattle.template_code.specs.Code as codes
+use Rattle.template_code.specs.Steps.{on_taken, giving}
+use Rattle.template_machine_meaning.specs.Calls.{call_reply}
+use Rattle.template_machine_meaning.specs.Functions.{first_method}
+use Rattle.template_machine_meaning.specs.Records.{known_of}
+use Rattle.template_machine_meaning.specs.Surroundings.{Programs}
+use Rattle.template_machine_operands.specs.Operands.{operands_in}
+use Rattle.template_machine_steps.proofs.Gathering.{handed_refused}
+use Rattle.template_machine_calls.specs.Hosted.{hosted}
+use Rattle.template_machine_calls.proofs.Giving.{failed, given, handed_as, refused_as}
+use Rattle.template_machine_calls.proofs.instructions.call_method.Goals as goal
+
+pub returns-in_err-taken : goal.returns-in_err-taken
+returns-in_err-taken g c program =
+    handed_refused (hosted c.args.rules (g.H.Callbacks.callables c.args.host.now) program) (codes.call_method c.args.name.now c.args.count) _ c.args.state.now _ _ _ _ _ c.args.count
+    (λ lacks next before place. ap (λ t. on_taken t (λ vs rest. giving next place rest (events.call_method c.args.name.now vs))) lacks)
+    (refused_as _ _ _ _ c.widened.ensures c.in_err-taken.ensures.refused) c.from_residual.ensures.1
+
+pub returns-in_err-value : goal.returns-in_err-value
+returns-in_err-value g c program =
+    let s : Programs = hosted c.args.rules (g.H.Callbacks.callables c.args.host.now) program in
+    failed s (codes.call_method c.args.name.now c.args.count) (events.call_method c.args.name.now c.in_ok-taken.taken.items) (operands_in c.args.operands.now) c.args.state.now (operands_in c.take_handed.new.self)
+    (λ next before place. ap (λ t. on_taken t (λ vs rest. giving next place rest (events.call_method c.args.name.now vs)))
+    (handed_as _ _ _ _ c.widened.ensures c.in_ok-taken.ensures.taken))
+    (call_reply s.around c.args.state.now (first_method c.args.state.now.globals (known_of c.args.state.now) c.args.name.now c.in_ok-taken.taken.items)) (λ n. refl) _ _ _ _
+    (c.in_err-value.ensures program.around) c.from_residual-in_err-value.ensures.1
+
+pub returns : goal.returns
+returns g c program =
+    let s : Programs = hosted c.args.rules (g.H.Callbacks.callables c.args.host.now) program in
+    given s (codes.call_method c.args.name.now c.args.count) (events.call_method c.args.name.now c.in_ok-taken.taken.items) (operands_in c.args.operands.now) c.args.state.now (operands_in c.take_handed.new.self)
+    (λ next before place. ap (λ t. on_taken t (λ vs rest. giving next place rest (events.call_method c.args.name.now vs)))
+    (handed_as _ _ _ _ c.widened.ensures c.in_ok-taken.ensures.taken))
+    (call_reply s.around c.args.state.now (first_method c.args.state.now.globals (known_of c.args.state.now) c.args.name.now c.in_ok-taken.taken.items)) (λ n. refl) _ _ _ _
+    (c.in_ok-value.ensures program.around) c.push.ensures.pushed c.push.ensures.refused

@@ -1,0 +1,71 @@
+//! What a user's own answers.
+ghost use Rattle.std.specs.Prelude.{◌≡◌, IfErr, List, OnOk, Option};
+ghost use Rattle.template_values_errors.specs.Memory.{NoMemory};
+ghost use Rattle.template_values_model.specs.Val.{Val};
+ghost use Rattle.template_callables.specs.Answers.{Answers, temps_in};
+ghost use Rattle.template_callables.specs.Callables.{View, Stated, Says};
+ghost use Rattle.template_callables.specs.Callbacks.{AnswersUnder};
+ghost use Rattle.template_machine_meaning.specs.Calls.{stated_reply, with_temps};
+ghost use Rattle.template_machine_state.specs.Changes.{OnlyTemps};
+ghost use Rattle.template_machine_calls.specs.Left.{Going, Replied, left_by, said_reply};
+
+use crate::outcome::Outcome;
+use template_callables::{Answer, stated_fault};
+use template_machine_state::State;
+use template_values_core::Value;
+use template_values_errors::{Error, ErrorKind};
+
+// What an answer comes to; a call that nothing answers is refused with the kind.
+//
+// # Errors
+//
+// The kind, where nothing answers; else those of `come_of`.
+pub(crate) fn heard(
+    answer: Option<Answer>,
+    kind: ErrorKind,
+    state: &mut State<'_>,
+) -> Result<Outcome, Error>
+    ensures comes { (go : Going) (says : Option Says) (view : View) (args : List Val) → AnswersUnder says view args answer →
+        Replied (left_by go) (said_reply go state.old kind view args says) result state.new }
+    ensures kept { OnlyTemps state.old state.new }
+{
+    match answer {
+        Some(given) => come_of(given, state),
+        None => Err(Error::new(kind)),
+    }
+}
+
+// What an answer comes to, once its temps are set.
+//
+// # Errors
+//
+// What `stated_fault` makes of the answer's fault; and `OutOfMemory`.
+fn come_of(answer: Answer, state: &mut State<'_>) -> Result<Outcome, Error>
+    ensures comes { (go : Going) (stated : Stated) → Answers stated answer →
+        Replied (left_by go) (stated_reply go state.old stated) result state.new }
+    ensures kept { OnlyTemps state.old state.new }
+{
+    match answer {
+        Answer::Done(temps, value) => {
+            set_temps(temps, state)?;
+            Ok(Outcome::Value(value))
+        }
+        Answer::Fault(error) => Err(stated_fault(error)),
+        Answer::More(temps, further) => {
+            set_temps(temps, state)?;
+            Ok(Outcome::Further(further))
+        }
+    }
+}
+
+// Sets the temps of an answer, where it has any.
+fn set_temps(temps: Option<Vec<(String, Value)>>, state: &mut State<'_>) -> Result<(), Error>
+    ensures set { OnOk result (state.new ≡ with_temps (temps_in temps) state.old) }
+    ensures refused { IfErr result NoMemory }
+    ensures rest { OnlyTemps state.old state.new }
+{
+    match temps {
+        Some(temps) => state.set_temps(temps),
+        None => Ok(()),
+    }
+}

@@ -1,0 +1,173 @@
+//! The instructions that call.
+ghost use Rattle.std.specs.Prelude.{◌≡◌, ℕ};
+ghost use Rattle.template_code.specs.Code.{apply_filter, call_function, call_method, call_object, perform_test};
+ghost use Rattle.template_machine_meaning.specs.Surroundings.{Programs};
+ghost use Rattle.template_machine_operands.specs.Operands.{operands_in};
+ghost use Rattle.template_machine_steps.specs.Performs.{Performs};
+ghost use Rattle.template_machine_calls.specs.Hosted.{hosted};
+
+use crate::calls::{call_filter, call_first, call_first_method, call_named, call_test};
+use crate::rules::Rules;
+use std::alloc::Global;
+use template_callables::Callbacks;
+use template_machine_operands::Operands;
+use template_machine_state::State;
+use template_values_core::Value;
+use template_values_errors::Error;
+
+/// Takes so many values, or a counted run where the count is left out, and calls what a name stands for with them. As dear as
+/// [`State::looked_up`] and the call.
+///
+/// # Errors
+///
+/// [`ErrorKind::UnknownFunction`] where the name stands for nothing, and [`ErrorKind::InvalidOperation`] at what is no function
+/// of the environment; what the function refuses, or what it asks for; [`ErrorKind::InvalidOperation`] where more is asked for
+/// at once than there are levels left; [`ErrorKind::OutOfMemory`], and [`ErrorKind::BadStream`] where operands are missing, which
+/// no verified code meets.
+///
+/// [`ErrorKind::UnknownFunction`]: template_values_errors::ErrorKind::UnknownFunction
+/// [`ErrorKind::InvalidOperation`]: template_values_errors::ErrorKind::InvalidOperation
+/// [`ErrorKind::OutOfMemory`]: template_values_errors::ErrorKind::OutOfMemory
+/// [`ErrorKind::BadStream`]: template_values_errors::ErrorKind::BadStream
+#[cold]
+#[inline(never)]
+pub fn call_function<H: Callbacks>(
+    alloc: Global,
+    rules: Rules<'_>,
+    host: &H,
+    name: &str,
+    count: Option<u16>,
+    state: &mut State<'_>,
+    operands: &mut Operands,
+) -> Result<(), Error>
+    ensures { (program : Programs) →
+        Performs (hosted rules.entry (H.callables host.now) program) (call_function name.now count) (operands_in operands.old) state.old
+        result (operands_in operands.new) state.new }
+{
+    let args = operands.take_handed(widened(count))?;
+    let value = call_named(alloc, rules, host, name, args, state)?;
+    operands.push(value)
+}
+
+/// Takes so many values, or a counted run where the count is left out, and calls a method of the first with the others. As dear
+/// as the method; `changed` of a loop is as dear as [`State::changed`].
+///
+/// # Errors
+///
+/// [`ErrorKind::UnknownMethod`] where the first has no method of this name, and nothing answers for it;
+/// [`ErrorKind::InvalidOperation`] at a foreign record, and where there are no values at all; else as [`call_function`].
+///
+/// [`ErrorKind::UnknownMethod`]: template_values_errors::ErrorKind::UnknownMethod
+/// [`ErrorKind::InvalidOperation`]: template_values_errors::ErrorKind::InvalidOperation
+#[cold]
+#[inline(never)]
+pub fn call_method<H: Callbacks>(
+    alloc: Global,
+    rules: Rules<'_>,
+    host: &H,
+    name: &str,
+    count: Option<u16>,
+    state: &mut State<'_>,
+    operands: &mut Operands,
+) -> Result<(), Error>
+    ensures { (program : Programs) →
+        Performs (hosted rules.entry (H.callables host.now) program) (call_method name.now count) (operands_in operands.old) state.old
+        result (operands_in operands.new) state.new }
+{
+    let taken = operands.take_handed(widened(count))?;
+    let value = call_first_method(alloc, rules, host, name, taken, state)?;
+    operands.push(value)
+}
+
+/// Takes so many values, or a counted run where the count is left out, and calls the first with the others. As dear as the
+/// function.
+///
+/// # Errors
+///
+/// [`ErrorKind::InvalidOperation`] where there are no values at all; else as [`call_function`].
+///
+/// [`ErrorKind::InvalidOperation`]: template_values_errors::ErrorKind::InvalidOperation
+#[cold]
+#[inline(never)]
+pub fn call_object<H: Callbacks>(
+    alloc: Global,
+    rules: Rules<'_>,
+    host: &H,
+    count: Option<u16>,
+    state: &mut State<'_>,
+    operands: &mut Operands,
+) -> Result<(), Error>
+    ensures { (program : Programs) →
+        Performs (hosted rules.entry (H.callables host.now) program) (call_object count) (operands_in operands.old) state.old
+        result (operands_in operands.new) state.new }
+{
+    let taken = operands.take_handed(widened(count))?;
+    let value = call_first(alloc, rules, host, taken, state)?;
+    operands.push(value)
+}
+
+/// Takes so many values, or a counted run where the count is left out, and filters the first, as [`call_filter`].
+///
+/// # Errors
+///
+/// Those of [`call_filter`], and [`ErrorKind::BadStream`] where operands are missing, which no verified code meets.
+///
+/// [`call_filter`]: crate::call_filter
+/// [`ErrorKind::BadStream`]: template_values_errors::ErrorKind::BadStream
+#[cold]
+#[inline(never)]
+pub fn apply_filter<H: Callbacks>(
+    alloc: Global,
+    rules: Rules<'_>,
+    host: &H,
+    name: &str,
+    count: Option<u16>,
+    state: &mut State<'_>,
+    operands: &mut Operands,
+) -> Result<(), Error>
+    ensures { (program : Programs) (number : ℕ) →
+        Performs (hosted rules.entry (H.callables host.now) program) (apply_filter name.now count number) (operands_in operands.old) state.old
+        result (operands_in operands.new) state.new }
+{
+    let values = operands.take_handed(widened(count))?;
+    let value = call_filter(alloc, rules, host, name, values.as_slice(), state)?;
+    operands.push(value)
+}
+
+/// Takes so many values, or a counted run where the count is left out, and tests the first, as [`call_test`].
+///
+/// # Errors
+///
+/// Those of [`call_test`], and [`ErrorKind::BadStream`] where operands are missing, which no verified code meets.
+///
+/// [`call_test`]: crate::call_test
+/// [`ErrorKind::BadStream`]: template_values_errors::ErrorKind::BadStream
+#[cold]
+#[inline(never)]
+pub fn perform_test<H: Callbacks>(
+    alloc: Global,
+    rules: Rules<'_>,
+    host: &H,
+    name: &str,
+    count: Option<u16>,
+    state: &mut State<'_>,
+    operands: &mut Operands,
+) -> Result<(), Error>
+    ensures { (program : Programs) (number : ℕ) →
+        Performs (hosted rules.entry (H.callables host.now) program) (perform_test name.now count number) (operands_in operands.old) state.old
+        result (operands_in operands.new) state.new }
+{
+    let values = operands.take_handed(widened(count))?;
+    let holds = call_test(alloc, rules, host, name, values.as_slice(), state)?;
+    operands.push(Value::from_bool(holds))
+}
+
+// The count of an instruction, as it is taken.
+fn widened(count: Option<u16>) -> Option<usize>
+    ensures { result ≡ count }
+{
+    match count {
+        Some(count) => Some(usize::from(count)),
+        None => None,
+    }
+}

@@ -1,0 +1,12 @@
+//! What calls come to so far.
+use template_callables::Further;
+use template_values_core::Value;
+
+/// What a call comes to so far.
+#[derive(Drop)]
+pub(crate) enum Outcome {
+    /// A value.
+    Value(Value),
+    /// What this comes to, which the machine does next.
+    Further(Further),
+}

@@ -1,8 +1,0 @@
-use Rattle.std.proofs.Common.{◌≡◌, ℕ, List, ◌||◌}
-use Rattle.std.specs.BTreeSet.{contains_text}
-use Rattle.template_machine_globals.proofs.Listing.{has_name, shown}
-use Rattle.template_machine_globals.proofs.names.add_names.Given as goal
-
--- the names so far came to the others
-abbrev pub invariant-loop-name : goal.invariant-loop-name
-invariant-loop-name l = (q : List ℕ) → contains_text l.names q ≡ (contains_text l.fn.names q || has_name q (shown l.yielded))

@@ -1,0 +1,72 @@
+//! The instructions that call.
+ghost use Rattle.std.specs.Prelude.{◌≡◌, true};
+ghost use Rattle.template_code.specs.View.{code_of};
+ghost use Rattle.template_machine_calls.specs.Hosted.{hosted};
+ghost use Rattle.template_machine_meaning.specs.Surroundings.{Programs};
+ghost use Rattle.template_machine_operands.specs.Operands.{operands_in};
+ghost use Rattle.template_machine_steps.specs.Performs.{Performs};
+ghost use Rattle.template_machine_loop.specs.Programs.{is_call};
+
+use std::alloc::Global;
+use template_callables::Callbacks;
+use template_code::Instruction;
+use template_machine_calls::{
+    Rules, apply_filter, call_function, call_method, call_object, perform_test,
+};
+use template_machine_operands::Operands;
+use template_machine_state::State;
+use template_values_errors::{Error, ErrorKind};
+
+// Whether an instruction calls: a name, a method, a value, a filter or a test.
+pub(crate) fn is_call(instruction: &Instruction<'_>) -> bool
+    ensures { result ≡ is_call (code_of instruction.now) }
+{
+    match instruction {
+        Instruction::ApplyFilter(_, _, _)
+        | Instruction::PerformTest(_, _, _)
+        | Instruction::CallFunction(_, _)
+        | Instruction::CallMethod(_, _)
+        | Instruction::CallObject(_) => true,
+        _ => false,
+    }
+}
+
+// Does what an instruction does that calls, once it is paid. It stands alone, so that others have nothing of it.
+//
+// # Errors
+//
+// The fault of the call; `OutOfMemory`; and `BadStream` where operands are missing, which no verified code meets.
+#[cold]
+#[inline(never)]
+pub(crate) fn call<H: Callbacks>(
+    alloc: Global,
+    rules: Rules<'_>,
+    host: &H,
+    instruction: &Instruction<'_>,
+    operands: &mut Operands,
+    state: &mut State<'_>,
+) -> Result<(), Error>
+    requires { is_call (code_of instruction.now) ≡ true }
+    ensures { (program : Programs) →
+        Performs (hosted rules.entry (H.callables host.now) program) (code_of instruction.now) (operands_in operands.old) state.old
+        result (operands_in operands.new) state.new }
+{
+    match instruction {
+        Instruction::ApplyFilter(name, count, _) => {
+            apply_filter(alloc, rules, host, name.as_str(), *count, state, operands)
+        }
+        Instruction::PerformTest(name, count, _) => {
+            perform_test(alloc, rules, host, name.as_str(), *count, state, operands)
+        }
+        Instruction::CallFunction(name, count) => {
+            call_function(alloc, rules, host, name.as_str(), *count, state, operands)
+        }
+        Instruction::CallMethod(name, count) => {
+            call_method(alloc, rules, host, name.as_str(), *count, state, operands)
+        }
+        Instruction::CallObject(count) => {
+            call_object(alloc, rules, host, *count, state, operands)
+        }
+        _ => Err(Error::new(ErrorKind::BadStream)),
+    }
+}
