@@ -27,7 +27,7 @@ escaped_as escape c = record { name = c.name; source = escaping_as escape c.sour
 
 -- what it stands for
 abbrev pub standing_of : Compiled → Standing
-standing_of c = record { tree = tree_in c.source; escape = c.escape }
+standing_of c = record { name = c.name; tree = tree_in c.source; escape = c.escape }
 
 abbrev pub code_for : Compiled → List Code
 code_for c = template_code (tree_in c.source)

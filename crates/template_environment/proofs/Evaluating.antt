@@ -6,6 +6,7 @@ use Rattle.template_values_errors.specs.declared.modes.AutoEscape.TheVariants as
 use Rattle.template_values_model.specs.Fault.{Fault, kind_of, invalid_operation, bad_serialization, missing_argument}
 use Rattle.template_values_model.specs.Gives as values
 use Rattle.template_values_model.specs.Val.{Val}
+use Rattle.template_callables.specs.Callables.{Callables}
 use Rattle.template_values_frozen.specs.Frozen.{frozen}
 use Rattle.template_process.specs.Drive.{ends, faults}
 use Rattle.template_process.specs.Fuel.{under}
@@ -52,23 +53,23 @@ answer_gives (Err fault) (Err kinds) r (inr told) end =
     inl (end ∙ ap (λ (ks : List ErrorKind). faults ks) same, subst IsFault same (meant_fault fault))
 
 -- what a machine runs: the programs, the code of the expression, and the world at its start, in the state of a number
-pub record IsRunOfExpression (e : Registry) (id : ℕ) (source : List ℕ) (context : Val) (s : Programs) (code : List Code) (w : World) : Type 0 where
+pub record IsRunOfExpression (k : Callables) (e : Registry) (id : ℕ) (source : List ℕ) (context : Val) (s : Programs) (code : List Code) (w : World) : Type 0 where
   pub faithful : IsFaithfulExpression source
-  pub programs : s ≡ codes_of (setting_of e) None
+  pub programs : s ≡ codes_of (setting_of k e) None
   pub is_code : code ≡ standalone_code (expression_in source)
   pub start : w ≡ first_world id e.globals escapes.None context
 
 -- its evaluation, before its value is handed out
-abbrev evaluation_in : Registry → ℕ → List ℕ → Val → Run World
-evaluation_in e id source context = evaluation (setting_of e) (expression_in source) (first_world id e.globals escapes.None context)
+abbrev evaluation_in : Callables → Registry → ℕ → List ℕ → Val → Run World
+evaluation_in k e id source context = evaluation (setting_of k e) (expression_in source) (first_world id e.globals escapes.None context)
 
-comes : (e : Registry) (id : ℕ) (source : List ℕ) (context : Val) (s : Programs) (code : List Code) (w after : World) (left : Option ℕ)
-    (before taken : Option (List ℕ)) (result : Result Val (List ErrorKind)) → IsRunOfExpression e id source context s code w
-    → Evaluates s code w e.fuel before result after left taken → GivesValue result after (under e.fuel (evaluation_in e id source context))
-comes e id source context s code w after left before taken result of runs =
-    expressions_evaluate (setting_of e) (expression_in source) of.faithful.has_expression.1 (first_world id e.globals escapes.None context) after e.fuel left before taken result
-    (subst (λ (x : World). Evaluates (codes_of (setting_of e) None) (standalone_code (expression_in source)) x e.fuel before result after left taken) of.start
-    (subst (λ (k : List Code). Evaluates (codes_of (setting_of e) None) k w e.fuel before result after left taken) of.is_code
+comes : (k : Callables) (e : Registry) (id : ℕ) (source : List ℕ) (context : Val) (s : Programs) (code : List Code) (w after : World) (left : Option ℕ)
+    (before taken : Option (List ℕ)) (result : Result Val (List ErrorKind)) → IsRunOfExpression k e id source context s code w
+    → Evaluates s code w e.fuel before result after left taken → GivesValue result after (under e.fuel (evaluation_in k e id source context))
+comes k e id source context s code w after left before taken result of runs =
+    expressions_evaluate (setting_of k e) (expression_in source) of.faithful.has_expression.1 (first_world id e.globals escapes.None context) after e.fuel left before taken result
+    (subst (λ (x : World). Evaluates (codes_of (setting_of k e) None) (standalone_code (expression_in source)) x e.fuel before result after left taken) of.start
+    (subst (λ (cs : List Code). Evaluates (codes_of (setting_of k e) None) cs w e.fuel before result after left taken) of.is_code
     (subst (λ (p : Programs). Evaluates p code w e.fuel before result after left taken) of.programs runs)))
 
 -- a fault is handed out as it is, and a sink that cannot fail is no cause
@@ -86,23 +87,23 @@ gives v after r result came is =
     answer_gives (frozen (known_of after) v) result (handed_out r) is
     (ap (handed r.after) came.0 ∙ ap (λ (w : World). handed w (ends (v ∷ []))) came.1)
 
-pub evaluation_stops : (e : Registry) (id : ℕ) (source : List ℕ) (context : Val) (s : Programs) (code : List Code) (w after : World) (left : Option ℕ)
-    (before taken : Option (List ℕ)) (failures : ℕ) (kinds : List ErrorKind) → IsRunOfExpression e id source context s code w
+pub evaluation_stops : (k : Callables) (e : Registry) (id : ℕ) (source : List ℕ) (context : Val) (s : Programs) (code : List Code) (w after : World) (left : Option ℕ)
+    (before taken : Option (List ℕ)) (failures : ℕ) (kinds : List ErrorKind) → IsRunOfExpression k e id source context s code w
     → TellsFailures {X = Val} (Err kinds) failures failures → Evaluates s code w e.fuel before (Err kinds) after left taken
-    → Gives (Err kinds) (under e.fuel (evaluated (setting_of e) id (expression_in source) context))
-evaluation_stops e id source context s code w after left before taken failures kinds of quiet runs =
-    subst (Gives (Err kinds)) (sym (under_handed e.fuel (evaluation_in e id source context)))
-    (stops kinds after (under e.fuel (evaluation_in e id source context)) failures quiet
-    (comes e id source context s code w after left before taken (Err kinds) of runs))
+    → Gives (Err kinds) (under e.fuel (evaluated (setting_of k e) id (expression_in source) context))
+evaluation_stops k e id source context s code w after left before taken failures kinds of quiet runs =
+    subst (Gives (Err kinds)) (sym (under_handed e.fuel (evaluation_in k e id source context)))
+    (stops kinds after (under e.fuel (evaluation_in k e id source context)) failures quiet
+    (comes k e id source context s code w after left before taken (Err kinds) of runs))
 
-pub evaluation_gives : (e : Registry) (id : ℕ) (source : List ℕ) (context : Val) (s : Programs) (code : List Code) (w after : World) (left : Option ℕ)
-    (before taken : Option (List ℕ)) (v : Val) (result : Result Val (List ErrorKind)) → IsRunOfExpression e id source context s code w
+pub evaluation_gives : (k : Callables) (e : Registry) (id : ℕ) (source : List ℕ) (context : Val) (s : Programs) (code : List Code) (w after : World) (left : Option ℕ)
+    (before taken : Option (List ℕ)) (v : Val) (result : Result Val (List ErrorKind)) → IsRunOfExpression k e id source context s code w
     → Evaluates s code w e.fuel before (Ok v) after left taken → values.Gives result (frozen (known_of after) v)
-    → Gives result (under e.fuel (evaluated (setting_of e) id (expression_in source) context))
-evaluation_gives e id source context s code w after left before taken v result of runs is =
-    subst (Gives result) (sym (under_handed e.fuel (evaluation_in e id source context)))
-    (gives v after (under e.fuel (evaluation_in e id source context)) result
-    (comes e id source context s code w after left before taken (Ok v) of runs) is)
+    → Gives result (under e.fuel (evaluated (setting_of k e) id (expression_in source) context))
+evaluation_gives k e id source context s code w after left before taken v result of runs is =
+    subst (Gives result) (sym (under_handed e.fuel (evaluation_in k e id source context)))
+    (gives v after (under e.fuel (evaluation_in k e id source context)) result
+    (comes k e id source context s code w after left before taken (Ok v) of runs) is)
 
 memory_no_failure : {kinds : List ErrorKind} → kinds ≡ OutOfMemory ∷ [] → kinds ≡ WriteFailure ∷ [] → ⊥
 memory_no_failure same other = cc

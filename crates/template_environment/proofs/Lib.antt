@@ -6,3 +6,5 @@ pub mod Sourced
 pub mod Listed
 pub mod Evaluating
 pub mod Escaped
+pub mod Asking
+pub mod Brought

@@ -1,6 +1,7 @@
 -- The names that can matter, among those of the templates that stand.
 use Rattle.std.proofs.Common.{◌≡◌, ℕ, Bool, false, ◌||◌, List, codes, bytes_eq, Option, None, Some, inl, inr, ◌⊎◌, ◌↔◌, IsTrue, refl, sym, ap, subst, ◌∙◌}
 use Rattle.std.specs.Option.{option_map}
+use Rattle.template_callables.specs.Callables.{Callables}
 use Rattle.template_names.specs.Names.{is_used}
 use Rattle.template_names_undeclared.proofs.Walking.{turned}
 use Rattle.template_machine_meaning.specs.Isolation as isolation
@@ -17,25 +18,25 @@ under_map : {X Y : Type 0} (f : X → Y) (o : Option X) (y : Y) → option_map f
 under_map f None y h = cc
 under_map f (Some x) y h = (x, refl, cc)
 
-pub used_by_one : (e : Registry) (name : List ℕ) → IsUsedByOne e.templates name ↔ isolation.IsUsedByOne (setting_of e) name
-used_by_one e name = (
+pub used_by_one : (k : Callables) (e : Registry) (name : List ℕ) → IsUsedByOne e.templates name ↔ isolation.IsUsedByOne (setting_of k e) name
+used_by_one k e name = (
   λ u. (u.0, standing_of u.1, ap (option_map standing_of) u.2, u.3),
   λ u.
       let under = under_map standing_of (compiled_at e.templates u.0) u.1 u.2 in
       (u.0, under.0, under.1, subst (λ (t : Standing). IsTrue (is_used name t.tree)) (sym under.2) u.3),
 )
 
-pub listed : (e : Registry) (c : Compiled) (name : List ℕ) (given own : Bool) (Has : Type 0) → given ≡ is_given name → own ≡ (given || uses c name)
-    → Has ↔ (IsTrue own ⊎ IsUsedByOne e.templates name) → Has ↔ IsContextName (setting_of e) (standing_of c).tree name
-listed e c name given own Has at_first then all =
+pub listed : (k : Callables) (e : Registry) (c : Compiled) (name : List ℕ) (given own : Bool) (Has : Type 0) → given ≡ is_given name → own ≡ (given || uses c name)
+    → Has ↔ (IsTrue own ⊎ IsUsedByOne e.templates name) → Has ↔ IsContextName (setting_of k e) (standing_of c).tree name
+listed k e c name given own Has at_first then all =
     let both = either given (uses c name) in (
       λ h. elim (all.0 h) [
         | inl o ↦ elim (both.0 (subst IsTrue then o)) [ inl g ↦ inl (subst IsTrue at_first g) | inr u ↦ inr (inl u) ]
-        | inr u ↦ inr (inr ((used_by_one e name).0 u))
+        | inr u ↦ inr (inr ((used_by_one k e name).0 u))
       ],
       λ h. all.1 (elim h [
         | inl g ↦ inl (subst IsTrue (sym then) (both.1 (inl (subst IsTrue (sym at_first) g))))
-        | inr s ↦ elim s [ inl u ↦ inl (subst IsTrue (sym then) (both.1 (inr u))) | inr v ↦ inr ((used_by_one e name).1 v) ]
+        | inr s ↦ elim s [ inl u ↦ inl (subst IsTrue (sym then) (both.1 (inr u))) | inr v ↦ inr ((used_by_one k e name).1 v) ]
       ]),
     )
 

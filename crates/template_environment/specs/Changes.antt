@@ -5,7 +5,7 @@ use Rattle.template_environment.specs.Reading.{registry_of}
 use Rattle.template_environment.specs.Standing.{source_at}
 use Rattle.template_environment.specs.declared.environment.Environment.{Environment}
 
-module _ {R : Type 0} where
+module _ {E C M F J R : Type 0} where
   -- the change leads from the one environment to the other
-  abbrev pub Changes : Change Source → Environment R → Environment R → Type 0
+  abbrev pub Changes : Change Source → Environment E C M F J R → Environment E C M F J R → Type 0
   Changes change old new = Leads (λ e. source_at (registry_of e)) change old new

@@ -1,3 +1,4 @@
+pub mod Extras
 pub mod Standing
 pub mod Reading
 pub mod Changes

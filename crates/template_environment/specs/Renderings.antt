@@ -6,6 +6,7 @@ use Rattle.template_values_errors.specs.declared.ErrorKind.TheVariants.{InvalidO
 use Rattle.template_values_errors.specs.Memory.{NoMemory}
 use Rattle.template_values_errors.specs.declared.modes.AutoEscape.{AutoEscape}
 use Rattle.template_values_model.specs.Val.{Val}
+use Rattle.template_callables.specs.Callables.{Says, Callables}
 use Rattle.template_process.specs.Approximants.{IsFinished}
 use Rattle.template_process.specs.Fuel.{under}
 use Rattle.template_process.specs.Trace.{Run, text_of}
@@ -15,12 +16,20 @@ use Rattle.template_machine_surroundings.specs.Rule.{IsEscapeOf}
 use Rattle.template_machine_renders.specs.Renders.{FaultsAs, IsOver}
 use Rattle.template_compiled.specs.Compiled.{Compiled, standing_of}
 use Rattle.template_compiled.specs.Sources.{IsAccepted, IsRefusedWith, Source}
+use Rattle.template_environment.specs.Extras.{MethodsSay}
+use Rattle.template_environment.specs.Reading.{callables_of, registry_of}
 use Rattle.template_environment.specs.Standing.{setting_of}
+use Rattle.template_environment.specs.declared.environment.Environment.{Environment}
 use Rattle.template_environment.specs.declared.registry.Registry.{Registry}
 
 -- a template of an environment over a context, in the state of a number, under a bound
-abbrev pub rendering : Registry → ℕ → Compiled → ℕ → Val → Run World
-rendering e id c n context = rendered (setting_of e) id n (standing_of c) context
+abbrev pub rendering : Callables → Registry → ℕ → Compiled → ℕ → Val → Run World
+rendering k e id c n context = rendered (setting_of k e) id n (standing_of c) context
+
+module _ {E C M F J R : Type 0} where
+  -- so it is where the first two say what is answered where it calls what the environment's user brought
+  abbrev pub rendering_in : (C → Says) → MethodsSay M → Environment E C M F J R → ℕ → Compiled → ℕ → Val → Run World
+  rendering_in says methods e id c n context = rendering (callables_of says methods e) (registry_of e) id c n context
 
 -- of what was consumed and what remains: the fuel that was set, and what is left of it
 abbrev pub set_of : Option (ℕ × ℕ) → Option ℕ
@@ -41,18 +50,18 @@ last_id = 2 ^ 64 - 1
 
 -- A call that renders a template to a text, and the numbers that come next before it and after it: it renders in the state of
 -- the first. One is finished: every run ends.
-pub record RendersText {X : Type 0} (e : Registry) (c : Compiled) (context : Val) (id next : ℕ) (text : X → List ℕ)
+pub record RendersText {X : Type 0} (k : Callables) (e : Registry) (c : Compiled) (context : Val) (id next : ℕ) (text : X → List ℕ)
     (result : Result X (List ErrorKind)) : Type 0 where
-  pub finished : (n : ℕ) × IsFinished (rendering e id c n context).end
-  pub gives : id ≢ last_id → (n : ℕ) → IsFinished (rendering e id c n context).end
-      → GivesText text result (under e.fuel (rendering e id c n context))
+  pub finished : (n : ℕ) × IsFinished (rendering k e id c n context).end
+  pub gives : id ≢ last_id → (n : ℕ) → IsFinished (rendering k e id c n context).end
+      → GivesText text result (under e.fuel (rendering k e id c n context))
   pub no_write_failure : IfErr result (λ kinds. kinds ≢ WriteFailure ∷ [])
   pub counted : id ≢ last_id → next ≡ id + 1
   pub exhausted : id ≡ last_id → (result ≡ Err (InvalidOperation ∷ [])) × (next ≡ id)
 
 -- The source is refused, and takes no number; or it is accepted, and rendered as a template of the name.
-abbrev pub RendersSource : {X : Type 0} → Registry → List ℕ → Source → Val → ℕ → ℕ → (X → List ℕ) → Result X (List ErrorKind) → Type 0
-RendersSource e name source context id next text result =
+abbrev pub RendersSource : {X : Type 0} → Callables → Registry → List ℕ → Source → Val → ℕ → ℕ → (X → List ℕ) → Result X (List ErrorKind) → Type 0
+RendersSource k e name source context id next text result =
     (IsErrAnd result (IsRefusedWith source) × (next ≡ id))
     ⊎ (IsAccepted source × ((escape : AutoEscape) → IsEscapeOf source.escapes name escape
-    → RendersText e (record { name = name; source = source; escape = escape }) context id next text result))
+    → RendersText k e (record { name = name; source = source; escape = escape }) context id next text result))

@@ -1,9 +1,10 @@
 -- What stands in an environment, and what it means.
-use Rattle.std.specs.Prelude.{ℕ, List, [], Option, None, codes}
+use Rattle.std.specs.Prelude.{ℕ, false, List, [], Option, None, codes}
 use Rattle.std.specs.Option.{option_map}
 use Rattle.template_values_errors.specs.declared.modes.UndefinedBehavior.{UndefinedBehavior}
 use Rattle.template_values_errors.specs.declared.modes.UndefinedBehavior.TheVariants.{Lenient}
 use Rattle.template_values_model.specs.Val.{Val}
+use Rattle.template_callables.specs.Callables.{Callables}
 use Rattle.template_compiler_syntax.specs.Syntax.{Syntax}
 use Rattle.template_machine_surroundings.specs.declared.escape.EscapeRule.{EscapeRule}
 use Rattle.template_machine_meaning.specs.Meaning.{Setting}
@@ -30,10 +31,9 @@ unnamed = codes "<string>"
 abbrev pub greatest_limit : ℕ
 greatest_limit = 500
 
--- what an environment is set to beside its templates and a rule of escapes of its own: its number; what it gives to each run, its
--- number among that where its own functions can be called; how templates are read; and what renders keep to
+-- what an environment is set to beside its templates and what its user brought: what it gives to each run, its number among that;
+-- how templates are read; and what renders keep to
 pub record Settings : Type 0 where
-  pub id : ℕ
   pub globals : Globals
   pub syntax : Syntax
   pub escapes : EscapeRule
@@ -41,14 +41,13 @@ pub record Settings : Type 0 where
   pub limit : ℕ
   pub undefined : UndefinedBehavior
 
--- no names, and no functions that can be called
-abbrev pub no_globals : Globals
-no_globals = record { functions = None; named = [] }
+-- no names, and no functions that an environment has by itself
+abbrev pub no_globals : ℕ → Globals
+no_globals id = record { environment = id; has_own = false; named = [] }
 
 -- those of a new one: without fuel, with the greatest limit, where undefined values are lenient
-abbrev pub new_settings : ℕ → Globals → Syntax → EscapeRule → Settings
-new_settings id globals syntax escapes = record {
-  id = id;
+abbrev pub new_settings : Globals → Syntax → EscapeRule → Settings
+new_settings globals syntax escapes = record {
   globals = globals;
   syntax = syntax;
   escapes = escapes;
@@ -59,7 +58,6 @@ new_settings id globals syntax escapes = record {
 
 abbrev pub settings_of : Registry → Settings
 settings_of e = record {
-  id = e.id;
   globals = e.globals;
   syntax = e.config.syntax_config;
   escapes = e.config.default_auto_escape;
@@ -68,18 +66,19 @@ settings_of e = record {
   undefined = e.undefined_behavior;
 }
 
--- the setting that its renders have
-abbrev pub setting_of : Registry → Setting
-setting_of e = record {
+-- the setting that its renders have, with what a user brought
+abbrev pub setting_of : Callables → Registry → Setting
+setting_of callables e = record {
   templates = λ name. option_map standing_of (compiled_at e.templates name);
   globals = e.globals;
+  callables = callables;
   limit = e.recursion_limit;
   undefined = e.undefined_behavior;
 }
 
 -- the code of what stands, as a machine takes it
 abbrev pub unit_of : Compiled → units.Standing
-unit_of c = record { code = code_for c; escape = c.escape }
+unit_of c = record { name = c.name; code = code_for c; escape = c.escape }
 
 abbrev pub units_of : Registry → List ℕ → Option units.Standing
 units_of e name = option_map unit_of (compiled_at e.templates name)

@@ -14,20 +14,23 @@ ghost use Rattle.template_compiled.specs.Compiled.{IsFaithful};
 ghost use Rattle.template_compiled.specs.Sources.{IsAccepted, IsRefusedWith};
 ghost use Rattle.template_compiled.specs.Plain.{IsPlain, text_kept};
 ghost use Rattle.template_environment_histories.specs.Histories as changes;
+ghost use Rattle.template_environment.specs.Extras.{no_extras};
 ghost use Rattle.template_environment.specs.Plain.{IsRefusedForRoom, ReadGivesItself};
 ghost use Rattle.template_environment.specs.Standing.{greatest_limit, new_settings, no_globals};
 
+use crate::extensions::Extensions;
 use crate::laws::every_render_ends;
 use crate::registry::Registry;
 use crate::state::State;
 use crate::template::{Template, TemplateCode};
 use std::alloc::Global;
 use std::borrow::CowStr;
+use template_callables::{Extension, NoExtension};
 use template_compiled::{CompiledTemplate, CompiledTemplates, TemplateConfig};
 use template_compiler_syntax::SyntaxConfig;
 use template_machine_globals::Globals;
 use template_machine_meaning::isolation;
-use template_machine_surroundings::{AutoEscapeRule, EscapeRule, NoRule, StateIds};
+use template_machine_surroundings::{AutoEscapeRule, EscapeRule, StateIds};
 use template_values_core::Value;
 use template_values_errors::{AutoEscape, Error, ErrorKind, UndefinedBehavior};
 
@@ -40,26 +43,27 @@ const UNNAMED: &str = "<string>";
 // The name of a state without a template.
 const UNKNOWN: &str = "<unknown>";
 
-/// The templates that stand, by name, the globals, and what each render keeps to.
-pub struct Environment<'source, R: AutoEscapeRule = NoRule> {
+/// The templates that stand, by name, the globals, what a user brought by the types of an [`Extension`], and what each render
+/// keeps to.
+pub struct Environment<'source, E: Extension = NoExtension> {
     pub(crate) registry: Registry<'source>,
-    callback: Option<R>,
+    pub(crate) extensions: Extensions<E>,
 }
 
 // By hand, as with all that this crate hands out: a crate that drops one would else prove anew how each of its parts is
 // dropped.
-impl<'source, R: AutoEscapeRule> Drop for Environment<'source, R> {
+impl<'source, E: Extension> Drop for Environment<'source, E> {
     fn drop(self) {
         let Environment {
             registry: _,
-            callback: _,
+            extensions: _,
         } = self;
     }
 }
 
 impl<'source> Environment<'source> {
     ghost use Rattle.template_environment.specs.Standing.{settings_of, source_at};
-    ghost use Rattle.template_environment.specs.Reading.{callback_of, registry_of};
+    ghost use Rattle.template_environment.specs.Reading.{extras_of, registry_of};
 
     /// An environment without templates, under the default syntax and escapes by name, without fuel, with the greatest
     /// recursion limit, where undefined values are lenient. Its globals are its functions `range`, `dict` and `namespace`. It
@@ -71,13 +75,13 @@ impl<'source> Environment<'source> {
     pub fn new(alloc: Global, ids: &mut StateIds) -> Result<Environment<'source>, Error>
         ensures empty { IfOk result (λ e. (name : List ℕ) → source_at (registry_of e) name ≡ None) }
         ensures settings { IfOk result (λ e. settings_of (registry_of e)
-            ≡ new_settings ids.old (own_globals ids.old) default_syntax EscapeRule.ByName) }
-        ensures callback { IfOk result (λ e. callback_of e ≡ None) }
+            ≡ new_settings (own_globals ids.old) default_syntax EscapeRule.ByName) }
+        ensures extras { IfOk result (λ e. extras_of e ≡ no_extras) }
         ensures refused { ids.old ≢ u64.MAX → IfErr result NoMemory }
         ensures counted { ids.old ≢ u64.MAX → ids.new ≡ ids.old + 1 }
         ensures exhausted { ids.old ≡ u64.MAX → (result ≡ Err (ErrorKind.InvalidOperation ∷ [])) × (ids.new ≡ ids.old) }
     {
-        Environment::with_functions(alloc, None, ids)
+        Environment::extended(alloc, ids)
     }
 
     /// The same without globals, where no function can be called, and with no escape, whatever a template's name is.
@@ -88,8 +92,8 @@ impl<'source> Environment<'source> {
     pub fn empty(alloc: Global, ids: &mut StateIds) -> Result<Environment<'source>, Error>
         ensures empty { IfOk result (λ e. (name : List ℕ) → source_at (registry_of e) name ≡ None) }
         ensures settings { IfOk result (λ e. settings_of (registry_of e)
-            ≡ new_settings ids.old no_globals default_syntax EscapeRule.Never) }
-        ensures callback { IfOk result (λ e. callback_of e ≡ None) }
+            ≡ new_settings (no_globals ids.old) default_syntax EscapeRule.Never) }
+        ensures extras { IfOk result (λ e. extras_of e ≡ no_extras) }
         ensures had_one { OnOk result (ids.old ≢ u64.MAX) }
         ensures counted { OnOk result (ids.new ≡ ids.old + 1) }
         ensures refused { IfErr result (λ kinds. (kinds ≡ ErrorKind.InvalidOperation ∷ []) × (ids.old ≡ u64.MAX) × (ids.new ≡ ids.old)) }
@@ -99,78 +103,49 @@ impl<'source> Environment<'source> {
             ..TemplateConfig::new()
         };
         let id = ids.next()?;
-        Ok(Environment::under(alloc, id, Globals::empty(alloc), config, None))
+        Ok(Environment::under(alloc, Globals::empty(alloc, id), config))
     }
 }
 
-impl<'source, R: AutoEscapeRule> Environment<'source, R> {
+impl<'source, E: Extension> Environment<'source, E> {
     ghost use Rattle.template_environment.specs.Standing.{global_at, settings_of, source_at, unnamed};
     ghost use Rattle.template_environment.specs.Changes.{Changes};
-    ghost use Rattle.template_environment.specs.Reading.{IsUnchanged, callback_of, read_under, registry_of, rule_for};
-    ghost use Rattle.template_values_model.specs.Val.{Val};
-    ghost use Rattle.template_environment.specs.Isolated.{AgreeForSource, IsSameForSource};
+    ghost use Rattle.template_environment.specs.Reading.{IsUnchanged, callables_of, extras_of, read_under, registry_of, rule_for};
+    ghost use Rattle.template_environment.specs.Isolated.{IsIsolatedSource};
     ghost use Rattle.template_environment.specs.Renderings.{RendersSource};
     ghost use Rattle.template_environment.specs.States.{environment_in, frameless, fuel_left_in, fuel_set_in, id_in, name_in, unknown, world_in};
     ghost use Rattle.template_environment.specs.Views.{environment_of, escape_of, name_of, source_of};
 
-    /// The same as [`Environment::new`] makes, with a rule of the caller's own, which gives the escape of each template
-    /// that is added or read by its name.
+    /// The same as [`Environment::new`] makes, for what a user brings by the types of `E`: nothing is brought yet. `E` says
+    /// which types these are, so the environment's type is written where it is made, as in
+    /// `let mut environment: Environment<'_, Shop> = Environment::extended(alloc, ids)?`.
     ///
     /// # Errors
     ///
     /// As [`Environment::new`].
-    pub fn with_auto_escape_callback(
-        alloc: Global,
-        rule: R,
-        ids: &mut StateIds,
-    ) -> Result<Environment<'source, R>, Error>
+    pub fn extended(alloc: Global, ids: &mut StateIds) -> Result<Environment<'source, E>, Error>
         ensures empty { IfOk result (λ e. (name : List ℕ) → source_at (registry_of e) name ≡ None) }
         ensures settings { IfOk result (λ e. settings_of (registry_of e)
-            ≡ new_settings ids.old (own_globals ids.old) default_syntax EscapeRule.ByName) }
-        ensures callback { IfOk result (λ e. callback_of e ≡ Some rule) }
-        ensures refused { ids.old ≢ u64.MAX → IfErr result NoMemory }
-        ensures counted { ids.old ≢ u64.MAX → ids.new ≡ ids.old + 1 }
-        ensures exhausted { ids.old ≡ u64.MAX → (result ≡ Err (ErrorKind.InvalidOperation ∷ [])) × (ids.new ≡ ids.old) }
-    {
-        Environment::with_functions(alloc, Some(rule), ids)
-    }
-
-    // An environment as new, but for a rule of its own.
-    fn with_functions(
-        alloc: Global,
-        callback: Option<R>,
-        ids: &mut StateIds,
-    ) -> Result<Environment<'source, R>, Error>
-        ensures empty { IfOk result (λ e. (name : List ℕ) → source_at (registry_of e) name ≡ None) }
-        ensures settings { IfOk result (λ e. settings_of (registry_of e)
-            ≡ new_settings ids.old (own_globals ids.old) default_syntax EscapeRule.ByName) }
-        ensures callback { IfOk result (λ e. callback_of e ≡ callback) }
+            ≡ new_settings (own_globals ids.old) default_syntax EscapeRule.ByName) }
+        ensures extras { IfOk result (λ e. extras_of e ≡ no_extras) }
         ensures refused { ids.old ≢ u64.MAX → IfErr result NoMemory }
         ensures counted { ids.old ≢ u64.MAX → ids.new ≡ ids.old + 1 }
         ensures exhausted { ids.old ≡ u64.MAX → (result ≡ Err (ErrorKind.InvalidOperation ∷ [])) × (ids.new ≡ ids.old) }
     {
         let id = ids.next()?;
         let globals = Globals::with_functions(alloc, id)?;
-        let config = TemplateConfig::new();
-        Ok(Environment::under(alloc, id, globals, config, callback))
+        Ok(Environment::under(alloc, globals, TemplateConfig::new()))
     }
 
-    // An environment of a number without templates, with what it gives to each run, what its templates are compiled
-    // under, and a rule of its own.
-    fn under(
-        alloc: Global,
-        id: u64,
-        globals: Globals,
-        config: TemplateConfig,
-        callback: Option<R>,
-    ) -> Environment<'source, R>
+    // An environment without templates and with nothing of a user's, with what it gives to each run, and what its templates
+    // are compiled under.
+    fn under(alloc: Global, globals: Globals, config: TemplateConfig) -> Environment<'source, E>
         ensures empty { (name : List ℕ) → source_at (registry_of result) name ≡ None }
-        ensures settings { settings_of (registry_of result) ≡ new_settings id globals config.syntax_config config.default_auto_escape }
-        ensures callback { callback_of result ≡ callback }
+        ensures settings { settings_of (registry_of result) ≡ new_settings globals config.syntax_config config.default_auto_escape }
+        ensures extras { extras_of result ≡ no_extras }
     {
         Environment {
             registry: Registry {
-                id,
                 globals,
                 alloc,
                 templates: CompiledTemplates::new(alloc),
@@ -179,7 +154,7 @@ impl<'source, R: AutoEscapeRule> Environment<'source, R> {
                 recursion_limit: MAX_RECURSION,
                 undefined_behavior: UndefinedBehavior::Lenient,
             },
-            callback,
+            extensions: Extensions::new(alloc),
         }
     }
 
@@ -190,16 +165,16 @@ impl<'source, R: AutoEscapeRule> Environment<'source, R> {
     ///
     /// Those of [`CompiledTemplate::new`]. After a refusal all is as before.
     pub fn add_template(&mut self, name: &'source str, source: &'source str) -> Result<(), Error>
-        ensures accepted { OnOk result (IsAccepted (read_under R.answer self.old name.now source.now)) }
+        ensures accepted { OnOk result (IsAccepted (read_under E.Rule.answer self.old name.now source.now)) }
         ensures stands { OnOk result
-            (Changes (changes.added name.now (read_under R.answer self.old name.now source.now)) self.old self.new) }
+            (Changes (changes.added name.now (read_under E.Rule.answer self.old name.now source.now)) self.old self.new) }
         ensures settings { settings_of (registry_of self.new) ≡ settings_of (registry_of self.old) }
-        ensures callback { callback_of self.new ≡ callback_of self.old }
-        ensures refused { IfErr result (IsRefusedWith (read_under R.answer self.old name.now source.now)) }
+        ensures extras { extras_of self.new ≡ extras_of self.old }
+        ensures refused { IfErr result (IsRefusedWith (read_under E.Rule.answer self.old name.now source.now)) }
         ensures too_large { 2 ^ 32 ≤ length source.now → result ≡ Err (ErrorKind.TooLarge ∷ []) }
-        ensures plain { IsPlain (read_under R.answer self.old name.now source.now) → IfErr result IsRefusedForRoom }
+        ensures plain { IsPlain (read_under E.Rule.answer self.old name.now source.now) → IfErr result IsRefusedForRoom }
         ensures stays { OnErr result
-            (Changes (changes.refused name.now (read_under R.answer self.old name.now source.now)) self.old self.new) }
+            (Changes (changes.refused name.now (read_under E.Rule.answer self.old name.now source.now)) self.old self.new) }
         ensures unchanged { OnErr result (IsUnchanged self.old self.new) }
     {
         let compiled = self.compile(name, source)?;
@@ -213,18 +188,18 @@ impl<'source, R: AutoEscapeRule> Environment<'source, R> {
     ///
     /// As [`Environment::add_template`].
     pub fn add_template_owned(&mut self, name: CowStr<'_>, source: CowStr<'_>) -> Result<(), Error>
-        ensures accepted { OnOk result (IsAccepted (read_under R.answer self.old (cow_str_bytes name.entry) (cow_str_bytes source.entry))) }
+        ensures accepted { OnOk result (IsAccepted (read_under E.Rule.answer self.old (cow_str_bytes name.entry) (cow_str_bytes source.entry))) }
         ensures stands { OnOk result (Changes (changes.added (cow_str_bytes name.entry)
-            (read_under R.answer self.old (cow_str_bytes name.entry) (cow_str_bytes source.entry))) self.old self.new) }
+            (read_under E.Rule.answer self.old (cow_str_bytes name.entry) (cow_str_bytes source.entry))) self.old self.new) }
         ensures settings { settings_of (registry_of self.new) ≡ settings_of (registry_of self.old) }
-        ensures callback { callback_of self.new ≡ callback_of self.old }
+        ensures extras { extras_of self.new ≡ extras_of self.old }
         ensures refused { IfErr result
-            (IsRefusedWith (read_under R.answer self.old (cow_str_bytes name.entry) (cow_str_bytes source.entry))) }
+            (IsRefusedWith (read_under E.Rule.answer self.old (cow_str_bytes name.entry) (cow_str_bytes source.entry))) }
         ensures too_large { 2 ^ 32 ≤ length (cow_str_bytes source.entry) → result ≡ Err (ErrorKind.TooLarge ∷ []) }
-        ensures plain { IsPlain (read_under R.answer self.old (cow_str_bytes name.entry) (cow_str_bytes source.entry)) →
+        ensures plain { IsPlain (read_under E.Rule.answer self.old (cow_str_bytes name.entry) (cow_str_bytes source.entry)) →
             IfErr result IsRefusedForRoom }
         ensures stays { OnErr result (Changes (changes.refused (cow_str_bytes name.entry)
-            (read_under R.answer self.old (cow_str_bytes name.entry) (cow_str_bytes source.entry))) self.old self.new) }
+            (read_under E.Rule.answer self.old (cow_str_bytes name.entry) (cow_str_bytes source.entry))) self.old self.new) }
         ensures unchanged { OnErr result (IsUnchanged self.old self.new) }
     {
         let alloc = self.registry.alloc;
@@ -240,11 +215,11 @@ impl<'source, R: AutoEscapeRule> Environment<'source, R> {
         source: &'source str,
     ) -> Result<CompiledTemplate<'source>, Error>
         ensures name { IfOk result (λ t. t.name ≡ name.now) }
-        ensures source { IfOk result (λ t. t.source ≡ read_under R.answer self.now name.now source.now) }
+        ensures source { IfOk result (λ t. t.source ≡ read_under E.Rule.answer self.now name.now source.now) }
         ensures faithful { IfOk result IsFaithful }
-        ensures refused { IfErr result (IsRefusedWith (read_under R.answer self.now name.now source.now)) }
+        ensures refused { IfErr result (IsRefusedWith (read_under E.Rule.answer self.now name.now source.now)) }
         ensures too_large { 2 ^ 32 ≤ length source.now → result ≡ Err (ErrorKind.TooLarge ∷ []) }
-        ensures plain { IsPlain (read_under R.answer self.now name.now source.now) → IfErr result IsRefusedForRoom }
+        ensures plain { IsPlain (read_under E.Rule.answer self.now name.now source.now) → IfErr result IsRefusedForRoom }
     {
         let alloc = self.registry.alloc;
         let compiled = CompiledTemplate::new(alloc, name, source, &self.registry.config)?;
@@ -257,12 +232,12 @@ impl<'source, R: AutoEscapeRule> Environment<'source, R> {
         ensures text { result.source.text ≡ compiled.entry.source.text }
         ensures syntax { result.source.syntax ≡ compiled.entry.source.syntax }
         ensures escapes { result.source.escapes
-            ≡ rule_for R.answer compiled.entry.source.escapes (callback_of self.now) compiled.entry.name }
+            ≡ rule_for E.Rule.answer compiled.entry.source.escapes (extras_of self.now).rule compiled.entry.name }
         ensures faithful { IsFaithful result }
     {
-        match &self.callback {
-            Some(callback) => {
-                let escape = callback.rule(compiled.name());
+        match &self.extensions.rule {
+            Some(rule) => {
+                let escape = rule.rule(compiled.name());
                 compiled.with_auto_escape(escape)
             }
             None => compiled,
@@ -273,7 +248,7 @@ impl<'source, R: AutoEscapeRule> Environment<'source, R> {
     pub fn remove_template(&mut self, name: &str)
         ensures removed { Changes (changes.removed name.now) self.old self.new }
         ensures settings { settings_of (registry_of self.new) ≡ settings_of (registry_of self.old) }
-        ensures callback { callback_of self.new ≡ callback_of self.old }
+        ensures extras { extras_of self.new ≡ extras_of self.old }
     {
         self.registry.remove(name);
     }
@@ -282,7 +257,7 @@ impl<'source, R: AutoEscapeRule> Environment<'source, R> {
     pub fn clear_templates(&mut self)
         ensures cleared { Changes changes.cleared self.old self.new }
         ensures settings { settings_of (registry_of self.new) ≡ settings_of (registry_of self.old) }
-        ensures callback { callback_of self.new ≡ callback_of self.old }
+        ensures extras { extras_of self.new ≡ extras_of self.old }
     {
         self.registry.clear();
     }
@@ -302,7 +277,7 @@ impl<'source, R: AutoEscapeRule> Environment<'source, R> {
         ensures settings { OnOk result (settings_of (registry_of self.new) ≡ record (settings_of (registry_of self.old))
             { globals = with_global name.now value (settings_of (registry_of self.old)).globals }) }
         ensures sources { (name : List ℕ) → source_at (registry_of self.new) name ≡ source_at (registry_of self.old) name }
-        ensures callback { callback_of self.new ≡ callback_of self.old }
+        ensures extras { extras_of self.new ≡ extras_of self.old }
         ensures refused { IfErr result NoMemory }
         ensures unchanged { OnErr result (IsUnchanged self.old self.new) }
     {
@@ -317,7 +292,7 @@ impl<'source, R: AutoEscapeRule> Environment<'source, R> {
         ensures settings { settings_of (registry_of self.new) ≡ record (settings_of (registry_of self.old))
             { globals = without_global name.now (settings_of (registry_of self.old)).globals } }
         ensures sources { (name : List ℕ) → source_at (registry_of self.new) name ≡ source_at (registry_of self.old) name }
-        ensures callback { callback_of self.new ≡ callback_of self.old }
+        ensures extras { extras_of self.new ≡ extras_of self.old }
     {
         self.registry.remove_global(name);
     }
@@ -339,7 +314,7 @@ impl<'source, R: AutoEscapeRule> Environment<'source, R> {
     pub fn set_syntax(&mut self, syntax: SyntaxConfig)
         ensures sources { (name : List ℕ) → source_at (registry_of self.new) name ≡ source_at (registry_of self.old) name }
         ensures settings { settings_of (registry_of self.new) ≡ record (settings_of (registry_of self.old)) { syntax = syntax } }
-        ensures callback { callback_of self.new ≡ callback_of self.old }
+        ensures extras { extras_of self.new ≡ extras_of self.old }
     {
         self.registry.config.syntax_config = syntax;
     }
@@ -355,7 +330,7 @@ impl<'source, R: AutoEscapeRule> Environment<'source, R> {
     pub fn set_fuel(&mut self, fuel: Option<u64>)
         ensures sources { (name : List ℕ) → source_at (registry_of self.new) name ≡ source_at (registry_of self.old) name }
         ensures settings { settings_of (registry_of self.new) ≡ record (settings_of (registry_of self.old)) { fuel = fuel } }
-        ensures callback { callback_of self.new ≡ callback_of self.old }
+        ensures extras { extras_of self.new ≡ extras_of self.old }
     {
         self.registry.fuel = fuel;
     }
@@ -372,7 +347,7 @@ impl<'source, R: AutoEscapeRule> Environment<'source, R> {
         ensures sources { (name : List ℕ) → source_at (registry_of self.new) name ≡ source_at (registry_of self.old) name }
         ensures settings { settings_of (registry_of self.new)
             ≡ record (settings_of (registry_of self.old)) { limit = min level greatest_limit } }
-        ensures callback { callback_of self.new ≡ callback_of self.old }
+        ensures extras { extras_of self.new ≡ extras_of self.old }
     {
         self.registry.recursion_limit = level.min(MAX_RECURSION);
     }
@@ -388,7 +363,7 @@ impl<'source, R: AutoEscapeRule> Environment<'source, R> {
     pub fn set_undefined_behavior(&mut self, behavior: UndefinedBehavior)
         ensures sources { (name : List ℕ) → source_at (registry_of self.new) name ≡ source_at (registry_of self.old) name }
         ensures settings { settings_of (registry_of self.new) ≡ record (settings_of (registry_of self.old)) { undefined = behavior } }
-        ensures callback { callback_of self.new ≡ callback_of self.old }
+        ensures extras { extras_of self.new ≡ extras_of self.old }
     {
         self.registry.undefined_behavior = behavior;
     }
@@ -400,23 +375,12 @@ impl<'source, R: AutoEscapeRule> Environment<'source, R> {
         self.registry.undefined_behavior
     }
 
-    /// Sets the rule that from now on gives the escape of each template that is added or read, by its name. One that
-    /// was set before is dropped.
-    pub fn set_auto_escape_callback(&mut self, rule: R)
-        ensures sources { (name : List ℕ) → source_at (registry_of self.new) name ≡ source_at (registry_of self.old) name }
-        ensures settings { settings_of (registry_of self.new) ≡ settings_of (registry_of self.old) }
-        ensures callback { callback_of self.new ≡ Some rule }
-        ensures escapes { (name text : List ℕ) → (read_under R.answer self.new name text).escapes ≡ EscapeRule.Fixed (R.answer rule name) }
-    {
-        self.callback = Some(rule);
-    }
-
     /// The template that stands under a name. Takes a look-up among the names, and no memory.
     ///
     /// # Errors
     ///
     /// [`ErrorKind::TemplateNotFound`] where none stands.
-    pub fn get_template(&self, name: &str) -> Result<Template<'_, 'source, R>, Error>
+    pub fn get_template(&self, name: &str) -> Result<Template<'_, 'source, E>, Error>
         ensures found { IfOk result (λ t. source_at (registry_of self.now) name.now ≡ Some (source_of t)) }
         ensures named { IfOk result (λ t. name_of t ≡ name.now) }
         ensures here { IfOk result (λ t. environment_of t ≡ self.now) }
@@ -437,7 +401,7 @@ impl<'source, R: AutoEscapeRule> Environment<'source, R> {
     /// # Errors
     ///
     /// [`ErrorKind::OutOfMemory`]
-    pub fn templates(&self) -> Result<Vec<Template<'_, 'source, R>>, Error>
+    pub fn templates(&self) -> Result<Vec<Template<'_, 'source, E>>, Error>
         ensures listed { IfOk result (λ list. (name : List ℕ) → source_at (registry_of self.now) name
             ≡ option_map source_of (find (λ t. bytes_eq name (name_of t)) list.items)) }
         ensures ordered { IfOk result (λ list. IsStrictlySortedBy (slice_cmp nat_cmp) (map name_of list.items)) }
@@ -460,15 +424,15 @@ impl<'source, R: AutoEscapeRule> Environment<'source, R> {
     /// # Errors
     ///
     /// Those of [`Environment::add_template`].
-    pub fn template_from_str(&self, source: &'source str) -> Result<Template<'_, 'source, R>, Error>
-        ensures accepted { OnOk result (IsAccepted (read_under R.answer self.now unnamed source.now)) }
-        ensures source { IfOk result (λ t. source_of t ≡ read_under R.answer self.now unnamed source.now) }
+    pub fn template_from_str(&self, source: &'source str) -> Result<Template<'_, 'source, E>, Error>
+        ensures accepted { OnOk result (IsAccepted (read_under E.Rule.answer self.now unnamed source.now)) }
+        ensures source { IfOk result (λ t. source_of t ≡ read_under E.Rule.answer self.now unnamed source.now) }
         ensures named { IfOk result (λ t. name_of t ≡ unnamed) }
         ensures escape { IfOk result (λ t. IsEscapeOf (source_of t).escapes unnamed (escape_of t)) }
         ensures here { IfOk result (λ t. environment_of t ≡ self.now) }
-        ensures refused { IfErr result (IsRefusedWith (read_under R.answer self.now unnamed source.now)) }
+        ensures refused { IfErr result (IsRefusedWith (read_under E.Rule.answer self.now unnamed source.now)) }
         ensures too_large { 2 ^ 32 ≤ length source.now → result ≡ Err (ErrorKind.TooLarge ∷ []) }
-        ensures plain { IsPlain (read_under R.answer self.now unnamed source.now) → IfErr result IsRefusedForRoom }
+        ensures plain { IsPlain (read_under E.Rule.answer self.now unnamed source.now) → IfErr result IsRefusedForRoom }
     {
         self.template_from_named_str(UNNAMED, source)
     }
@@ -483,15 +447,15 @@ impl<'source, R: AutoEscapeRule> Environment<'source, R> {
         &self,
         name: &'source str,
         source: &'source str,
-    ) -> Result<Template<'_, 'source, R>, Error>
-        ensures accepted { OnOk result (IsAccepted (read_under R.answer self.now name.now source.now)) }
-        ensures source { IfOk result (λ t. source_of t ≡ read_under R.answer self.now name.now source.now) }
+    ) -> Result<Template<'_, 'source, E>, Error>
+        ensures accepted { OnOk result (IsAccepted (read_under E.Rule.answer self.now name.now source.now)) }
+        ensures source { IfOk result (λ t. source_of t ≡ read_under E.Rule.answer self.now name.now source.now) }
         ensures named { IfOk result (λ t. name_of t ≡ name.now) }
         ensures escape { IfOk result (λ t. IsEscapeOf (source_of t).escapes name.now (escape_of t)) }
         ensures here { IfOk result (λ t. environment_of t ≡ self.now) }
-        ensures refused { IfErr result (IsRefusedWith (read_under R.answer self.now name.now source.now)) }
+        ensures refused { IfErr result (IsRefusedWith (read_under E.Rule.answer self.now name.now source.now)) }
         ensures too_large { 2 ^ 32 ≤ length source.now → result ≡ Err (ErrorKind.TooLarge ∷ []) }
-        ensures plain { IsPlain (read_under R.answer self.now name.now source.now) → IfErr result IsRefusedForRoom }
+        ensures plain { IsPlain (read_under E.Rule.answer self.now name.now source.now) → IfErr result IsRefusedForRoom }
     {
         let own = self.compile(name, source)?;
         Ok(Template {
@@ -505,7 +469,7 @@ impl<'source, R: AutoEscapeRule> Environment<'source, R> {
     /// # Errors
     ///
     /// [`ErrorKind::OutOfMemory`]; [`ErrorKind::InvalidOperation`] where no state id is left.
-    pub fn empty_state(&self, ids: &mut StateIds) -> Result<State<'_, 'source, R>, Error>
+    pub fn empty_state(&self, ids: &mut StateIds) -> Result<State<'_, 'source, E>, Error>
         ensures here { IfOk result (λ s. environment_in s ≡ self.now) }
         ensures named { IfOk result (λ s. name_in s ≡ unknown) }
         ensures world { IfOk result (λ s. world_in s
@@ -532,19 +496,18 @@ impl<'source, R: AutoEscapeRule> Environment<'source, R> {
         ids: &mut StateIds,
         context: Value,
     ) -> Result<String, Error>
-        ensures renders { RendersSource (registry_of self.now) unnamed (read_under R.answer self.now unnamed source.now)
-            context ids.old ids.new (λ text. string_bytes text) result }
+        ensures renders { RendersSource (callables_of E.Callable.answer E.Method.answer self.now) (registry_of self.now) unnamed
+            (read_under E.Rule.answer self.now unnamed source.now) context ids.old ids.new (λ text. string_bytes text) result }
         ensures too_large { 2 ^ 32 ≤ length source.now → result ≡ Err (ErrorKind.TooLarge ∷ []) }
 
         // Where no marker starts in the source, that is its text.
-        ensures plain { ids.old ≢ u64.MAX → IsPlain (read_under R.answer self.now unnamed source.now) →
-            ReadGivesItself (settings_of (registry_of self.now)).fuel (text_kept (read_under R.answer self.now unnamed source.now))
+        ensures plain { ids.old ≢ u64.MAX → IsPlain (read_under E.Rule.answer self.now unnamed source.now) →
+            ReadGivesItself (settings_of (registry_of self.now)).fuel (text_kept (read_under E.Rule.answer self.now unnamed source.now))
             (λ text. string_bytes text) result }
 
-        // Contexts that agree at the names that can matter make no difference.
-        ensures isolated { (other : Val) →
-            AgreeForSource (registry_of self.now) (read_under R.answer self.now unnamed source.now) context other →
-            IsSameForSource (registry_of self.now) (read_under R.answer self.now unnamed source.now) context other }
+        // Where what the user brought asks for no names, contexts that agree at those that can matter make no difference.
+        ensures isolated { IsIsolatedSource (callables_of E.Callable.answer E.Method.answer self.now) (registry_of self.now)
+            (read_under E.Rule.answer self.now unnamed source.now) context }
     {
         self.render_named_str(UNNAMED, source, ids, context)
     }
@@ -563,19 +526,18 @@ impl<'source, R: AutoEscapeRule> Environment<'source, R> {
         ids: &mut StateIds,
         context: Value,
     ) -> Result<String, Error>
-        ensures renders { RendersSource (registry_of self.now) name.now (read_under R.answer self.now name.now source.now)
-            context ids.old ids.new (λ text. string_bytes text) result }
+        ensures renders { RendersSource (callables_of E.Callable.answer E.Method.answer self.now) (registry_of self.now) name.now
+            (read_under E.Rule.answer self.now name.now source.now) context ids.old ids.new (λ text. string_bytes text) result }
         ensures too_large { 2 ^ 32 ≤ length source.now → result ≡ Err (ErrorKind.TooLarge ∷ []) }
 
         // Where no marker starts in the source, that is its text.
-        ensures plain { ids.old ≢ u64.MAX → IsPlain (read_under R.answer self.now name.now source.now) →
-            ReadGivesItself (settings_of (registry_of self.now)).fuel (text_kept (read_under R.answer self.now name.now source.now))
+        ensures plain { ids.old ≢ u64.MAX → IsPlain (read_under E.Rule.answer self.now name.now source.now) →
+            ReadGivesItself (settings_of (registry_of self.now)).fuel (text_kept (read_under E.Rule.answer self.now name.now source.now))
             (λ text. string_bytes text) result }
 
-        // Contexts that agree at the names that can matter make no difference.
-        ensures isolated { (other : Val) →
-            AgreeForSource (registry_of self.now) (read_under R.answer self.now name.now source.now) context other →
-            IsSameForSource (registry_of self.now) (read_under R.answer self.now name.now source.now) context other }
+        // Where what the user brought asks for no names, contexts that agree at those that can matter make no difference.
+        ensures isolated { IsIsolatedSource (callables_of E.Callable.answer E.Method.answer self.now) (registry_of self.now)
+            (read_under E.Rule.answer self.now name.now source.now) context }
     {
         isolation();
         let template = self.template_from_named_str(name, source)?;

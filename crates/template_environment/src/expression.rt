@@ -3,35 +3,37 @@ ghost use Rattle.std.specs.Prelude.{◌≡◌, ◌≢◌, ◌≤◌, ◌^◌, �
 ghost use Rattle.std.specs.BTreeSet.{contains_text};
 ghost use Rattle.std.specs.Cow.{cow_str_bytes};
 ghost use Rattle.template_values_errors.specs.Memory.{NoMemory};
-ghost use Rattle.template_values_model.specs.Val.{Val};
 ghost use Rattle.template_process.specs.Fuel.{under};
 ghost use Rattle.template_machine_meaning.specs.Meaning.{evaluated};
 ghost use Rattle.template_compiled.specs.Expressions.{IsAcceptedExpression, IsExpressionRefusedWith, expression_in};
 ghost use Rattle.template_names.specs.Names.{IsToldAlone};
 ghost use Rattle.template_environment.specs.Evaluations.{Gives};
-ghost use Rattle.template_environment.specs.Standing.{setting_of};
+ghost use Rattle.template_environment.specs.Reading.{registry_of, setting_in};
 
 use crate::environment::Environment;
-use crate::registry::Registry;
 use std::borrow::CowStr;
 use std::collections::BTreeSet;
+use template_callables::{Extension, NoExtension};
 use template_compiled::CompiledExpression;
 use template_machine_meaning::expression_isolation;
 use template_machine_output::NullWriter;
 use template_machine_renders::run_expression;
 use template_machine_state::State as MachineState;
-use template_machine_surroundings::{AutoEscapeRule, NoRule, StateIds};
+use template_machine_surroundings::StateIds;
 use template_values_core::Value;
 use template_values_errors::{AutoEscape, Error, ErrorKind};
 use template_values_frozen::freeze;
 
+// The name that an expression runs under.
+const EXPRESSION: &str = "<expression>";
+
 /// An expression that an environment compiled.
-pub struct Expression<'env, 'source, R: AutoEscapeRule = NoRule> {
-    environment: &'env Environment<'source, R>,
+pub struct Expression<'env, 'source, E: Extension = NoExtension> {
+    environment: &'env Environment<'source, E>,
     pub(crate) compiled: CompiledExpression<'source>,
 }
 
-impl<'env, 'source, R: AutoEscapeRule> Drop for Expression<'env, 'source, R> {
+impl<'env, 'source, E: Extension> Drop for Expression<'env, 'source, E> {
     fn drop(self) {
         let Expression {
             environment: _,
@@ -40,7 +42,7 @@ impl<'env, 'source, R: AutoEscapeRule> Drop for Expression<'env, 'source, R> {
     }
 }
 
-impl<'source, R: AutoEscapeRule> Environment<'source, R> {
+impl<'source, E: Extension> Environment<'source, E> {
     ghost use Rattle.template_environment.specs.Evaluations.{environment_under, text_of};
 
     /// Compiles the source of an expression, which is read alike under every syntax. Takes time linear in the source,
@@ -52,7 +54,7 @@ impl<'source, R: AutoEscapeRule> Environment<'source, R> {
     pub fn compile_expression(
         &self,
         source: &'source str,
-    ) -> Result<Expression<'_, 'source, R>, Error>
+    ) -> Result<Expression<'_, 'source, E>, Error>
         ensures accepted { OnOk result (IsAcceptedExpression source.now) }
         ensures source { IfOk result (λ e. text_of e ≡ source.now) }
         ensures here { IfOk result (λ e. environment_under e ≡ self.now) }
@@ -74,7 +76,7 @@ impl<'source, R: AutoEscapeRule> Environment<'source, R> {
     pub fn compile_expression_owned(
         &self,
         source: CowStr<'_>,
-    ) -> Result<Expression<'_, 'source, R>, Error>
+    ) -> Result<Expression<'_, 'source, E>, Error>
         ensures accepted { OnOk result (IsAcceptedExpression (cow_str_bytes source.entry)) }
         ensures source { IfOk result (λ e. text_of e ≡ cow_str_bytes source.entry) }
         ensures here { IfOk result (λ e. environment_under e ≡ self.now) }
@@ -89,14 +91,14 @@ impl<'source, R: AutoEscapeRule> Environment<'source, R> {
     }
 }
 
-impl<'env, 'source, R: AutoEscapeRule> Expression<'env, 'source, R> {
-    ghost use Rattle.template_environment.specs.Evaluations.{AgreeAlong, IsSameEvaluation, evaluation_of, fuel_under, text_of};
+impl<'env, 'source, E: Extension> Expression<'env, 'source, E> {
+    ghost use Rattle.template_environment.specs.Evaluations.{IsIsolatedEvaluation, evaluation_of, fuel_under, text_of};
 
     /// The value of the expression over a context, under no escape and the fuel of its environment, in a state of its
-    /// own. The templates and the globals that stand there do so here. Contexts that agree at the names that stand in
-    /// the expression give the same. A namespace is given as a map of what it holds, and so is each that stands in the
-    /// value, since no other state knows it. Linear in the instructions that it runs, besides what operators and
-    /// functions cost, and in the value that it gives.
+    /// own. The templates and the globals that stand there do so here. Where what the user brought asks for no names,
+    /// contexts that agree at those that stand in the expression give the same. A namespace is given as a map of what it
+    /// holds, and so is each that stands in the value, since no other state knows it. Linear in the instructions that it
+    /// runs, besides what operators and calls cost, and in the value that it gives.
     ///
     /// # Errors
     ///
@@ -105,15 +107,16 @@ impl<'env, 'source, R: AutoEscapeRule> Expression<'env, 'source, R> {
     /// itself, and where no state id is left; [`ErrorKind::OutOfMemory`] where a growth was refused. Never
     /// [`ErrorKind::WriteFailure`], since it writes nothing.
     pub fn eval(&self, ids: &mut StateIds, context: Value) -> Result<Value, Error>
-        ensures value { ids.old ≢ u64.MAX → Gives result (under (fuel_under self.now) (evaluation_of self.now ids.old context)) }
+        ensures value { ids.old ≢ u64.MAX → Gives result
+            (under (fuel_under self.now) (evaluation_of E.Callable.answer E.Method.answer self.now ids.old context)) }
         ensures no_write_failure { IfErr result (λ kinds. kinds ≢ ErrorKind.WriteFailure ∷ []) }
         ensures counted { ids.old ≢ u64.MAX → ids.new ≡ ids.old + 1 }
         ensures exhausted { ids.old ≡ u64.MAX → (result ≡ Err (ErrorKind.InvalidOperation ∷ [])) × (ids.new ≡ ids.old) }
-        ensures isolated { (other : Val) → AgreeAlong self.now context other → IsSameEvaluation self.now context other }
+        ensures isolated { IsIsolatedEvaluation E.Callable.answer E.Method.answer self.now context }
     {
         expression_isolation();
         let id = ids.next()?;
-        evaluate(&self.environment.registry, id, &self.compiled, context)
+        evaluate(self.environment, id, &self.compiled, context)
     }
 
     /// The names that the expression uses, each once, by order of their bytes; where `nested`, each with the dotted
@@ -135,15 +138,17 @@ impl<'env, 'source, R: AutoEscapeRule> Expression<'env, 'source, R> {
 
 // Runs the code of an expression over a context, in the state of a number, and hands its value out. It writes nothing and opens
 // no loop.
-fn evaluate<'env, 'source>(
-    registry: &'env Registry<'source>,
+fn evaluate<'env, 'source, E: Extension>(
+    environment: &'env Environment<'source, E>,
     id: u64,
     compiled: &'env CompiledExpression<'source>,
     context: Value,
 ) -> Result<Value, Error>
-    ensures value { Gives result (under registry.now.fuel (evaluated (setting_of registry.now) id (expression_in compiled.now) context)) }
+    ensures value { Gives result (under (registry_of environment.now).fuel
+        (evaluated (setting_in E.Callable.answer E.Method.answer environment.now) id (expression_in compiled.now) context)) }
     ensures no_write_failure { IfErr result (λ kinds. kinds ≢ ErrorKind.WriteFailure ∷ []) }
 {
+    let registry = &environment.registry;
     let alloc = registry.alloc;
     let mut state: MachineState<'env> = MachineState::new(
         alloc,
@@ -156,8 +161,8 @@ fn evaluate<'env, 'source>(
     let mut scratch = String::new(alloc);
     let value = run_expression(
         alloc,
-        registry.rules(),
-        registry,
+        registry.rules(EXPRESSION),
+        environment,
         compiled.instructions(),
         &mut state,
         &mut left,

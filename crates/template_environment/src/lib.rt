@@ -1,8 +1,11 @@
-//! Environments: the templates that stand, and their renders; and expressions.
+//! Environments: the templates that stand, what a user brings, and renders; and expressions.
 #![tactic(auto)]
 
+mod bringing;
 mod environment;
 mod expression;
+mod extensions;
+mod hosting;
 mod laws;
 mod names;
 mod registry;
@@ -12,7 +15,8 @@ mod template;
 pub use environment::Environment;
 pub use expression::Expression;
 pub use laws::{
-    every_expression_runs, every_render_ends, every_template_runs, isolated_renders, plain_renders,
+    every_expression_runs, every_render_ends, every_template_runs, isolated_renders,
+    none_ask_names, plain_renders,
 };
 pub use registry::Registry;
 pub use state::State;

@@ -4,38 +4,38 @@ ghost use Rattle.std.specs.BTreeSet.{contains_text};
 ghost use Rattle.template_values_errors.specs.Memory.{NoMemory};
 ghost use Rattle.template_values_model.specs.Val.{Val};
 ghost use Rattle.template_names.specs.Names.{IsTold};
-ghost use Rattle.template_machine_meaning.specs.Isolation.{IsContextName, is_given};
+ghost use Rattle.template_machine_meaning.specs.Isolation.{AskNoNames, IsContextName, is_given};
 ghost use Rattle.template_environment.specs.Isolated.{AgreeAmong, IsSameRenderIn, tree_of};
-ghost use Rattle.template_environment.specs.Reading.{registry_of};
-ghost use Rattle.template_environment.specs.Standing.{setting_of};
+ghost use Rattle.template_environment.specs.Reading.{callables_of, registry_of, setting_in};
 
 use crate::environment::Environment;
 use crate::template::Template;
 use std::alloc::Global;
 use std::collections::BTreeSet;
+use template_callables::Extension;
 use template_machine_meaning::isolation;
-use template_machine_surroundings::AutoEscapeRule;
 use template_names_undeclared::add_name;
 use template_values_errors::Error;
 
-impl<'source, R: AutoEscapeRule> Environment<'source, R> {
+impl<'source, E: Extension> Environment<'source, E> {
     /// The names of a context that can matter to a render of a template of this environment: `caller`, `loop`,
-    /// `self`, `super`, and the names that it uses, or a template that stands. Reads the source of each once more,
-    /// in time linear in their length, and takes a look-up for each place of use.
+    /// `self`, `super`, and the names that it uses, or a template that stands. What a user brought may ask for others
+    /// ([`Further::Lookup`](template_callables::Further::Lookup)): these are not among them. Reads the source of each once
+    /// more, in time linear in their length, and takes a look-up for each place of use.
     ///
     /// # Errors
     ///
     /// [`ErrorKind::OutOfMemory`].
     pub fn context_names(
         &self,
-        template: &Template<'_, 'source, R>,
+        template: &Template<'_, 'source, E>,
     ) -> Result<BTreeSet<String>, Error>
         ensures listed { IfOk result (λ names. (name : List ℕ) → IsTrue (contains_text names name)
-            ↔ IsContextName (setting_of (registry_of self.now)) (tree_of template.now) name) }
+            ↔ IsContextName (setting_in E.Callable.answer E.Method.answer self.now) (tree_of template.now) name) }
 
-        // Contexts that agree at these names make no difference to its renders here.
-        ensures isolated { IfOk result (λ names. (c d : Val) → AgreeAmong names c d →
-            IsSameRenderIn (registry_of self.now) template.now c d) }
+        // Where what the user brought asks for no names, contexts that agree at these make no difference to its renders here.
+        ensures isolated { IfOk result (λ names. AskNoNames (callables_of E.Callable.answer E.Method.answer self.now) → (c d : Val) →
+            AgreeAmong names c d → IsSameRenderIn (callables_of E.Callable.answer E.Method.answer self.now) (registry_of self.now) template.now c d) }
         ensures refused { IfErr result NoMemory }
     {
         let alloc = self.allocator();
@@ -47,7 +47,7 @@ impl<'source, R: AutoEscapeRule> Environment<'source, R> {
     }
 }
 
-impl<'env, 'source, R: AutoEscapeRule> Template<'env, 'source, R> {
+impl<'env, 'source, E: Extension> Template<'env, 'source, E> {
     /// The names that the template uses where no store of theirs goes before, each once, by order of their bytes; where
     /// `nested`, each with the dotted names that stand directly behind it, as `page.title`. Reads the source once more,
     /// in time linear in its length, and takes a look-up for each place of use.

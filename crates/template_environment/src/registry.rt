@@ -1,4 +1,4 @@
-//! What renders see of an environment.
+//! What renders see of an environment beside what its user brought.
 ghost use Rattle.std.specs.Prelude.{ℕ, List};
 ghost use Rattle.std.specs.Option.{ForSome};
 ghost use Rattle.template_machine_surroundings.specs.Rule.{IsEscapeOf};
@@ -7,15 +7,14 @@ ghost use Rattle.template_compiled.specs.Standing.{compiled_at};
 use std::alloc::Global;
 use template_compiled::{CompiledTemplate, CompiledTemplates, TemplateConfig};
 use template_machine_globals::Globals;
-use template_machine_renders::{Compiled, Rules, Templates};
+use template_machine_renders::Rules;
 use template_values_core::Value;
 use template_values_errors::{Error, UndefinedBehavior};
 
-/// The templates that stand, by name, and what each render keeps to: all of an environment but its own rule of escapes.
+/// The templates that stand, by name, and what each render keeps to: all of an environment but what its user brought.
 #[derive(Drop)]
 pub struct Registry<'source> {
-    pub(crate) id: u64,
-    // What stands under the frames of each run.
+    // The environment's number, and what stands under the frames of each run.
     pub(crate) globals: Globals,
     pub(crate) alloc: Global,
     pub(crate) templates: CompiledTemplates<'source>,
@@ -25,22 +24,6 @@ pub struct Registry<'source> {
     pub(crate) undefined_behavior: UndefinedBehavior,
     // What stands has the escape of the name that it stands under.
     ghost escaped: { (name : List ℕ) → ForSome (compiled_at templates name) (λ t. ∥ IsEscapeOf t.source.escapes name t.escape ∥₁) },
-}
-
-impl<'source> Templates for Registry<'source> {
-    ghost use Rattle.template_environment.specs.Standing.{units_of};
-
-    ghost standing = { units_of };
-
-    fn get(&self, name: &str) -> Option<Compiled<'_>> {
-        match self.templates.get(name) {
-            Some(template) => Some(Compiled {
-                code: template.instructions(),
-                escape: template.initial_auto_escape(),
-            }),
-            None => None,
-        }
-    }
 }
 
 impl<'source> Registry<'source> {
@@ -103,12 +86,14 @@ impl<'source> Registry<'source> {
         self.globals.remove(name);
     }
 
-    // What its renders keep to.
-    pub(crate) fn rules(&self) -> Rules
+    // What a run keeps to, under the name of what is rendered or evaluated.
+    pub(crate) fn rules<'env>(&self, name: &'env str) -> Rules<'env>
+        ensures name { result.name.now ≡ name.now }
         ensures limit { result.limit ≡ self.now.recursion_limit }
         ensures undefined { result.undefined ≡ self.now.undefined_behavior }
     {
         Rules {
+            name,
             limit: self.recursion_limit,
             undefined: self.undefined_behavior,
         }

@@ -1,28 +1,33 @@
 //! States of templates, as callers see them.
-ghost use Rattle.std.specs.Prelude.{◌≡◌, ◌≢◌, ◌+◌, ◌∷◌, [], ℕ, List, IfOk, IfErr, Err, is_some, option_map};
+ghost use Rattle.std.specs.Prelude.{◌≡◌, ◌≢◌, ◌+◌, ◌∷◌, [], ℕ, List, IfOk, IfErr, OnOk, OnErr, Err, is_some, option_map};
 ghost use Rattle.std.specs.BTreeSet.{contains_text};
 ghost use Rattle.template_values_errors.specs.Memory.{NoMemory};
+ghost use Rattle.template_values_named.specs.Named.{local_at, with_named};
+ghost use Rattle.template_machine_meaning.specs.Functions.{filter_named, test_named};
 ghost use Rattle.template_machine_meaning.specs.World.{looked_up};
+ghost use Rattle.template_machine_calls.specs.Left.{KeptInWant, Replied, truth_left, value_left};
 ghost use Rattle.template_machine_state.specs.Names.{is_exported};
 ghost use Rattle.template_environment.specs.Renderings.{left_of, set_of};
 
 use crate::environment::Environment;
 use std::collections::BTreeSet;
+use template_callables::{Extension, NoExtension};
+use template_machine_calls::{call_filter, call_test};
 use template_machine_state::State as MachineState;
-use template_machine_surroundings::{AutoEscapeRule, NoRule, StateIds};
+use template_machine_surroundings::StateIds;
 use template_values_core::Value;
 use template_values_errors::{AutoEscape, Error, ErrorKind, UndefinedBehavior};
 
 /// What surrounds a template: as a render of it left it, or without any frame.
-pub struct State<'env, 'source, R: AutoEscapeRule = NoRule> {
+pub struct State<'env, 'source, E: Extension = NoExtension> {
     pub(crate) id: u64,
-    pub(crate) environment: &'env Environment<'source, R>,
+    pub(crate) environment: &'env Environment<'source, E>,
     pub(crate) name: &'env str,
     pub(crate) machine: MachineState<'env>,
     pub(crate) fuel: Option<(u64, u64)>,
 }
 
-impl<'env, 'source, R: AutoEscapeRule> Drop for State<'env, 'source, R> {
+impl<'env, 'source, E: Extension> Drop for State<'env, 'source, E> {
     fn drop(self) {
         let State {
             id: _,
@@ -34,18 +39,18 @@ impl<'env, 'source, R: AutoEscapeRule> Drop for State<'env, 'source, R> {
     }
 }
 
-impl<'env, 'source, R: AutoEscapeRule> State<'env, 'source, R> {
+impl<'env, 'source, E: Extension> State<'env, 'source, E> {
     ghost use Rattle.template_environment.specs.Standing.{settings_of};
     ghost use Rattle.template_environment.specs.Reading.{registry_of};
-    ghost use Rattle.template_environment.specs.States.{environment_in, frameless, fuel_left_in, fuel_set_in, id_in, name_in, world_in};
+    ghost use Rattle.template_environment.specs.States.{KeepsRest, call_in, environment_in, frameless, fuel_left_in, fuel_set_in, id_in, name_in, world_in};
 
     // A state without frames, under a name and an escape, that has consumed no fuel.
     pub(crate) fn without_frames(
-        environment: &'env Environment<'source, R>,
+        environment: &'env Environment<'source, E>,
         name: &'env str,
         escape: AutoEscape,
         ids: &mut StateIds,
-    ) -> Result<State<'env, 'source, R>, Error>
+    ) -> Result<State<'env, 'source, E>, Error>
         ensures here { IfOk result (λ s. environment_in s ≡ environment.now) }
         ensures named { IfOk result (λ s. name_in s ≡ name.now) }
         ensures world { IfOk result (λ s. world_in s
@@ -83,7 +88,7 @@ impl<'env, 'source, R: AutoEscapeRule> State<'env, 'source, R> {
     }
 
     /// The environment of its template.
-    pub fn env(&self) -> &'env Environment<'source, R>
+    pub fn env(&self) -> &'env Environment<'source, E>
         ensures { result.now ≡ environment_in self.now }
     {
         self.environment
@@ -150,6 +155,78 @@ impl<'env, 'source, R: AutoEscapeRule> State<'env, 'source, R> {
         ensures refused { IfErr result NoMemory }
     {
         self.machine.known_variables(self.environment.allocator())
+    }
+
+    /// What a filter comes to for these arguments, the first of which is what it filters; and what it asks the machine further.
+    /// Costs what the filter costs, and what it asks for.
+    ///
+    /// # Errors
+    ///
+    /// [`ErrorKind::UnknownFilter`] where the environment has none of this name; the fault that the filter answers with, or what
+    /// it asks for; [`ErrorKind::InvalidOperation`] where more is asked for at once than there are levels left, and in the
+    /// place of a fault with one of the machine's own kinds; [`ErrorKind::OutOfMemory`]. Some temps may then have been set.
+    pub fn apply_filter(&mut self, name: &str, args: &[Value]) -> Result<Value, Error>
+        ensures told { Replied value_left (call_in E.Callable.answer E.Method.answer self.old (filter_named name.now) args.now)
+            result (world_in self.new) }
+        ensures temps { KeptInWant result (world_in self.old) (world_in self.new) }
+        ensures rest { KeepsRest self.old self.new }
+    {
+        let environment = self.environment;
+        let rules = environment.registry.rules(self.name);
+        let alloc = environment.allocator();
+        call_filter(alloc, rules, environment, name, args, &mut self.machine)
+    }
+
+    /// What a test comes to for these arguments, the first of which is what it tests; and what it asks the machine further.
+    /// Costs what the test costs, and what it asks for.
+    ///
+    /// # Errors
+    ///
+    /// [`ErrorKind::UnknownTest`] where the environment has none of this name; else as [`State::apply_filter`].
+    pub fn perform_test(&mut self, name: &str, args: &[Value]) -> Result<bool, Error>
+        ensures told { Replied truth_left (call_in E.Callable.answer E.Method.answer self.old (test_named name.now) args.now)
+            result (world_in self.new) }
+        ensures temps { KeptInWant result (world_in self.old) (world_in self.new) }
+        ensures rest { KeepsRest self.old self.new }
+    {
+        let environment = self.environment;
+        let rules = environment.registry.rules(self.name);
+        let alloc = environment.allocator();
+        call_test(alloc, rules, environment, name, args, &mut self.machine)
+    }
+
+    /// What was set last under a name, by a callable or by [`State::set_temp`]. Logarithmic in the number of temps. The value
+    /// shares its contents.
+    ///
+    /// # Errors
+    ///
+    /// [`ErrorKind::OutOfMemory`]
+    pub fn get_temp(&self, name: &str) -> Result<Option<Value>, Error>
+        ensures found { IfOk result (λ found. found ≡ local_at name.now (world_in self.now).temps) }
+        ensures refused { IfErr result NoMemory }
+    {
+        match self.machine.temp(name) {
+            Some(value) => Ok(Some(value.copy()?)),
+            None => Ok(None),
+        }
+    }
+
+    /// Sets a value under a name, for the callables that are called from now on in this state. Gives the value in whose
+    /// place it stands, if there was one. Logarithmic in the number of temps; keeps a copy of the name.
+    ///
+    /// # Errors
+    ///
+    /// [`ErrorKind::OutOfMemory`]; the temps are then as before.
+    pub fn set_temp(&mut self, name: &str, value: Value) -> Result<Option<Value>, Error>
+        ensures set { OnOk result (world_in self.new
+            ≡ record (world_in self.old) { temps = with_named name.now value (world_in self.old).temps }) }
+        ensures replaced { IfOk result (λ replaced. replaced ≡ local_at name.now (world_in self.old).temps) }
+        ensures rest { KeepsRest self.old self.new }
+        ensures refused { IfErr result NoMemory }
+        ensures unchanged { OnErr result (world_in self.new ≡ world_in self.old) }
+    {
+        let alloc = self.environment.allocator();
+        self.machine.set_temp(alloc, name, value)
     }
 
     /// What was consumed of the fuel and what remains of it, where one was set.

@@ -1,7 +1,6 @@
 //! Templates of an environment, and what a render leaves.
 ghost use Rattle.std.specs.Prelude.{◌≡◌, ◌≢◌, ◌+◌, ◌∷◌, [], ℕ, IfOk, IfErr, Err, option_map, string_bytes};
 ghost use Rattle.template_values_errors.specs.Memory.{NoMemory};
-ghost use Rattle.template_values_model.specs.Val.{Val};
 ghost use Rattle.template_process.specs.Approximants.{IsFinished};
 ghost use Rattle.template_process.specs.Fuel.{under};
 ghost use Rattle.template_machine_surroundings.specs.Rule.{IsEscapeOf};
@@ -9,29 +8,30 @@ ghost use Rattle.template_machine_renders.specs.Outcomes.{TellsFailures};
 ghost use Rattle.template_machine_renders.specs.Renders.{Renders, leaves};
 ghost use Rattle.template_compiled.specs.Plain.{IsPlain, text_kept};
 ghost use Rattle.template_environment.specs.Plain.{GivesItself, WritesItself};
-ghost use Rattle.template_environment.specs.Renderings.{GivesText, left_of, rendering, set_of};
+ghost use Rattle.template_environment.specs.Reading.{registry_of};
+ghost use Rattle.template_environment.specs.Renderings.{GivesText, left_of, rendering_in, set_of};
 
 use crate::environment::Environment;
 use crate::laws::{isolated_renders, plain_renders};
-use crate::registry::Registry;
 use crate::state::State;
+use template_callables::{Extension, NoExtension};
 use template_compiled::CompiledTemplate;
 use template_machine_fuel::levels;
 use template_machine_output::Sink;
 use template_machine_renders::run_code;
 use template_machine_state::State as MachineState;
-use template_machine_surroundings::{AutoEscapeRule, NoRule, StateIds};
+use template_machine_surroundings::StateIds;
 use template_values_core::Value;
 use template_values_errors::{AutoEscape, Error, ErrorKind};
 
 /// A template of an environment: one that stands there, or one of its own, that was read under the environment's
 /// syntax and does not stand there.
-pub struct Template<'env, 'source, R: AutoEscapeRule = NoRule> {
-    pub(crate) environment: &'env Environment<'source, R>,
+pub struct Template<'env, 'source, E: Extension = NoExtension> {
+    pub(crate) environment: &'env Environment<'source, E>,
     pub(crate) compiled: TemplateCode<'env, 'source>,
 }
 
-impl<'env, 'source, R: AutoEscapeRule> Drop for Template<'env, 'source, R> {
+impl<'env, 'source, E: Extension> Drop for Template<'env, 'source, E> {
     fn drop(self) {
         let Template {
             environment: _,
@@ -61,12 +61,12 @@ impl<'env, 'source> TemplateCode<'env, 'source> {
 }
 
 /// What a render leaves behind.
-pub struct Captured<'env, 'source, R: AutoEscapeRule = NoRule> {
+pub struct Captured<'env, 'source, E: Extension = NoExtension> {
     output: String,
-    state: State<'env, 'source, R>,
+    state: State<'env, 'source, E>,
 }
 
-impl<'env, 'source, R: AutoEscapeRule> Drop for Captured<'env, 'source, R> {
+impl<'env, 'source, E: Extension> Drop for Captured<'env, 'source, E> {
     fn drop(self) {
         let Captured {
             output: _,
@@ -75,8 +75,8 @@ impl<'env, 'source, R: AutoEscapeRule> Drop for Captured<'env, 'source, R> {
     }
 }
 
-impl<'env, 'source, R: AutoEscapeRule> Template<'env, 'source, R> {
-    ghost use Rattle.template_environment.specs.Isolated.{AgreeFor, IsSameRender};
+impl<'env, 'source, E: Extension> Template<'env, 'source, E> {
+    ghost use Rattle.template_environment.specs.Isolated.{IsIsolated};
     ghost use Rattle.template_environment.specs.Views.{environment_of, escape_of, fuel_left, fuel_of, fuel_set, globals_of, id_of, name_of, output_of, render_of, source_of, state_of, world_of};
     ghost use Rattle.template_environment.specs.States.{environment_in, frameless, fuel_left_in, fuel_set_in, id_in, name_in, world_in};
 
@@ -107,7 +107,7 @@ impl<'env, 'source, R: AutoEscapeRule> Template<'env, 'source, R> {
     /// # Errors
     ///
     /// [`ErrorKind::OutOfMemory`]; [`ErrorKind::InvalidOperation`] where no state id is left.
-    pub fn new_state(&self, ids: &mut StateIds) -> Result<State<'_, 'source, R>, Error>
+    pub fn new_state(&self, ids: &mut StateIds) -> Result<State<'_, 'source, E>, Error>
         ensures here { IfOk result (λ s. environment_in s ≡ environment_of self.now) }
         ensures named { IfOk result (λ s. name_in s ≡ name_of self.now) }
         ensures world { IfOk result (λ s. world_in s ≡ frameless ids.old (globals_of self.now) (escape_of self.now)) }
@@ -127,22 +127,22 @@ impl<'env, 'source, R: AutoEscapeRule> Template<'env, 'source, R> {
     }
 
     /// The text of a render of the template over a context, under the escape of its name and the fuel of its
-    /// environment. Linear in the instructions that it runs and in its text, besides what operators cost.
+    /// environment. Linear in the instructions that it runs and in its text, besides what operators and calls cost.
     ///
     /// # Errors
     ///
     /// As [`Template::render_captured`].
     pub fn render(&self, ids: &mut StateIds, context: Value) -> Result<String, Error>
         // Under each bound where its meaning is finished, its text is the one that the call gives.
-        ensures text { ids.old ≢ u64.MAX → (n : ℕ) → IsFinished (render_of self.now ids.old n context).end →
-            GivesText (λ text. string_bytes text) result (under (fuel_of self.now) (render_of self.now ids.old n context)) }
+        ensures text { ids.old ≢ u64.MAX → (n : ℕ) → IsFinished (render_of E.Callable.answer E.Method.answer self.now ids.old n context).end →
+            GivesText (λ text. string_bytes text) result (under (fuel_of self.now) (render_of E.Callable.answer E.Method.answer self.now ids.old n context)) }
 
         // Where no marker starts in its source, that is its text.
         ensures plain { ids.old ≢ u64.MAX → IsPlain (source_of self.now) →
             GivesItself (fuel_of self.now) (text_kept (source_of self.now)) (λ text. string_bytes text) result }
 
-        // Contexts that agree at the names that can matter make no difference.
-        ensures isolated { (other : Val) → AgreeFor self.now context other → IsSameRender self.now context other }
+        // Where what the user brought asks for no names, contexts that agree at those that can matter make no difference.
+        ensures isolated { IsIsolated E.Callable.answer E.Method.answer self.now context }
         ensures no_write_failure { IfErr result (λ kinds. kinds ≢ ErrorKind.WriteFailure ∷ []) }
         ensures counted { ids.old ≢ u64.MAX → ids.new ≡ ids.old + 1 }
         ensures exhausted { ids.old ≡ u64.MAX → (result ≡ Err (ErrorKind.InvalidOperation ∷ [])) × (ids.new ≡ ids.old) }
@@ -165,21 +165,21 @@ impl<'env, 'source, R: AutoEscapeRule> Template<'env, 'source, R> {
         &self,
         ids: &mut StateIds,
         context: Value,
-    ) -> Result<Captured<'_, 'source, R>, Error>
+    ) -> Result<Captured<'_, 'source, E>, Error>
         // Under each bound where its meaning is finished, its text is the one that the call gives.
-        ensures text { ids.old ≢ u64.MAX → (n : ℕ) → IsFinished (render_of self.now ids.old n context).end →
-            GivesText output_of result (under (fuel_of self.now) (render_of self.now ids.old n context)) }
-        ensures remains { IfOk result (λ captured. (n : ℕ) → IsFinished (render_of self.now ids.old n context).end →
-            fuel_left captured ≡ leaves (fuel_of self.now) (render_of self.now ids.old n context)) }
-        ensures world { IfOk result (λ captured. (n : ℕ) → IsFinished (render_of self.now ids.old n context).end →
-            world_of captured ≡ (under (fuel_of self.now) (render_of self.now ids.old n context)).after) }
+        ensures text { ids.old ≢ u64.MAX → (n : ℕ) → IsFinished (render_of E.Callable.answer E.Method.answer self.now ids.old n context).end →
+            GivesText output_of result (under (fuel_of self.now) (render_of E.Callable.answer E.Method.answer self.now ids.old n context)) }
+        ensures remains { IfOk result (λ captured. (n : ℕ) → IsFinished (render_of E.Callable.answer E.Method.answer self.now ids.old n context).end →
+            fuel_left captured ≡ leaves (fuel_of self.now) (render_of E.Callable.answer E.Method.answer self.now ids.old n context)) }
+        ensures world { IfOk result (λ captured. (n : ℕ) → IsFinished (render_of E.Callable.answer E.Method.answer self.now ids.old n context).end →
+            world_of captured ≡ (under (fuel_of self.now) (render_of E.Callable.answer E.Method.answer self.now ids.old n context)).after) }
 
         // Where no marker starts in its source, that is its text.
         ensures plain { ids.old ≢ u64.MAX → IsPlain (source_of self.now) →
             GivesItself (fuel_of self.now) (text_kept (source_of self.now)) output_of result }
 
-        // Contexts that agree at the names that can matter make no difference.
-        ensures isolated { (other : Val) → AgreeFor self.now context other → IsSameRender self.now context other }
+        // Where what the user brought asks for no names, contexts that agree at those that can matter make no difference.
+        ensures isolated { IsIsolated E.Callable.answer E.Method.answer self.now context }
         ensures no_write_failure { IfErr result (λ kinds. kinds ≢ ErrorKind.WriteFailure ∷ []) }
         ensures given { IfOk result (λ captured. fuel_set captured ≡ fuel_of self.now) }
         ensures here { IfOk result (λ captured. environment_in (state_of captured) ≡ environment_of self.now) }
@@ -192,8 +192,13 @@ impl<'env, 'source, R: AutoEscapeRule> Template<'env, 'source, R> {
         plain_renders(self);
         let id = ids.next()?;
         let mut output = String::new(self.environment.allocator());
-        let registry = &self.environment.registry;
-        let (machine, fuel) = run(registry, id, self.compiled.get(), context, &mut output)?;
+        let (machine, fuel) = run(
+            self.environment,
+            id,
+            self.compiled.get(),
+            context,
+            &mut output,
+        )?;
         Ok(Captured {
             output,
             state: State {
@@ -221,21 +226,22 @@ impl<'env, 'source, R: AutoEscapeRule> Template<'env, 'source, R> {
         ids: &mut StateIds,
         context: Value,
         sink: &mut S,
-    ) -> Result<Captured<'_, 'source, R>, Error>
+    ) -> Result<Captured<'_, 'source, E>, Error>
         // Under each bound where its meaning is finished, it is what the call does.
-        ensures renders { ids.old ≢ u64.MAX → (n : ℕ) → IsFinished (render_of self.now ids.old n context).end →
-            Renders result (S.taken sink.old) (S.taken sink.new) (under (fuel_of self.now) (render_of self.now ids.old n context)) }
-        ensures remains { IfOk result (λ captured. (n : ℕ) → IsFinished (render_of self.now ids.old n context).end →
-            fuel_left captured ≡ leaves (fuel_of self.now) (render_of self.now ids.old n context)) }
-        ensures world { IfOk result (λ captured. (n : ℕ) → IsFinished (render_of self.now ids.old n context).end →
-            world_of captured ≡ (under (fuel_of self.now) (render_of self.now ids.old n context)).after) }
+        ensures renders { ids.old ≢ u64.MAX → (n : ℕ) → IsFinished (render_of E.Callable.answer E.Method.answer self.now ids.old n context).end →
+            Renders result (S.taken sink.old) (S.taken sink.new)
+            (under (fuel_of self.now) (render_of E.Callable.answer E.Method.answer self.now ids.old n context)) }
+        ensures remains { IfOk result (λ captured. (n : ℕ) → IsFinished (render_of E.Callable.answer E.Method.answer self.now ids.old n context).end →
+            fuel_left captured ≡ leaves (fuel_of self.now) (render_of E.Callable.answer E.Method.answer self.now ids.old n context)) }
+        ensures world { IfOk result (λ captured. (n : ℕ) → IsFinished (render_of E.Callable.answer E.Method.answer self.now ids.old n context).end →
+            world_of captured ≡ (under (fuel_of self.now) (render_of E.Callable.answer E.Method.answer self.now ids.old n context)).after) }
 
         // Where no marker starts in its source, that is its text.
         ensures plain { ids.old ≢ u64.MAX → IsPlain (source_of self.now) →
             WritesItself (fuel_of self.now) (text_kept (source_of self.now)) (S.taken sink.old) (S.taken sink.new) result }
 
-        // Contexts that agree at the names that can matter make no difference.
-        ensures isolated { (other : Val) → AgreeFor self.now context other → IsSameRender self.now context other }
+        // Where what the user brought asks for no names, contexts that agree at those that can matter make no difference.
+        ensures isolated { IsIsolated E.Callable.answer E.Method.answer self.now context }
         ensures failures { ids.old ≢ u64.MAX → TellsFailures result (S.failures sink.old) (S.failures sink.new) }
         ensures given { IfOk result (λ captured. fuel_set captured ≡ fuel_of self.now) }
         ensures here { IfOk result (λ captured. environment_in (state_of captured) ≡ environment_of self.now) }
@@ -249,8 +255,7 @@ impl<'env, 'source, R: AutoEscapeRule> Template<'env, 'source, R> {
         isolated_renders(self);
         plain_renders(self);
         let id = ids.next()?;
-        let registry = &self.environment.registry;
-        let (machine, fuel) = run(registry, id, self.compiled.get(), context, sink)?;
+        let (machine, fuel) = run(self.environment, id, self.compiled.get(), context, sink)?;
         Ok(Captured {
             output: String::new(self.environment.allocator()),
             state: State {
@@ -266,22 +271,24 @@ impl<'env, 'source, R: AutoEscapeRule> Template<'env, 'source, R> {
 
 // Runs the code of a template over a context, in the state of a number, and tells the state that it left and what it took
 // of its fuel.
-fn run<'env, 'source, S: Sink>(
-    registry: &'env Registry<'source>,
+fn run<'env, 'source, E: Extension, S: Sink>(
+    environment: &'env Environment<'source, E>,
     id: u64,
     compiled: &'env CompiledTemplate<'source>,
     context: Value,
     sink: &mut S,
 ) -> Result<(MachineState<'env>, Option<(u64, u64)>), Error>
-    ensures renders { (n : ℕ) → IsFinished (rendering registry.now id compiled.now n context).end →
-        Renders result (S.taken sink.old) (S.taken sink.new) (under registry.now.fuel (rendering registry.now id compiled.now n context)) }
-    ensures left { IfOk result (λ r. (n : ℕ) → IsFinished (rendering registry.now id compiled.now n context).end →
-        left_of r.1 ≡ leaves registry.now.fuel (rendering registry.now id compiled.now n context)) }
-    ensures world { IfOk result (λ r. (n : ℕ) → IsFinished (rendering registry.now id compiled.now n context).end →
-        r.0 ≡ (under registry.now.fuel (rendering registry.now id compiled.now n context)).after) }
+    ensures renders { let ran = rendering_in E.Callable.answer E.Method.answer environment.now id compiled.now in
+        (n : ℕ) → IsFinished (ran n context).end →
+        Renders result (S.taken sink.old) (S.taken sink.new) (under (registry_of environment.now).fuel (ran n context)) }
+    ensures left { let ran = rendering_in E.Callable.answer E.Method.answer environment.now id compiled.now in
+        IfOk result (λ r. (n : ℕ) → IsFinished (ran n context).end → left_of r.1 ≡ leaves (registry_of environment.now).fuel (ran n context)) }
+    ensures world { let ran = rendering_in E.Callable.answer E.Method.answer environment.now id compiled.now in
+        IfOk result (λ r. (n : ℕ) → IsFinished (ran n context).end → r.0 ≡ (under (registry_of environment.now).fuel (ran n context)).after) }
     ensures failures { TellsFailures result (S.failures sink.old) (S.failures sink.new) }
-    ensures set { IfOk result (λ r. set_of r.1 ≡ registry.now.fuel) }
+    ensures set { IfOk result (λ r. set_of r.1 ≡ (registry_of environment.now).fuel) }
 {
+    let registry = &environment.registry;
     let alloc = registry.alloc;
     let mut state: MachineState<'env> = MachineState::new(
         alloc,
@@ -295,8 +302,8 @@ fn run<'env, 'source, S: Sink>(
     let mut scratch = String::new(alloc);
     run_code(
         alloc,
-        registry.rules(),
-        registry,
+        registry.rules(compiled.name()),
+        environment,
         compiled.instructions(),
         &mut state,
         &mut left,
@@ -306,7 +313,7 @@ fn run<'env, 'source, S: Sink>(
     Ok((state, levels(fuel, left)))
 }
 
-impl<'env, 'source, R: AutoEscapeRule> Captured<'env, 'source, R> {
+impl<'env, 'source, E: Extension> Captured<'env, 'source, E> {
     ghost use Rattle.template_environment.specs.Views.{fuel_left, fuel_set, id_of, output_of, state_of};
 
     /// The text that the render gave; empty where it went into a sink.
@@ -325,7 +332,7 @@ impl<'env, 'source, R: AutoEscapeRule> Captured<'env, 'source, R> {
     }
 
     /// The state that the render left.
-    pub fn state(&self) -> &State<'env, 'source, R>
+    pub fn state(&self) -> &State<'env, 'source, E>
         ensures { result.now ≡ state_of self.now }
     {
         &self.state

@@ -51,32 +51,34 @@ same_escape name other source read escape found named is left right =
     one_known read.escapes other escape found (subst (λ (n : List ℕ). ∥ IsEscapeOf read.escapes n escape ∥₁) named moved) right
 
 -- the name and the source decide what a template stands for
-same_standing : (name other : List ℕ) (c d : Compiled) → name ≡ other → c.source ≡ d.source → ∥ IsEscapeOf c.source.escapes name c.escape ∥₁
-    → ∥ IsEscapeOf d.source.escapes other d.escape ∥₁ → standing_of c ≡ standing_of d
-same_standing name other c d named source left right =
-    let escape = same_escape name other c.source d.source c.escape d.escape named source left right in
-    λ i. record { tree = tree_in (source i); escape = escape i }
+same_standing : (name other : List ℕ) (c d : Compiled) → name ≡ other → c.name ≡ d.name → c.source ≡ d.source
+    → ∥ IsEscapeOf c.source.escapes name c.escape ∥₁ → ∥ IsEscapeOf d.source.escapes other d.escape ∥₁ → standing_of c ≡ standing_of d
+same_standing name other c d same named source left right =
+    let escape = same_escape name other c.source d.source c.escape d.escape same source left right in
+    λ i. record { name = named i; tree = tree_in (source i); escape = escape i }
 
 one_standing : (name : List ℕ) (o p : Option Compiled) → option_map (λ c. c.source) o ≡ option_map (λ c. c.source) p
+    → ((c : Compiled) → o ≡ Some c → c.name ≡ name) → ((c : Compiled) → p ≡ Some c → c.name ≡ name)
     → ((c : Compiled) → o ≡ Some c → ∥ IsEscapeOf c.source.escapes name c.escape ∥₁)
     → ((c : Compiled) → p ≡ Some c → ∥ IsEscapeOf c.source.escapes name c.escape ∥₁) → option_map standing_of o ≡ option_map standing_of p
-one_standing name None None same left right = refl
-one_standing name None (Some d) same left right = absurd (none-some _ same)
-one_standing name (Some c) None same left right = absurd (none-some _ (sym same))
-one_standing name (Some c) (Some d) same left right =
-    ap Some (same_standing name name c d refl (same_Some _ _ same) (left c refl) (right d refl))
+one_standing name None None same named other_named left right = refl
+one_standing name None (Some d) same named other_named left right = absurd (none-some _ same)
+one_standing name (Some c) None same named other_named left right = absurd (none-some _ (sym same))
+one_standing name (Some c) (Some d) same named other_named left right =
+    ap Some (same_standing name name c d refl (named c refl ∙ sym (other_named d refl)) (same_Some _ _ same) (left c refl) (right d refl))
 
 pub one_setting : AlikeHaveOneSetting
-one_setting e other alike = λ i. record {
+one_setting brought others e other alike = λ i. record {
   templates = λ name. one_standing name (compiled_at e.templates name) (compiled_at other.templates name) (alike.sources name)
-      (e.escaped name) (other.escaped name) i;
+      (e.templates.named name) (other.templates.named name) (e.escaped name) (other.escaped name) i;
   globals = alike.globals i;
+  callables = alike.callables i;
   limit = alike.limit i;
   undefined = alike.undefined i;
 }
 
 pub same_renders : AlikeRenderTheSame
-same_renders e other alike c d one id n context =
-    let setting = one_setting e other alike in
-    let standing = same_standing c.name d.name c d one.name one.source ∣ one.escape ∣₁ ∣ one.other_escape ∣₁ in
+same_renders brought others e other alike c d one id n context =
+    let setting = one_setting brought others e other alike in
+    let standing = same_standing c.name d.name c d one.name one.name one.source ∣ one.escape ∣₁ ∣ one.other_escape ∣₁ in
     λ i. rendered (setting i) id n (standing i) context

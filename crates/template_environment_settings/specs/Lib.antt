@@ -2,6 +2,7 @@ pub mod Alike
 pub mod Histories
 -- what is cited above of the environment itself
 pub use Rattle.template_environment.specs.Compiled
+pub use Rattle.template_environment.specs.Extras
 pub use Rattle.template_environment.specs.Globals
 pub use Rattle.template_environment.specs.Isolated
 pub use Rattle.template_environment.specs.Isolation

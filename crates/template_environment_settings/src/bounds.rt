@@ -1,6 +1,6 @@
 //! What the renders of an environment keep to.
 ghost use Rattle.std.specs.Prelude.{◌≡◌, ℕ, List, min};
-ghost use Rattle.template_environment.specs.Reading.{callback_of, registry_of};
+ghost use Rattle.template_environment.specs.Reading.{extras_of, registry_of};
 ghost use Rattle.template_environment.specs.Standing.{greatest_limit, settings_of, source_at};
 
 use template_environment::Environment;
@@ -17,7 +17,7 @@ pub fn set_bounds(
     ensures sources { (name : List ℕ) → source_at (registry_of environment.new) name ≡ source_at (registry_of environment.old) name }
     ensures settings { settings_of (registry_of environment.new) ≡ record (settings_of (registry_of environment.old))
         { fuel = fuel; limit = min limit greatest_limit; undefined = undefined } }
-    ensures callback { callback_of environment.new ≡ callback_of environment.old }
+    ensures extras { extras_of environment.new ≡ extras_of environment.old }
 {
     environment.set_fuel(fuel);
     environment.set_recursion_limit(limit);

@@ -1,8 +1,8 @@
-//! The laws of what an environment is for its renders: the sources that stand under names, the globals, the limit and what
-//! undefined values may do are all that they see of it. So histories of changes that agree on each name come to environments
-//! where each template renders to the same. The functions of this crate do nothing: each stands for the law in its contract;
-//! save the one that sets what renders keep to. Environments, templates and the law that renders end are passed on, so that
-//! programs name this crate alone.
+//! The laws of what an environment is for its renders: the sources that stand under names, the globals, what its user brought, the
+//! limit and what undefined values may do are all that they see of it. So histories of changes that agree on each name come to
+//! environments where each template renders to the same. The functions of this crate do nothing: each stands for the law in its
+//! contract; save the one that sets what renders keep to. Environments, templates and the laws that renders end, and that nothing
+//! asks for names where nothing of a user's own can be brought, are passed on, so that programs name this crate alone.
 #![tactic(auto)]
 
 ghost use Rattle.template_environment_settings.specs.Alike.{AlikeHaveOneSetting, AlikeRenderTheSame};
@@ -11,19 +11,20 @@ ghost use Rattle.template_environment_settings.specs.Histories.{AgreeingComeToOn
 mod bounds;
 
 pub use bounds::set_bounds;
-pub use template_environment::{Environment, Template, every_render_ends};
+use template_callables::Extension;
+pub use template_environment::{Environment, Template, every_render_ends, none_ask_names};
 
-/// Environments where the same sources stand under the names, and that have the same globals, keep to the same limit and let
-/// undefined values do the same, give their renders one setting. An environment's functions are known by its number, and can be
-/// called there alone: two have the same where they have one number, or where no function can be called. So a template of one
+/// Environments where the same sources stand under the names, and that have the same globals, are answered the same where they call
+/// what their users brought, keep to the same limit and let undefined values do the same, give their renders one setting. An
+/// environment's functions are known by its number, and can be called there alone: so the two have one number. A template of one
 /// name and one source renders to the same in both, in states of one number, under every bound and over every context.
 pub fn one_setting()
     ensures setting { AlikeHaveOneSetting }
     ensures renders { AlikeRenderTheSame }
 {}
 
-/// So do environments, with rules of escapes `R` of their own, that histories of changes come to which agree on each name.
-pub fn agreeing_histories<R>()
-    ensures setting { AgreeingComeToOneSetting R }
-    ensures renders { AgreeingRenderTheSame R }
+/// So do environments, with what users bring by the types of `E`, that histories of changes come to which agree on each name.
+pub fn agreeing_histories<E: Extension>()
+    ensures setting { AgreeingComeToOneSetting E E.Callable E.Method E.Formatter E.Join E.Rule E.Callable.answer E.Method.answer }
+    ensures renders { AgreeingRenderTheSame E E.Callable E.Method E.Formatter E.Join E.Rule E.Callable.answer E.Method.answer }
 {}

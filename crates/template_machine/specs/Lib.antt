@@ -4,11 +4,17 @@ pub use Rattle.template_values_errors.specs.Names as ErrorNames
 pub use Rattle.template_values_model.specs.Val
 pub use Rattle.template_values_model.specs.Lookup
 pub use Rattle.template_values_frozen.specs.Frozen
+pub use Rattle.template_values_named.specs.Named
 pub use Rattle.template_machine_surroundings.specs.Rule
 pub use Rattle.template_machine_surroundings.specs.Failures
 pub use Rattle.template_machine_output.specs.Wrapper
 pub use Rattle.template_machine_output.specs.Writes
 pub use Rattle.template_machine_surroundings.specs.Answered
+pub use Rattle.template_callables.specs.Callables
+pub use Rattle.template_callables.specs.Answers as CallableAnswers
+pub use Rattle.template_callables.specs.Eithers
+pub use Rattle.template_callables.specs.Faults as CallableFaults
+pub use Rattle.template_callables.specs.Views as CallViews
 pub use Rattle.template_process.specs.Process
 pub use Rattle.template_process.specs.Trace
 pub use Rattle.template_process.specs.Fuel
@@ -30,6 +36,7 @@ pub use Rattle.template_machine_fuel.specs.Trackers
 pub use Rattle.template_machine_operands.specs.Operands
 pub use Rattle.template_machine_meaning.specs.World
 pub use Rattle.template_machine_meaning.specs.Functions
+pub use Rattle.template_machine_meaning.specs.Calls
 pub use Rattle.template_machine_meaning.specs.Records
 pub use Rattle.template_machine_meaning.specs.Undefined
 pub use Rattle.template_machine_meaning.specs.Replies
@@ -45,6 +52,7 @@ pub use Rattle.template_machine_loops.specs.Loops
 pub use Rattle.template_machine_frames.specs.Frames
 pub use Rattle.template_machine_frames.specs.Names as ExportedNames
 pub use Rattle.template_machine_state.specs.Changes
+pub use Rattle.template_machine_calls.specs.Left as CallsLeft
 pub use Rattle.template_compiler_syntax.specs.Syntax
 pub use Rattle.template_names.specs.Names as UsedNames
 pub use Rattle.template_compiled.specs.Sources
@@ -53,6 +61,7 @@ pub use Rattle.template_compiled.specs.Plain as PlainSources
 pub use Rattle.template_environment.specs.Isolation
 pub use Rattle.template_environment.specs.Outcomes
 pub use Rattle.template_environment.specs.Renders
+pub use Rattle.template_environment.specs.Extras
 pub use Rattle.template_environment.specs.Standing
 pub use Rattle.template_environment.specs.Renderings
 pub use Rattle.template_environment.specs.States

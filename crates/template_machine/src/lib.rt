@@ -32,11 +32,16 @@
 //!   value over a context, with a map for each namespace in it.
 //! - [`Environment::add_global`] puts a value under a name, which each render finds where nothing else has the name;
 //!   [`Environment::remove_global`] takes it away, and [`Environment::globals`] lists them.
+//! - [`Environment::extended`] makes an environment for what a user brings by the types of an [`Extension`]: then
+//!   [`Environment::add_filter`], [`Environment::add_test`] and [`Environment::add_function`] take values of a type that is
+//!   [`Callable`], and [`Environment::set_unknown_method_callback`] one that is an [`UnknownMethod`]. Each answers by an
+//!   [`Answer`], from its arguments and what it sees of the run, a [`CallView`]. [`State::apply_filter`] and
+//!   [`State::perform_test`] call filters and tests without a render.
 //! - [`Environment::set_fuel`] bounds each render by its steps, and [`State::fuel_levels`] tells what one
 //!   consumed; [`Environment::set_recursion_limit`] bounds how deep it may be.
 //! - [`Environment::set_undefined_behavior`] says what may be done with undefined values, and
 //!   [`Environment::set_syntax`] how templates are written. [`Environment::set_auto_escape_callback`] takes an
-//!   [`AutoEscapeRule`] of the caller's own, which gives the escape of each name from then on.
+//!   [`AutoEscapeRule`] of the [`Extension`], which gives the escape of each name from then on.
 //! - [`Environment::context_names`] gives the names of a context that can matter to a render.
 //! - [`verify`] accepts instructions from anywhere that never lack an operand, a frame, a loop, an escape or a
 //!   capture. [`FuelTracker`] counts a fuel down along instructions.
@@ -47,7 +52,8 @@
 //! stand, the context, the escape of its name and the fuel. It may also want memory or meet a failing sink,
 //! and then a beginning of the text is written. [`every_run_ends`] and [`one_meaning`] say that every render
 //! ends, and in one way; [`isolation`] that it takes no more of its context than the names that are listed,
-//! and [`expression_isolation`] that an expression takes no more than those that stand in it;
+//! and [`expression_isolation`] that an expression takes no more than those that stand in it, where nothing that a
+//! user brought asks for a name;
 //! [`enough_is_enough`], [`fuel_adds_up`] and [`writes_beginning`] are the laws of fuel, and
 //! [`good_ends_well`] that of verified instructions. By [`faults_are_meant`] no fault of a template is told as want of
 //! memory, however many includes it happened in. An expression gives the value that its tree means under the fuel,
@@ -55,6 +61,10 @@
 //! [`every_expression_gives`] that it stays so where the value is handed out.
 #![tactic(auto)]
 
+pub use template_callables::{
+    Answer, CallView, Callable, Either, Extension, Further, NoCallable, NoExtension, NoFormatter,
+    NoJoin, NoMethod, UnknownMethod, copy_all,
+};
 pub use template_code_checked::{Checked, verify};
 pub use template_code_shapes::{StreamKind, certified_is_good, good_ends_well, good_goes_on};
 pub use template_compiler_syntax::{StartMarker, SyntaxConfig, SyntaxConfigBuilder};

@@ -10,16 +10,16 @@ use Rattle.template_values_model.specs.Val.{Val}
 use Rattle.template_process.specs.Approximants.{IsFinished}
 use Rattle.template_process.specs.Fuel.{IsSameRun, under}
 use Rattle.template_process.specs.Trace.{Item, Run, text_of}
+use Rattle.template_machine_meaning.proofs.Isolated.{no_callables_ask}
 use Rattle.template_machine_meaning.specs.Meaning.{Standing, rendered}
 use Rattle.template_machine_meaning.specs.World.{World}
 use Rattle.template_environment_settings.specs.Isolation.{AgreesAt, IsolatesNames}
 use Rattle.template_environment_settings.specs.Plain.{IsRefusedForRoom}
 use Rattle.template_environment_settings.specs.Renders.{Renders}
-use Rattle.template_environment_settings.specs.Standing.{setting_of}
 use Rattle.template_environment_settings.specs.Registry.{Registry}
 use Rattle.template_program_run.specs.Additions.{IsRefusedAddition, RefusesOne}
 use Rattle.template_program_run.specs.Answers.{HasNames, IsUntouched, Performed, Rendered, TellsNames, definitions_of}
-use Rattle.template_program_run.specs.Environments.{IsMade}
+use Rattle.template_program_run.specs.Environments.{IsMade, plain_setting}
 use Rattle.template_program_run.specs.History.{standing}
 use Rattle.template_program_run.specs.Ids.{IsLastId}
 use Rattle.template_program_run.specs.Lines.{lines_of}
@@ -103,16 +103,16 @@ renders_alike isolates request additions a b e f made more t u standing c d agre
     let too = of_number request additions f (sym next) more in
     let setting = one_setting request additions a.next e f made too in
     let fuel = one_fuel request additions a.next e f made too in
-    let isolated = isolates (setting_of e) id t c d (λ name can_matter. agree name) n in
-    let there : rendered (setting_of e) id n t d ≡ rendered (setting_of f) (b.next + 1) n u d =
+    let isolated = isolates (plain_setting e) no_callables_ask id t c d (λ name can_matter. agree name) n in
+    let there : rendered (plain_setting e) id n t d ≡ rendered (plain_setting f) (b.next + 1) n u d =
     λ i. rendered (setting i) (next i + 1) n (standing i) d in
-    let finished : IsFinished (rendered (setting_of f) (b.next + 1) n u d).end =
+    let finished : IsFinished (rendered (plain_setting f) (b.next + 1) n u d).end =
     subst (λ (r : Run World). IsFinished r.end) there (subst IsFinished (isolated None).1 ra.3.finished.1) in
-    let back : Renders rb.0 b.before b.after (under e.fuel (rendered (setting_of e) id n t d)) =
+    let back : Renders rb.0 b.before b.after (under e.fuel (rendered (plain_setting e) id n t d)) =
     subst (λ (r : Run World). Renders rb.0 b.before b.after r) (sym (λ i. under (fuel i) (there i))) (rb.3.renders n finished) in
-    rendered_alike a b (under e.fuel (rendered (setting_of e) id n t c)) (under e.fuel (rendered (setting_of e) id n t d)) (isolated e.fuel)
-    (whole_render a.outcome ra.0 a.before a.after (under e.fuel (rendered (setting_of e) id n t c)) ra.1 ua.unwanted (ra.3.renders n ra.3.finished.1))
-    (whole_render b.outcome rb.0 b.before b.after (under e.fuel (rendered (setting_of e) id n t d)) rb.1 ub.unwanted back)
+    rendered_alike a b (under e.fuel (rendered (plain_setting e) id n t c)) (under e.fuel (rendered (plain_setting e) id n t d)) (isolated e.fuel)
+    (whole_render a.outcome ra.0 a.before a.after (under e.fuel (rendered (plain_setting e) id n t c)) ra.1 ua.unwanted (ra.3.renders n ra.3.finished.1))
+    (whole_render b.outcome rb.0 b.before b.after (under e.fuel (rendered (plain_setting e) id n t d)) rb.1 ub.unwanted back)
     (quiet_render a.outcome ra.0 a.failed a.fails ra.1 ua.unwanted ra.2)
     (quiet_render b.outcome rb.0 b.failed b.fails rb.1 ub.unwanted rb.2)
 
@@ -140,7 +140,7 @@ tells_alike request additions a b e f made more next t u standing one other =
     let setting = one_setting request additions a.next e f made (of_number request additions f (sym next) more) in
     let lines : lines_of one.names.keys ≡ lines_of other.names.keys =
     same_lines one.names other.names one.has.0 other.has.0
-    (same_sets (setting_of e) (setting_of f) t u setting standing one.names other.names one.has.1 other.has.1) in
+    (same_sets (plain_setting e) (plain_setting f) t u setting standing one.names other.names one.has.1 other.has.1) in
     record {
       end = one.done ∙ sym other.done;
       write = (

@@ -1,25 +1,26 @@
 -- What two environments of one request and one number share.
-use Rattle.std.proofs.Common.{◌≡◌, ◌∙◌, ℕ, List, sym, ap, subst, IsTrue, ◌↔◌}
+use Rattle.std.proofs.Common.{◌≡◌, ◌∙◌, ℕ, List, refl, sym, ap, subst, IsTrue, ◌↔◌}
 use Rattle.std.specs.BTreeSet.{BTreeSet, contains_text}
 use Rattle.std.specs.Prelude.{String}
 use Rattle.std.specs.declared.alloc.Global.{Global}
+use Rattle.template_callables.specs.Callables.{no_callables}
 use Rattle.template_machine_surroundings.proofs.OneRule.{one_rule}
 use Rattle.template_machine_meaning.specs.Meaning.{Setting, Standing}
 use Rattle.template_environment_settings.specs.Isolation.{IsContextName}
 use Rattle.template_environment_settings.specs.Sources.{tree_in}
-use Rattle.template_environment_settings.specs.Standing.{setting_of}
 use Rattle.template_environment_settings.specs.Registry.{Registry}
 use Rattle.template_environment_settings.proofs.Settings as settings
 use Rattle.template_program_run.specs.Answers.{IsTemplateOf}
-use Rattle.template_program_run.specs.Environments.{IsMade}
+use Rattle.template_program_run.specs.Environments.{IsMade, plain_setting}
 use Rattle.template_program_run.specs.History.{source_for}
 use Rattle.template_program_run.specs.declared.request.Request.{Request}
 
 pub one_setting : (request : Request) (additions : List (List ℕ × List ℕ)) (id : ℕ) (e other : Registry) → IsMade request additions id e
-    → IsMade request additions id other → setting_of e ≡ setting_of other
-one_setting request additions id e other made more = settings.one_setting e other (record {
+    → IsMade request additions id other → plain_setting e ≡ plain_setting other
+one_setting request additions id e other made more = settings.one_setting no_callables no_callables e other (record {
   sources = λ name. made.sources name ∙ sym (more.sources name);
   globals = made.settings.globals ∙ sym more.settings.globals;
+  callables = refl;
   limit = made.settings.limit ∙ sym more.settings.limit;
   undefined = made.settings.undefined ∙ sym more.settings.undefined;
 })
@@ -33,7 +34,8 @@ pub one_template : (name text other : List ℕ) (t u : Standing) → text ≡ ot
 one_template name text other t u same is more =
     let tree = is.tree ∙ ap (λ (x : List ℕ). tree_in (source_for x)) same ∙ sym more.tree in
     let escape = one_rule name t.escape u.escape is.rule more.rule in
-    λ i. record { tree = tree i; escape = escape i }
+    let named = is.named ∙ sym more.named in
+    λ i. record { name = named i; tree = tree i; escape = escape i }
 
 -- names that can matter are those of the setting and the template
 pub same_names : (s r : Setting) (t u : Standing) → s ≡ r → t ≡ u → (name : List ℕ) → IsContextName s t.tree name → IsContextName r u.tree name

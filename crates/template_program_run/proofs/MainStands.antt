@@ -32,14 +32,16 @@ none_there (Some text) is = absurd (none-some _ (sym is))
 
 -- the main template is the one that was found
 found_there : (request : Request) (additions : List (List ℕ × List ℕ)) (id : ℕ) (e : Registry) (c : Compiled)
-    → IsMade request additions id e → source_at e (string_bytes request.main) ≡ Some c.source → IsEscapeOf c.source.escapes (string_bytes request.main) c.escape
+    → IsMade request additions id e → c.name ≡ string_bytes request.main → source_at e (string_bytes request.main) ≡ Some c.source
+    → IsEscapeOf c.source.escapes (string_bytes request.main) c.escape
     → (text : List ℕ) × (standing additions (string_bytes request.main) ≡ Some text)
     × IsTemplateOf (string_bytes request.main) text (standing_of c)
-found_there request additions id e c made found rule =
+found_there request additions id e c made named found rule =
     let there = text_there (standing additions (string_bytes request.main)) c.source (sym (made.sources (string_bytes request.main)) ∙ found) in (
       there.0,
       there.1,
       record {
+        named = named;
         tree = ap tree_in there.2;
         rule = subst (λ (s : Source). IsEscapeOf s.escapes (string_bytes request.main) c.escape) there.2 rule;
       },
@@ -49,12 +51,12 @@ pub answers_done : (request : Request) (additions : List (List ℕ × List ℕ))
     (before after : Option (List ℕ)) (failed fails : ℕ)
     → (context : Val) → HasContext request.command json (definitions_of request) context
     → ¬ IsLastId next → AllAreAccepted additions → (e : Registry) → IsMade request additions next e
-    → (c : Compiled) → source_at e (string_bytes request.main) ≡ Some c.source → IsEscapeOf c.source.escapes (string_bytes request.main) c.escape
-    → (command : Command) → request.command ≡ command
+    → (c : Compiled) → c.name ≡ string_bytes request.main → source_at e (string_bytes request.main) ≡ Some c.source
+    → IsEscapeOf c.source.escapes (string_bytes request.main) c.escape → (command : Command) → request.command ≡ command
     → Does command e (standing_of c) request json next outcome before after failed fails
     → AnswersRequest request additions json next outcome before after failed fails
-answers_done request additions json next outcome before after failed fails context has had accepted e made c found rule command is does =
-    let there = found_there request additions next e c made found rule in
+answers_done request additions json next outcome before after failed fails context has had accepted e made c named found rule command is does =
+    let there = found_there request additions next e c made named found rule in
     let done = subst (λ (k : Command). Does k e (standing_of c) request json next outcome before after failed fails) (sym is) does in
     inr ((context, has), inr (had, accepted, inr (e, made, (there.0, there.1, (standing_of c, there.2, done)))))
 

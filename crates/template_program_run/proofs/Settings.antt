@@ -8,7 +8,7 @@ use Rattle.template_program_run.specs.Environments.{IsSetFor}
 use Rattle.template_program_run.specs.declared.request.Request.{Request}
 
 pub has_settings : (request : Request) (id : ℕ) (first set : Settings)
-    → first ≡ new_settings id (own_globals id) default_syntax ByName
+    → first ≡ new_settings (own_globals id) default_syntax ByName
     → set ≡ record first { fuel = request.fuel; limit = min request.limit greatest_limit; undefined = request.undefined } → IsSetFor request id set
 has_settings request id first set new bounds = record {
   globals = ap (λ (s : Settings). s.globals) bounds ∙ ap (λ (s : Settings). s.globals) new;

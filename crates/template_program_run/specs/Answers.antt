@@ -18,12 +18,11 @@ use Rattle.template_environment_settings.specs.Isolation.{IsContextName}
 use Rattle.template_environment_settings.specs.Renders.{Renders}
 use Rattle.template_environment_settings.specs.Sources.{tree_in}
 use Rattle.template_environment_settings.specs.Isolated.{AgreeAmong}
-use Rattle.template_environment_settings.specs.Standing.{setting_of}
 use Rattle.template_environment_settings.specs.Registry.{Registry}
 use Rattle.template_program_parts.specs.Asked.{HasContext, IsRefusedContext}
 use Rattle.template_program_parts.specs.Context.{IsContextOf, text_pairs}
 use Rattle.template_program_run.specs.Additions.{AllAreAccepted, IsRefusedAddition}
-use Rattle.template_program_run.specs.Environments.{IsMade}
+use Rattle.template_program_run.specs.Environments.{IsMade, plain_setting}
 use Rattle.template_program_run.specs.History.{source_for, standing}
 use Rattle.template_program_run.specs.Ids.{IsLastId}
 use Rattle.template_program_run.specs.Lines.{lines_of}
@@ -47,8 +46,9 @@ IsOutcomeOf Done (Ok _) = Unit {0}
 IsOutcomeOf (Render kinds) (Err others) = kinds ≡ others
 IsOutcomeOf _ _ = ⊥
 
--- a template that stands is the tree of the text, with the escape of the name
+-- a template that stands has the name, and is the tree of the text, with the escape of the name
 pub record IsTemplateOf (name text : List ℕ) (t : Standing) : Type 0 where
+  pub named : t.name ≡ name
   pub tree : t.tree ≡ tree_in (source_for text)
   pub rule : IsRuleOf name t.escape
 
@@ -56,9 +56,9 @@ pub record IsTemplateOf (name text : List ℕ) (t : Standing) : Type 0 where
 -- with the fuel, the text and the end.
 pub record IsRendered (e : Registry) (id : ℕ) (t : Standing) (context : Val) (result : Result (Unit {0}) (List ErrorKind))
     (before after : Option (List ℕ)) : Type 0 where
-  pub finished : (n : ℕ) × IsFinished (rendered (setting_of e) id n t context).end
-  pub renders : (n : ℕ) → IsFinished (rendered (setting_of e) id n t context).end
-      → Renders result before after (under e.fuel (rendered (setting_of e) id n t context))
+  pub finished : (n : ℕ) × IsFinished (rendered (plain_setting e) id n t context).end
+  pub renders : (n : ℕ) → IsFinished (rendered (plain_setting e) id n t context).end
+      → Renders result before after (under e.fuel (rendered (plain_setting e) id n t context))
 
 -- A template that stands is rendered over the context, in the state of the next id. The render is refused where no state id
 -- is left.
@@ -72,9 +72,9 @@ Rendered e t context next outcome before after failed fails =
 -- no state, at no bound and under no fuel.
 abbrev pub HasNames : Registry → Standing → BTreeSet (String Global) → Type 0
 HasNames e t names = IsOrdered string_cmp names
-    × ((name : List ℕ) → IsTrue (contains_text names name) ↔ IsContextName (setting_of e) t.tree name)
+    × ((name : List ℕ) → IsTrue (contains_text names name) ↔ IsContextName (plain_setting e) t.tree name)
     × ((c d : Val) → AgreeAmong names c d → (id n : ℕ) (fuel : Option ℕ)
-    → IsSameRun (under fuel (rendered (setting_of e) id n t c)) (under fuel (rendered (setting_of e) id n t d)))
+    → IsSameRun (under fuel (rendered (plain_setting e) id n t c)) (under fuel (rendered (plain_setting e) id n t d)))
 
 -- The names that can matter are written in their order, one a line; or a beginning of that, for want of
 -- memory or of a sink that works. Where they cannot be found for want of memory, nothing is written.

@@ -1,6 +1,7 @@
 //! The templates, added in order.
 ghost use Rattle.std.specs.Prelude.{◌≡◌, ℕ, List, None, IfOk, IfErr, OnOk};
-ghost use Rattle.template_environment_settings.specs.Reading.{callback_of, registry_of};
+ghost use Rattle.template_environment_settings.specs.Extras.{no_extras};
+ghost use Rattle.template_environment_settings.specs.Reading.{extras_of, registry_of};
 ghost use Rattle.template_environment_settings.specs.Standing.{settings_of, source_at};
 ghost use Rattle.template_program_parts.specs.Context.{text_pairs};
 ghost use Rattle.template_program_run.specs.Additions.{AllAreAccepted, IsRefusedAddition, IsRefusedEnvironment};
@@ -27,6 +28,7 @@ pub(crate) fn environment_of<'source>(
 ) -> Result<Environment<'source>, Error>
     ensures accepted { IfOk result (λ e. AllAreAccepted (text_pairs templates.entry.now)) }
     ensures made { IfOk result (λ e. IsMade request.now (text_pairs templates.entry.now) ids.old (registry_of e)) }
+    ensures extras { IfOk result (λ e. extras_of e ≡ no_extras) }
     ensures had_one { OnOk result (¬ IsLastId ids.old) }
     ensures counted { ids.new ≡ behind_one ids.old }
     ensures refused { IfErr result (IsRefusedAddition (text_pairs templates.entry.now) ids.old) }
@@ -46,7 +48,7 @@ fn set_up<'source>(
 ) -> Result<Environment<'source>, Error>
     ensures empty { IfOk result (λ e. (name : List ℕ) → source_at (registry_of e) name ≡ None) }
     ensures settings { IfOk result (λ e. IsSetFor request.now ids.old (settings_of (registry_of e))) }
-    ensures callback { IfOk result (λ e. callback_of e ≡ None) }
+    ensures extras { IfOk result (λ e. extras_of e ≡ no_extras) }
     ensures had_one { OnOk result (¬ IsLastId ids.old) }
     ensures counted { ids.new ≡ behind_one ids.old }
     ensures refused { IfErr result (IsRefusedEnvironment ids.old) }

@@ -3,8 +3,9 @@ ghost use Rattle.std.specs.Prelude.{◌≡◌, ℕ, List, Some, option_copied, s
 ghost use Rattle.template_program_parts.specs.Context.{text_pairs};
 ghost use Rattle.template_machine_surroundings.specs.Rule.{IsEscapeOf};
 ghost use Rattle.template_environment_settings.specs.Compiled.{standing_of};
+ghost use Rattle.template_environment_settings.specs.Extras.{no_extras};
 ghost use Rattle.template_environment_settings.specs.Plain.{IsPlain, text_kept};
-ghost use Rattle.template_environment_settings.specs.Reading.{registry_of};
+ghost use Rattle.template_environment_settings.specs.Reading.{extras_of, registry_of};
 ghost use Rattle.template_environment_settings.specs.Views.{compiled_in, environment_of as place_of, name_of, source_of};
 ghost use Rattle.template_program_parts.specs.Asked.{HasContext, IsRefusedContext};
 ghost use Rattle.template_program_run.specs.Answers.{AnswersRequest, Rendered, TellsNames, definitions_of};
@@ -16,7 +17,7 @@ use crate::additions::environment_of;
 use crate::names::write_lines;
 use crate::request::Request;
 use std::alloc::Global;
-use template_environment_settings::{Environment, Template, every_render_ends};
+use template_environment_settings::{Environment, Template, every_render_ends, none_ask_names};
 use template_machine_output::Sink;
 use template_machine_surroundings::StateIds;
 use template_program_parts::{Command, Outcome, context_for};
@@ -86,6 +87,7 @@ fn render<S: Sink>(
     ids: &mut StateIds,
     sink: &mut S,
 ) -> Outcome
+    requires { extras_of (place_of template.now) ≡ no_extras }
     ensures rendered { Rendered (registry_of (place_of template.now)) (standing_of (compiled_in template.now.compiled))
         context ids.old result
         (S.taken sink.old) (S.taken sink.new) (S.failures sink.old) (S.failures sink.new) }
@@ -108,11 +110,13 @@ fn tell_names<'source, S: Sink>(
     template: &Template<'_, 'source>,
     sink: &mut S,
 ) -> Outcome
+    requires { extras_of environment.now ≡ no_extras }
     ensures told { TellsNames (registry_of environment.now) (standing_of (compiled_in template.now.compiled)) result
         (S.taken sink.old) (S.taken sink.new) (S.failures sink.old) (S.failures sink.new) }
     ensures rule { IsEscapeOf (source_of template.now).escapes (name_of template.now) (compiled_in template.now.compiled).escape }
 {
     let _escape = template.initial_auto_escape();
+    none_ask_names(environment);
     let names = match environment.context_names(template) {
         Ok(names) => names,
         Err(error) => return Outcome::Template(error),

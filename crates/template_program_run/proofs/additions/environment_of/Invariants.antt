@@ -1,5 +1,6 @@
-use Rattle.std.proofs.Common.{◌≡◌, ℕ, List, None, take}
-use Rattle.template_environment_settings.specs.Reading.{callback_of, registry_of}
+use Rattle.std.proofs.Common.{◌≡◌, ℕ, List, take}
+use Rattle.template_environment_settings.specs.Extras.{no_extras}
+use Rattle.template_environment_settings.specs.Reading.{extras_of, registry_of}
 use Rattle.template_environment_settings.specs.Standing.{settings_of, source_at}
 use Rattle.template_program_parts.specs.Context.{text_pairs}
 use Rattle.template_program_run.specs.Additions.{AllAreAccepted}
@@ -13,5 +14,5 @@ invariant-loop-name l = record {
   accepted : AllAreAccepted (text_pairs (take l.name-index l.templates));
   stands : (q : List ℕ) → source_at (registry_of l.environment) q ≡ source_standing (text_pairs (take l.name-index l.templates)) q;
   settings : IsSetFor l.request l.fn.ids (settings_of (registry_of l.environment));
-  callback : callback_of l.environment ≡ None;
+  extras : extras_of l.environment ≡ no_extras;
 }

@@ -1,7 +1,7 @@
-use Rattle.std.proofs.Common.{◌∙◌, sym, subst, rules, List, ℕ, option_copied}
+use Rattle.std.proofs.Common.{◌∙◌, ap, sym, subst, rules, List, ℕ, option_copied}
 use Rattle.template_machine_surroundings.specs.Rule.{IsEscapeOf}
 use Rattle.template_environment_settings.specs.Compiled.{standing_of}
-use Rattle.template_environment_settings.specs.Reading.{registry_of}
+use Rattle.template_environment_settings.specs.Reading.{extras_of, registry_of}
 use Rattle.template_environment_settings.specs.Views.{compiled_in, environment_of, source_of}
 use Rattle.template_program_parts.specs.Context.{text_pairs}
 use Rattle.template_program_run.specs.Environments.{IsMade}
@@ -9,6 +9,10 @@ use Rattle.template_program_parts.specs.declared.command.Command.TheVariants as 
 use Rattle.template_program_run.proofs.Counting.{one_more, rendered_counts, told_counts}
 use Rattle.template_program_run.proofs.MainStands.{answers_done, rendered_does}
 use Rattle.template_program_run.proofs.running.run.Goals as goal
+
+-- nothing was brought to the environment of the template
+pub render-requires : goal.render-requires
+render-requires g c = ap extras_of c.in-Ok-get_template.ensures.here ∙ c.in-Ok-environment_of.ensures.extras
 
 pub returns-in-Render-clause-answers : goal.returns-in-Render-clause-answers
 returns-in-Render-clause-answers g c =
@@ -18,7 +22,7 @@ returns-in-Render-clause-answers g c =
     let main = c.as_str.ensures.value in
     answers_done c.args.request.now (text_pairs c.args.templates.now) (option_copied c.args.context) c.args.ids.now c.render.result _ _ _ _
     c.in-Ok.context c.in-Ok.ensures.has e.ensures.had_one e.ensures.accepted (registry_of (environment_of t.template)) made (compiled_in t.template.compiled)
-    (search rules) (subst (λ (n : List ℕ). IsEscapeOf (source_of t.template).escapes n (compiled_in t.template.compiled).escape) (t.ensures.named ∙ main) c.render.ensures.rule)
+    (t.ensures.named ∙ main) (search rules) (subst (λ (n : List ℕ). IsEscapeOf (source_of t.template).escapes n (compiled_in t.template.compiled).escape) (t.ensures.named ∙ main) c.render.ensures.rule)
     asked.Render (search rules)
     (rendered_does c.args.request.now (option_copied c.args.context) c.args.ids.now c.render.result _ _ _ _ c.in-Ok.context c.in-Ok.ensures.has (search rules)
     (registry_of (environment_of t.template)) (standing_of (compiled_in t.template.compiled)) c.environment_of.new.ids
@@ -31,7 +35,7 @@ returns-in-Names-clause-answers g c =
     let main = c.as_str.ensures.value in
     answers_done c.args.request.now (text_pairs c.args.templates.now) (option_copied c.args.context) c.args.ids.now c.tell_names.result _ _ _ _
     c.in-Ok.context c.in-Ok.ensures.has e.ensures.had_one e.ensures.accepted (registry_of e.environment) e.ensures.made (compiled_in t.template.compiled)
-    (search rules) (subst (λ (n : List ℕ). IsEscapeOf (source_of t.template).escapes n (compiled_in t.template.compiled).escape) (t.ensures.named ∙ main) c.tell_names.ensures.rule)
+    (t.ensures.named ∙ main) (search rules) (subst (λ (n : List ℕ). IsEscapeOf (source_of t.template).escapes n (compiled_in t.template.compiled).escape) (t.ensures.named ∙ main) c.tell_names.ensures.rule)
     asked.Names (search rules) c.tell_names.ensures.told
 
 pub returns-in-Render-clause-counted : goal.returns-in-Render-clause-counted

@@ -7,7 +7,7 @@ pub returns-clause-source : goal.returns-clause-source
 returns-clause-source g c =
     let made = c.in_ok-compiled.ensures in
     let kept = c.ruled.ensures in
-    read_so _ c.args.self.now.callback c.args.self.now.registry.config c.in_ok-compiled.compiled c.ruled.result.source c.args.name.now c.args.source.now
+    read_so _ c.args.self.now.extensions.rule c.args.self.now.registry.config c.in_ok-compiled.compiled c.ruled.result.source c.args.name.now c.args.source.now
     made.name made.source kept.text kept.syntax kept.escapes
 
 pub returns-in_err-compiled-clause-plain : goal.returns-in_err-compiled-clause-plain

@@ -19,8 +19,8 @@ use Rattle.template_environment.proofs.environment.Environment.templates.Goals a
 pub loop-compiled-preserved : goal.loop-compiled-preserved
 loop-compiled-preserved g c =
     let listed = c.loop-compiled.listed.items in
-    let own = λ (t : Template _). compiled_in t.compiled in
-    let here = λ (t : Template _). environment_of t ≡ c.args.self.now in
+    let own = λ (t : Template _ _ _ _ _ _). compiled_in t.compiled in
+    let here = λ (t : Template _ _ _ _ _ _). environment_of t ≡ c.args.self.now in
     record {
       same = ap (map own) c.in_ok-push.ensures.items ∙ map-append own listed _
           ∙ ap (λ (ks : List Compiled). ks ++ c.in-Some.compiled.now ∷ []) c.loop-compiled.invariant.same
@@ -38,7 +38,7 @@ returns-clause-listed g c = λ name.
     let same = c.loop-compiled.invariant.same ∙ ended.0 in
     ap (λ (o : Option Compiled). option_map (λ k. k.source) o)
     (sym (c.values-compiled-items.ensures.found name) ∙ ap (λ (ks : List Compiled). find (λ k. bytes_eq name k.name) ks) (sym same))
-    ∙ found_by (λ (t : Template _). compiled_in t.compiled) (λ k. k.source) (λ k. bytes_eq name k.name) c.loop-compiled.listed.items
+    ∙ found_by (λ (t : Template _ _ _ _ _ _). compiled_in t.compiled) (λ k. k.source) (λ k. bytes_eq name k.name) c.loop-compiled.listed.items
 
 pub returns-clause-ordered : goal.returns-clause-ordered
 returns-clause-ordered g c =
@@ -49,5 +49,5 @@ returns-clause-ordered g c =
     let same = c.loop-compiled.invariant.same ∙ ended.0 in
     subst (λ (names : List (List ℕ)). IsStrictlySortedBy (slice_cmp nat_cmp) names)
     (ap (λ (ks : List Compiled). map (λ k. k.name) ks) (sym same)
-    ∙ map_twice (λ (t : Template _). compiled_in t.compiled) (λ k. k.name) c.loop-compiled.listed.items)
+    ∙ map_twice (λ (t : Template _ _ _ _ _ _). compiled_in t.compiled) (λ k. k.name) c.loop-compiled.listed.items)
     c.values-compiled-items.ensures.ordered

@@ -7,6 +7,6 @@ use Rattle.template_environment.proofs.environment.Environment.templates.Given a
 -- the templates so far are listed
 abbrev pub invariant-loop-compiled : goal.invariant-loop-compiled
 invariant-loop-compiled g l = record {
-  same : map (λ (t : Template _). compiled_in t.compiled) l.listed.items ≡ map deref l.yielded;
-  here : All (λ (t : Template _). environment_of t ≡ l.self) l.listed.items;
+  same : map (λ (t : Template _ _ _ _ _ _). compiled_in t.compiled) l.listed.items ≡ map deref l.yielded;
+  here : All (λ (t : Template _ _ _ _ _ _). environment_of t ≡ l.self) l.listed.items;
 }

@@ -5,6 +5,7 @@ use Rattle.template_process.specs.Trace.{Run}
 use Rattle.template_compiled.specs.Plain.{text_kept}
 use Rattle.template_machine_meaning.specs.World.{World}
 use Rattle.template_machine_renders.specs.Renders.{leaves}
+use Rattle.template_environment.specs.Reading.{callables_of}
 use Rattle.template_environment.specs.Renderings.{left_of}
 use Rattle.template_environment.specs.Views.{compiled_in, output_of, source_of}
 use Rattle.template_environment.specs.declared.template.Captured.{Captured}
@@ -13,13 +14,13 @@ use Rattle.template_environment.proofs.Plain.{plain_gives}
 use Rattle.template_environment.proofs.template.Template.render_captured.Goals as goal
 
 pub returns-in_err-id-clause-isolated : goal.returns-in_err-id-clause-isolated
-returns-in_err-id-clause-isolated g c = λ other agree. c.isolated_renders.ensures c.args.context other agree
+returns-in_err-id-clause-isolated g c = c.isolated_renders.ensures c.args.context
 
 pub returns-in_err-machine-clause-isolated : goal.returns-in_err-machine-clause-isolated
-returns-in_err-machine-clause-isolated g c = λ other agree. c.isolated_renders.ensures c.args.context other agree
+returns-in_err-machine-clause-isolated g c = c.isolated_renders.ensures c.args.context
 
 pub returns-clause-isolated : goal.returns-clause-isolated
-returns-clause-isolated g c = λ other agree. c.isolated_renders.ensures c.args.context other agree
+returns-clause-isolated g c = c.isolated_renders.ensures c.args.context
 
 -- where a call faults, no text is asked for
 abbrev no_text : Unit {0} → List ℕ
@@ -28,22 +29,25 @@ no_text u = []
 pub returns-in_err-machine-clause-text : goal.returns-in_err-machine-clause-text
 returns-in_err-machine-clause-text g c = λ live n finished.
     let self = c.args.self.now in
+    let brought = callables_of g.E.Callable.Callable.answer g.E.Method.UnknownMethod.answer self.environment.now in
     let ran = c.in_err-machine.ensures in
     let p = err_from_is_err_and c.from_residual-in_err-machine.result c.from_residual-in_err-machine.ensures.1 in
     rw (p.1, p.2)
-    (call_faults _ _ no_text self.environment.now.registry _ c.args.ids.now _ (compiled_in self.compiled) c.args.context _ _ _
+    (call_faults _ _ no_text brought self.environment.now.registry _ c.args.ids.now _ (compiled_in self.compiled) c.args.context _ _ _
     c.in_ok-id.ensures.given c.get.ensures ran.failures ran.renders n finished)
 
 pub returns-in_err-machine-clause-plain : goal.returns-in_err-machine-clause-plain
 returns-in_err-machine-clause-plain g c = λ live plain.
     let self = c.args.self.now in
-    plain_gives self.environment.now.registry c.args.ids.now (compiled_in self.compiled) (text_kept (source_of self)) c.args.context output_of _ (c.plain_renders.ensures plain)
+    let brought = callables_of g.E.Callable.Callable.answer g.E.Method.UnknownMethod.answer self.environment.now in
+    plain_gives brought self.environment.now.registry c.args.ids.now (compiled_in self.compiled) (text_kept (source_of self)) c.args.context output_of _ (c.plain_renders.ensures plain)
     (returns-in_err-machine-clause-text g c live)
 
 pub returns-clause-text : goal.returns-clause-text
 returns-clause-text g c = λ live n finished.
     let self = c.args.self.now in
-    let captured : Captured _ = record {
+    let brought = callables_of g.E.Callable.Callable.answer g.E.Method.UnknownMethod.answer self.environment.now in
+    let captured : Captured _ _ _ _ _ _ = record {
       output = c.run.new.sink;
       state = record {
         id = c.in_ok-id.id;
@@ -53,27 +57,30 @@ returns-clause-text g c = λ live n finished.
         fuel = c.in_ok-machine.fuel;
       };
     } in
-    call_gives _ captured output_of self.environment.now.registry _ c.args.ids.now _ (compiled_in self.compiled) c.args.context _
+    call_gives _ captured output_of brought self.environment.now.registry _ c.args.ids.now _ (compiled_in self.compiled) c.args.context _
     c.in_ok-id.ensures.given c.get.ensures c.new-output.ensures.bytes c.in_ok-machine.ensures.renders n finished
 
 pub returns-clause-remains : goal.returns-clause-remains
 returns-clause-remains g c =
     let self = c.args.self.now in
+    let brought = callables_of g.E.Callable.Callable.answer g.E.Method.UnknownMethod.answer self.environment.now in
     let fuel = self.environment.now.registry.fuel in
-    called (λ (r : Run World). left_of c.in_ok-machine.fuel ≡ leaves fuel r) self.environment.now.registry _ c.args.ids.now _ (compiled_in self.compiled)
+    called (λ (r : Run World). left_of c.in_ok-machine.fuel ≡ leaves fuel r) brought self.environment.now.registry _ c.args.ids.now _ (compiled_in self.compiled)
     c.args.context c.in_ok-id.ensures.given c.get.ensures c.in_ok-machine.ensures.left
 
 pub returns-clause-world : goal.returns-clause-world
 returns-clause-world g c =
     let self = c.args.self.now in
+    let brought = callables_of g.E.Callable.Callable.answer g.E.Method.UnknownMethod.answer self.environment.now in
     let fuel = self.environment.now.registry.fuel in
-    called (λ (r : Run World). c.in_ok-machine.machine ≡ (under fuel r).after) self.environment.now.registry _ c.args.ids.now _ (compiled_in self.compiled)
+    called (λ (r : Run World). c.in_ok-machine.machine ≡ (under fuel r).after) brought self.environment.now.registry _ c.args.ids.now _ (compiled_in self.compiled)
     c.args.context c.in_ok-id.ensures.given c.get.ensures c.in_ok-machine.ensures.world
 
 pub returns-clause-plain : goal.returns-clause-plain
 returns-clause-plain g c = λ live plain.
     let self = c.args.self.now in
-    let captured : Captured _ = record {
+    let brought = callables_of g.E.Callable.Callable.answer g.E.Method.UnknownMethod.answer self.environment.now in
+    let captured : Captured _ _ _ _ _ _ = record {
       output = c.run.new.sink;
       state = record {
         id = c.in_ok-id.id;
@@ -83,5 +90,5 @@ returns-clause-plain g c = λ live plain.
         fuel = c.in_ok-machine.fuel;
       };
     } in
-    plain_gives self.environment.now.registry c.args.ids.now (compiled_in self.compiled) (text_kept (source_of self)) c.args.context output_of (Ok captured) (c.plain_renders.ensures plain)
+    plain_gives brought self.environment.now.registry c.args.ids.now (compiled_in self.compiled) (text_kept (source_of self)) c.args.context output_of (Ok captured) (c.plain_renders.ensures plain)
     (returns-clause-text g c live)
