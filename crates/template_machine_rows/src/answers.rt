@@ -1,21 +1,26 @@
 //! What comes of a case.
+use crate::brought::Brought;
 use crate::calls::ask;
-use crate::case::{Case, Escapes, Setting};
-use crate::escapes::{NumberedRule, ShortNames};
+use crate::case::{Brings, Case, Escapes, Setting};
+use crate::described::brought_of;
+use crate::own::{Made, Own};
 use crate::report::Report;
 use crate::steps::Step;
 use std::alloc::Global;
 use std::borrow::CowStr;
+use template_callables::Extension;
 use template_compiler_syntax::{SyntaxConfig, SyntaxConfigBuilder};
 use template_environment::Environment;
-use template_machine_surroundings::{AutoEscapeRule, StateIds};
+use template_machine_surroundings::StateIds;
+use template_rows::unreadable;
+use template_values_core::{Entry, Value};
 use template_values_errors::Error;
 
 /// What comes of the case, in one line.
 pub(crate) fn answer(alloc: Global, case: &Case<'_>, out: &mut Report) {
     let mut ids = StateIds::new(0);
     match case.setting.escapes {
-        Escapes::ByName => {
+        Escapes::ByName if case.brings_nothing() => {
             let environment = Environment::new(alloc, &mut ids);
             answer_in(alloc, environment, &mut ids, case, out)
         }
@@ -23,17 +28,18 @@ pub(crate) fn answer(alloc: Global, case: &Case<'_>, out: &mut Report) {
             let environment = Environment::empty(alloc, &mut ids);
             answer_in(alloc, environment, &mut ids, case, out)
         }
-        Escapes::Shorter(length) => {
-            let rule = ShortNames::shorter_than(length);
-            let environment = Environment::with_auto_escape_callback(alloc, rule, &mut ids);
+        _ => {
+            let environment: Result<Environment<'_, Own>, Error> = Environment::extended(
+                alloc, &mut ids,
+            );
             answer_in(alloc, environment, &mut ids, case, out)
         }
     }
 }
 
-fn answer_in<'line, R: NumberedRule>(
+fn answer_in<'line, E: Made>(
     alloc: Global,
-    environment: Result<Environment<'line, R>, Error>,
+    environment: Result<Environment<'line, E>, Error>,
     ids: &mut StateIds,
     case: &Case<'line>,
     out: &mut Report,
@@ -44,24 +50,98 @@ fn answer_in<'line, R: NumberedRule>(
     }
 }
 
-fn tell<'line, R: NumberedRule>(
+fn tell<'line, E: Made>(
     alloc: Global,
-    environment: &mut Environment<'line, R>,
+    environment: &mut Environment<'line, E>,
     ids: &mut StateIds,
     case: &Case<'line>,
     out: &mut Report,
 ) {
     set(environment, &case.setting);
-    out.or(set_globals(environment, case), ());
+    for brings in &case.brings {
+        out.or(bring(alloc, environment, brings), ());
+    }
     if take_all(alloc, environment, case, out) {
-        match case.context.copy() {
-            Ok(context) => ask(environment, ids, case, context, out),
-            Err(error) => out.refuse(error.kind()),
+        tell_answer(alloc, environment, ids, case, out);
+        for brings in &case.again {
+            out.or(bring(alloc, environment, brings), ());
+            out.push_str(", ");
+            tell_answer(alloc, environment, ids, case, out);
         }
     }
 }
 
-fn set<R: AutoEscapeRule>(environment: &mut Environment<'_, R>, setting: &Setting) {
+fn tell_answer<'line, E: Made>(
+    alloc: Global,
+    environment: &Environment<'line, E>,
+    ids: &mut StateIds,
+    case: &Case<'line>,
+    out: &mut Report,
+) {
+    match context_of(alloc, case) {
+        Ok(context) => ask(environment, ids, case, context, out),
+        Err(error) => out.refuse(error.kind()),
+    }
+}
+
+// The context, with the functions that it has besides.
+fn context_of(alloc: Global, case: &Case<'_>) -> Result<Value, Error> {
+    let held = case.held.entries().unwrap_or(&[]);
+    if held.is_empty() {
+        return case.context.copy();
+    }
+    let mut entries = Vec::new(alloc);
+    for entry in case.context.entries().unwrap_or(&[]) {
+        entries.push(Entry {
+            key: entry.key.copy()?,
+            value: entry.value.copy()?,
+        })?;
+    }
+    for entry in held {
+        entries.push(Entry {
+            key: entry.key.copy()?,
+            value: held_of(&entry.value)?,
+        })?;
+    }
+    Value::from_map(alloc, entries)
+}
+
+// The function of a list of two numbers, that of its environment and its own; or the namespace of such a list under its word, of
+// that of its state and its own.
+fn held_of(said: &Value) -> Result<Value, Error> {
+    match said.value_at("namespace") {
+        Some(namespace) => {
+            let (state, number) = numbers_of(namespace)?;
+            Ok(Value::namespace(state, number))
+        }
+        None => {
+            let (environment, number) = numbers_of(said)?;
+            Ok(Value::function(environment, number))
+        }
+    }
+}
+
+fn numbers_of(said: &Value) -> Result<(u64, usize), Error> {
+    let Some([owner, number]) = said.items() else {
+        return unreadable();
+    };
+    match (number_of(owner), number_of(number)) {
+        (Some(owner), Some(number)) => match usize::try_from(number) {
+            Ok(number) => Ok((owner, number)),
+            Err(_) => unreadable(),
+        },
+        _ => unreadable(),
+    }
+}
+
+fn number_of(said: &Value) -> Option<u64> {
+    u64::try_from(said.as_int()?).ok()
+}
+
+fn set<E: Made>(environment: &mut Environment<'_, E>, setting: &Setting) {
+    if let Escapes::Shorter(length) = setting.escapes {
+        environment.set_auto_escape_callback(E::shorter_than(length));
+    }
     environment.set_fuel(setting.fuel);
     environment.set_undefined_behavior(setting.undefined);
     if let Some(limit) = setting.limit {
@@ -69,26 +149,69 @@ fn set<R: AutoEscapeRule>(environment: &mut Environment<'_, R>, setting: &Settin
     }
 }
 
-// Puts the values under their names, and takes those away that are removed.
-fn set_globals<R: AutoEscapeRule>(
-    environment: &mut Environment<'_, R>,
-    case: &Case<'_>,
+// Adds what is brought, and takes away what is removed.
+fn bring<E: Made>(
+    alloc: Global,
+    environment: &mut Environment<'_, E>,
+    brings: &Brings<'_>,
 ) -> Result<(), Error> {
-    for entry in case.globals.entries().unwrap_or(&[]) {
+    bring_globals(environment, brings)?;
+    for (name, brought) in described(alloc, &brings.filters)? {
+        environment.add_filter(name, E::callable(brought))?;
+    }
+    for (name, brought) in described(alloc, &brings.tests)? {
+        environment.add_test(name, E::callable(brought))?;
+    }
+    for (name, brought) in described(alloc, &brings.functions)? {
+        environment.add_function(name, E::callable(brought))?;
+    }
+    for (_name, brought) in described(alloc, &brings.method)? {
+        environment.set_unknown_method_callback(E::method(brought));
+    }
+    remove(environment, brings);
+    Ok(())
+}
+
+// Puts the values under their names, and takes those away that are removed.
+fn bring_globals<E: Extension>(
+    environment: &mut Environment<'_, E>,
+    brings: &Brings<'_>,
+) -> Result<(), Error> {
+    for entry in brings.globals.entries().unwrap_or(&[]) {
         if let Some(name) = entry.key.as_str() {
             environment.add_global(name, entry.value.copy()?)?;
         }
     }
-    for name in &case.removed_globals {
+    for name in &brings.removed_globals {
         environment.remove_global(*name);
     }
     Ok(())
 }
 
+fn remove<E: Extension>(environment: &mut Environment<'_, E>, brings: &Brings<'_>) {
+    for name in &brings.removed_filters {
+        environment.remove_filter(*name);
+    }
+    for name in &brings.removed_tests {
+        environment.remove_test(*name);
+    }
+}
+
+// What a map describes, by order of the names.
+fn described(alloc: Global, map: &Value) -> Result<Vec<(&str, Brought)>, Error> {
+    let mut described = Vec::new(alloc);
+    for entry in map.entries().unwrap_or(&[]) {
+        if let Some(name) = entry.key.as_str() {
+            described.push((name, brought_of(alloc, &entry.value)?))?;
+        }
+    }
+    Ok(described)
+}
+
 // Takes the steps, tells which additions are refused, and whether the case goes on behind them.
-fn take_all<'line, R: NumberedRule>(
+fn take_all<'line, E: Made>(
     alloc: Global,
-    environment: &mut Environment<'line, R>,
+    environment: &mut Environment<'line, E>,
     case: &Case<'line>,
     out: &mut Report,
 ) -> bool {
@@ -104,9 +227,9 @@ fn take_all<'line, R: NumberedRule>(
     true
 }
 
-fn take<'line, R: NumberedRule>(
+fn take<'line, E: Made>(
     alloc: Global,
-    environment: &mut Environment<'line, R>,
+    environment: &mut Environment<'line, E>,
     is_owned: bool,
     step: Step<'line>,
 ) -> Result<(), Error> {
@@ -118,15 +241,15 @@ fn take<'line, R: NumberedRule>(
         Step::Prefixes { statement, comment } => {
             environment.set_syntax(prefixed(alloc, statement, comment)?)
         }
-        Step::Rule { length } => environment.set_auto_escape_callback(R::shorter_than(length)),
+        Step::Rule { length } => environment.set_auto_escape_callback(E::shorter_than(length)),
     }
     Ok(())
 }
 
 // Adds a template of texts that do not outlive the call.
-fn add_owned<R: AutoEscapeRule>(
+fn add_owned<E: Extension>(
     alloc: Global,
-    environment: &mut Environment<'_, R>,
+    environment: &mut Environment<'_, E>,
     name: &str,
     source: &str,
 ) -> Result<(), Error> {

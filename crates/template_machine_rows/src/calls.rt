@@ -1,59 +1,75 @@
 //! What is asked for behind the steps.
-use crate::case::{Call, Case, Setting, Source, Subject};
+use crate::case::{Call, Case, Source, Subject};
+use crate::invoked::call_all;
 use crate::renders::{tell_captured, tell_render};
 use crate::report::Report;
 use crate::tellings::{tell_globals, tell_new_state, tell_templates};
 use std::alloc::Global;
 use std::borrow::CowStr;
+use template_callables::Extension;
 use template_environment::{Environment, Expression, Template};
-use template_machine_surroundings::{AutoEscapeRule, StateIds};
+use template_machine_surroundings::StateIds;
 use template_values_core::Value;
 use template_values_errors::Error;
 
 /// Tells what comes of what is asked of the environment, or of the case's subject.
-pub(crate) fn ask<'line, R: AutoEscapeRule>(
-    environment: &Environment<'line, R>,
+pub(crate) fn ask<'line, E: Extension>(
+    environment: &Environment<'line, E>,
     ids: &mut StateIds,
     case: &Case<'line>,
     context: Value,
     out: &mut Report,
 ) {
-    if let Call::Globals = case.setting.call {
-        drop(context);
-        return tell_globals(environment, out);
-    }
-    match case.subject {
-        Subject::Main(name) => {
-            let template = environment.get_template(name);
-            ask_template(environment, &template, ids, &case.setting, context, out)
+    match case.setting.call {
+        Call::Globals => {
+            drop(context);
+            tell_globals(environment, out)
         }
-        Subject::Source(source) => {
-            ask_source(environment, source, ids, &case.setting, context, out)
+        Call::Calls => {
+            drop(context);
+            call_all(environment.empty_state(ids), &case.calls, out)
         }
-        Subject::Expression(source) => {
-            ask_expression(environment, source, ids, &case.setting, context, out)
-        }
+        _ => ask_subject(environment, ids, case, context, out),
     }
 }
 
-fn ask_source<'line, R: AutoEscapeRule>(
-    environment: &Environment<'line, R>,
-    source: Source<'line>,
+fn ask_subject<'line, E: Extension>(
+    environment: &Environment<'line, E>,
     ids: &mut StateIds,
-    setting: &Setting,
+    case: &Case<'line>,
     context: Value,
     out: &mut Report,
 ) {
-    if let Call::Usual = setting.call {
-        out.text(&text_of(environment, source, ids, context))
-    } else {
-        let template = template_of(environment, source);
-        ask_template(environment, &template, ids, setting, context, out)
+    match case.subject {
+        Subject::Main(name) => {
+            let template = environment.get_template(name);
+            ask_template(environment, &template, ids, case, context, out)
+        }
+        Subject::Source(source) => { ask_source(environment, source, ids, case, context, out) }
+        Subject::Expression(source) => {
+            ask_expression(environment, source, ids, case, context, out)
+        }
     }
 }
 
-fn text_of<'line, R: AutoEscapeRule>(
-    environment: &Environment<'line, R>,
+fn ask_source<'line, E: Extension>(
+    environment: &Environment<'line, E>,
+    source: Source<'line>,
+    ids: &mut StateIds,
+    case: &Case<'line>,
+    context: Value,
+    out: &mut Report,
+) {
+    if let Call::Usual = case.setting.call {
+        out.text(&text_of(environment, source, ids, context))
+    } else {
+        let template = template_of(environment, source);
+        ask_template(environment, &template, ids, case, context, out)
+    }
+}
+
+fn text_of<'line, E: Extension>(
+    environment: &Environment<'line, E>,
     source: Source<'line>,
     ids: &mut StateIds,
     context: Value,
@@ -64,52 +80,52 @@ fn text_of<'line, R: AutoEscapeRule>(
     }
 }
 
-fn template_of<'env, 'line, R: AutoEscapeRule>(
-    environment: &'env Environment<'line, R>,
+fn template_of<'env, 'line, E: Extension>(
+    environment: &'env Environment<'line, E>,
     source: Source<'line>,
-) -> Result<Template<'env, 'line, R>, Error> {
+) -> Result<Template<'env, 'line, E>, Error> {
     match source.name {
         None => environment.template_from_str(source.text),
         Some(name) => environment.template_from_named_str(name, source.text),
     }
 }
 
-fn ask_template<'line, R: AutoEscapeRule>(
-    environment: &Environment<'line, R>,
-    template: &Result<Template<'_, 'line, R>, Error>,
+fn ask_template<'line, E: Extension>(
+    environment: &Environment<'line, E>,
+    template: &Result<Template<'_, 'line, E>, Error>,
     ids: &mut StateIds,
-    setting: &Setting,
+    case: &Case<'line>,
     context: Value,
     out: &mut Report,
 ) {
     match template {
-        Ok(template) => tell_template(environment, template, ids, setting, context, out),
+        Ok(template) => tell_template(environment, template, ids, case, context, out),
         Err(error) => out.fault(error),
     }
 }
 
-fn tell_template<'line, R: AutoEscapeRule>(
-    environment: &Environment<'line, R>,
-    template: &Template<'_, 'line, R>,
+fn tell_template<'line, E: Extension>(
+    environment: &Environment<'line, E>,
+    template: &Template<'_, 'line, E>,
     ids: &mut StateIds,
-    setting: &Setting,
+    case: &Case<'line>,
     context: Value,
     out: &mut Report,
 ) {
-    match setting.call {
-        Call::Usual => tell_render(template, ids, setting, context, out),
+    match case.setting.call {
+        Call::Usual => tell_render(template, ids, case, context, out),
         Call::Render => tell_text(template, ids, context, out),
-        Call::RenderCaptured => tell_captured(template, ids, setting, context, out),
+        Call::RenderCaptured => tell_captured(template, ids, case, context, out),
         _ => {
             drop(context);
-            tell_of_template(environment, template, ids, setting, out)
+            tell_of_template(environment, template, ids, case, out)
         }
     }
 }
 
 // The text of a render.
-fn tell_text<R: AutoEscapeRule>(
-    template: &Template<'_, '_, R>,
+fn tell_text<E: Extension>(
+    template: &Template<'_, '_, E>,
     ids: &mut StateIds,
     context: Value,
     out: &mut Report,
@@ -118,15 +134,16 @@ fn tell_text<R: AutoEscapeRule>(
 }
 
 // What is asked of the template without a render.
-fn tell_of_template<'line, R: AutoEscapeRule>(
-    environment: &Environment<'line, R>,
-    template: &Template<'_, 'line, R>,
+fn tell_of_template<'line, E: Extension>(
+    environment: &Environment<'line, E>,
+    template: &Template<'_, 'line, E>,
     ids: &mut StateIds,
-    setting: &Setting,
+    case: &Case<'line>,
     out: &mut Report,
 ) {
-    match setting.call {
+    match case.setting.call {
         Call::States => tell_states(environment, template, ids, out),
+        Call::TemplateCalls => call_all(template.new_state(ids), &case.calls, out),
         Call::UsedNames => tell_used_names(template, out),
         Call::ContextNames => out.names(&environment.context_names(template)),
         Call::Escape => out.tell("", &template.initial_auto_escape()),
@@ -135,9 +152,9 @@ fn tell_of_template<'line, R: AutoEscapeRule>(
 }
 
 // A new state of the template, then one without a template.
-fn tell_states<'line, R: AutoEscapeRule>(
-    environment: &Environment<'line, R>,
-    template: &Template<'_, 'line, R>,
+fn tell_states<'line, E: Extension>(
+    environment: &Environment<'line, E>,
+    template: &Template<'_, 'line, E>,
     ids: &mut StateIds,
     out: &mut Report,
 ) {
@@ -146,32 +163,32 @@ fn tell_states<'line, R: AutoEscapeRule>(
     tell_new_state(&environment.empty_state(ids), out);
 }
 
-fn tell_used_names<R: AutoEscapeRule>(template: &Template<'_, '_, R>, out: &mut Report) {
+fn tell_used_names<E: Extension>(template: &Template<'_, '_, E>, out: &mut Report) {
     out.names(&template.undeclared_variables(false));
     out.push(' ');
     out.names(&template.undeclared_variables(true));
 }
 
-fn ask_expression<'line, R: AutoEscapeRule>(
-    environment: &Environment<'line, R>,
+fn ask_expression<'line, E: Extension>(
+    environment: &Environment<'line, E>,
     source: &'line str,
     ids: &mut StateIds,
-    setting: &Setting,
+    case: &Case<'line>,
     context: Value,
     out: &mut Report,
 ) {
-    match expression_of(out.alloc(), environment, source, setting.is_owned) {
-        Ok(expression) => tell_expression(&expression, ids, setting, context, out),
+    match expression_of(out.alloc(), environment, source, case.setting.is_owned) {
+        Ok(expression) => tell_expression(&expression, ids, case, context, out),
         Err(error) => out.fault(&error),
     }
 }
 
-fn expression_of<'env, 'line, R: AutoEscapeRule>(
+fn expression_of<'env, 'line, E: Extension>(
     alloc: Global,
-    environment: &'env Environment<'line, R>,
+    environment: &'env Environment<'line, E>,
     source: &'line str,
     is_owned: bool,
-) -> Result<Expression<'env, 'line, R>, Error> {
+) -> Result<Expression<'env, 'line, E>, Error> {
     if is_owned {
         // A source that does not outlive the call.
         let source = String::from_str(alloc, source)?;
@@ -181,24 +198,21 @@ fn expression_of<'env, 'line, R: AutoEscapeRule>(
     }
 }
 
-fn tell_expression<R: AutoEscapeRule>(
-    expression: &Expression<'_, '_, R>,
+fn tell_expression<E: Extension>(
+    expression: &Expression<'_, '_, E>,
     ids: &mut StateIds,
-    setting: &Setting,
+    case: &Case<'_>,
     context: Value,
     out: &mut Report,
 ) {
-    if let Call::UsedNames = setting.call {
+    if let Call::UsedNames = case.setting.call {
         drop(context);
         return tell_names_of_expression(expression, out);
     }
     tell_value(&expression.eval(ids, context), out)
 }
 
-fn tell_names_of_expression<R: AutoEscapeRule>(
-    expression: &Expression<'_, '_, R>,
-    out: &mut Report,
-) {
+fn tell_names_of_expression<E: Extension>(expression: &Expression<'_, '_, E>, out: &mut Report) {
     out.names(&expression.undeclared_variables(false));
     out.push(' ');
     out.names(&expression.undeclared_variables(true));

@@ -9,9 +9,20 @@ use template_values_errors::{Error, ErrorKind, UndefinedBehavior};
 use template_values_json::context_from_json;
 
 // The names of a case's entries.
-const KNOWN: [&str; 17] = [
+const KNOWN: [&str; 28] = [
     "globals",
     "remove_globals",
+    "filters",
+    "tests",
+    "functions",
+    "method",
+    "remove_filters",
+    "remove_tests",
+    "brings",
+    "again",
+    "held",
+    "calls",
+    "temps",
     "templates",
     "main",
     "source",
@@ -29,17 +40,51 @@ const KNOWN: [&str; 17] = [
     "skip",
 ];
 
-/// A case: which globals stand, what is done, what is asked for then, and in which setting.
+// The names of the entries that say what is brought.
+const BRINGS: [&str; 8] = [
+    "globals",
+    "remove_globals",
+    "filters",
+    "tests",
+    "functions",
+    "method",
+    "remove_filters",
+    "remove_tests",
+];
+
+/// A case: what is brought, what is done, what is asked for then, and in which setting.
 #[derive(Drop)]
 pub(crate) struct Case<'line> {
-    /// A map of the values that are put under names.
-    pub(crate) globals: Value,
-    /// The names that no value stands under behind that.
-    pub(crate) removed_globals: Vec<&'line str>,
+    /// What is brought before all else, in turn.
+    pub(crate) brings: Vec<Brings<'line>>,
+    /// What is brought behind the answer, in turn, each before the same is asked for again.
+    pub(crate) again: Vec<Brings<'line>>,
     pub(crate) steps: Vec<Step<'line>>,
     pub(crate) subject: Subject<'line>,
+    /// A map of a list, of the calls that are made on a state.
+    pub(crate) calls: Value,
+    /// The names of the temps that are told behind a render.
+    pub(crate) temps: Vec<&'line str>,
     pub(crate) setting: Setting,
     pub(crate) context: Value,
+    /// A map of lists of two numbers, of the functions that the context has besides.
+    pub(crate) held: Value,
+}
+
+/// What is brought: maps of values and of what is described, by name; and the names of those that are removed behind
+/// that.
+#[derive(Drop)]
+pub(crate) struct Brings<'line> {
+    /// A map of the values that are put under names.
+    pub(crate) globals: Value,
+    pub(crate) removed_globals: Vec<&'line str>,
+    pub(crate) filters: Value,
+    pub(crate) tests: Value,
+    pub(crate) functions: Value,
+    /// A map of one, if what answers for methods is described.
+    pub(crate) method: Value,
+    pub(crate) removed_filters: Vec<&'line str>,
+    pub(crate) removed_tests: Vec<&'line str>,
 }
 
 /// What a case says besides its texts and its context.
@@ -87,6 +132,10 @@ pub(crate) enum Call {
     Escape,
     Templates,
     Globals,
+    /// Calls on a state without a template.
+    Calls,
+    /// Calls on a new state of the template.
+    TemplateCalls,
 }
 
 /// Where the text of a render goes.
@@ -115,19 +164,121 @@ impl<'line> Case<'line> {
         out: &mut Report,
     ) -> Case<'line> {
         out.or(expect_names(entries, &KNOWN), ());
-        let globals = object_of(alloc, entries.get("globals"));
-        let removed = removed_of(alloc, entries.get("remove_globals"));
+        let mut brings = Vec::new(alloc);
+        bring(alloc, entries, &mut brings, out);
+        list_brings(alloc, entries.get("brings"), &mut brings, out);
+        let mut again = Vec::new(alloc);
+        list_brings(alloc, entries.get("again"), &mut again, out);
         let steps = steps_of(alloc, entries.get("templates"), out);
+        let calls = wrapped_of(alloc, entries.get("calls"));
+        let temps = listed_of(alloc, entries.get("temps"));
         let context = object_of(alloc, entries.get("context"));
+        let held = object_of(alloc, entries.get("held"));
         Case {
-            globals: out.or(globals, Value::none()),
-            removed_globals: out.or(removed, Vec::new(alloc)),
+            brings,
+            again,
             subject: subject_of(entries, steps.as_slice(), out),
+            steps,
+            calls: out.or(calls, Value::none()),
+            temps: out.or(temps, Vec::new(alloc)),
             setting: Setting::read(entries, out),
             context: out.or(context, Value::none()),
-            steps,
+            held: out.or(held, Value::none()),
         }
     }
+
+    /// Whether nothing is brought but globals.
+    pub(crate) fn brings_nothing(&self) -> bool {
+        for brings in &self.brings {
+            if !brings.is_nothing() {
+                return false;
+            }
+        }
+        for brings in &self.again {
+            if !brings.is_nothing() {
+                return false;
+            }
+        }
+        true
+    }
+}
+
+// Lists what the objects of an array say, if it stands.
+fn list_brings<'line>(
+    alloc: Global,
+    objects: Option<&'line Json>,
+    all: &mut Vec<Brings<'line>>,
+    out: &mut Report,
+) {
+    match objects {
+        None => {}
+        Some(Json::Array(objects)) => list_each(alloc, objects.as_slice(), all, out),
+        Some(_) => out.refuse(ErrorKind::SyntaxError),
+    }
+}
+
+fn list_each<'line>(
+    alloc: Global,
+    objects: &'line [Json],
+    all: &mut Vec<Brings<'line>>,
+    out: &mut Report,
+) {
+    for object in objects {
+        match object {
+            Json::Object(entries) => {
+                out.or(expect_names(entries, &BRINGS), ());
+                bring(alloc, entries, all, out)
+            }
+            _ => out.refuse(ErrorKind::SyntaxError),
+        }
+    }
+}
+
+fn bring<'line>(
+    alloc: Global,
+    entries: &'line Map<String, Json>,
+    all: &mut Vec<Brings<'line>>,
+    out: &mut Report,
+) {
+    let brings = Brings::read(alloc, entries, out);
+    if all.push(brings).is_err() {
+        out.refuse(ErrorKind::OutOfMemory)
+    }
+}
+
+impl<'line> Brings<'line> {
+    fn read(alloc: Global, entries: &'line Map<String, Json>, out: &mut Report) -> Brings<'line> {
+        let globals = object_of(alloc, entries.get("globals"));
+        let removed_globals = listed_of(alloc, entries.get("remove_globals"));
+        let filters = object_of(alloc, entries.get("filters"));
+        let tests = object_of(alloc, entries.get("tests"));
+        let functions = object_of(alloc, entries.get("functions"));
+        let method = wrapped_of(alloc, entries.get("method"));
+        let removed_filters = listed_of(alloc, entries.get("remove_filters"));
+        let removed_tests = listed_of(alloc, entries.get("remove_tests"));
+        Brings {
+            globals: out.or(globals, Value::none()),
+            removed_globals: out.or(removed_globals, Vec::new(alloc)),
+            filters: out.or(filters, Value::none()),
+            tests: out.or(tests, Value::none()),
+            functions: out.or(functions, Value::none()),
+            method: out.or(method, Value::none()),
+            removed_filters: out.or(removed_filters, Vec::new(alloc)),
+            removed_tests: out.or(removed_tests, Vec::new(alloc)),
+        }
+    }
+
+    // Whether no filter, test or function is brought, and nothing that answers for methods.
+    fn is_nothing(&self) -> bool {
+        is_empty(&self.filters)
+            && is_empty(&self.tests)
+            && is_empty(&self.functions)
+            && is_empty(&self.method)
+    }
+}
+
+fn is_empty(map: &Value) -> bool {
+    map.entries().unwrap_or(&[]).is_empty()
 }
 
 impl Setting {
@@ -205,6 +356,12 @@ fn call_of(entries: &Map<String, Json>, out: &mut Report) -> Call {
     if truth_of(entries.get("names"), out) {
         return Call::ContextNames;
     }
+    if entries.get("calls").is_some() {
+        return match entries.get("main") {
+            Some(_) => Call::TemplateCalls,
+            None => Call::Calls,
+        };
+    }
     match out.or(text_of(entries.get("call")), None) {
         None => Call::Usual,
         Some("render") => Call::Render,
@@ -249,7 +406,22 @@ fn object_of(alloc: Global, object: Option<&Json>) -> Result<Value, Error> {
     }
 }
 
-fn removed_of<'line>(alloc: Global, names: Option<&'line Json>) -> Result<Vec<&'line str>, Error> {
+// A map of what stands, under a name; an empty one, if nothing does.
+fn wrapped_of(alloc: Global, wrapped: Option<&Json>) -> Result<Value, Error> {
+    let mut object = Vec::new(alloc);
+    match wrapped {
+        None => object.extend_from_slice(b"{}")?,
+        Some(wrapped) => {
+            object.extend_from_slice(b"{\"it\":")?;
+            object.extend_from_slice(wrapped.to_vec(alloc)?.as_slice())?;
+            object.extend_from_slice(b"}")?;
+        }
+    }
+    context_from_json(alloc, object.as_slice())
+}
+
+// The texts that an array lists; none, if none stands.
+fn listed_of<'line>(alloc: Global, names: Option<&'line Json>) -> Result<Vec<&'line str>, Error> {
     match names {
         None => Ok(Vec::new(alloc)),
         Some(names) => texts_of(alloc, names),

@@ -3,6 +3,17 @@
 //!
 //! - `globals`: the values that are put under names before all else, an object;
 //! - `remove_globals`: the names that no value stands under behind that, an array of texts;
+//! - `filters`, `tests`, `functions`: what is brought under names then, objects, each in the order of its names; `method`:
+//!   what answers for methods that values do not have. How each is described stands below;
+//! - `remove_filters`, `remove_tests`: the names of those that are removed behind that, arrays of texts;
+//! - `brings`: objects with the entries that stand so far, which are brought in turn behind those of the case; `again`:
+//!   such objects, each of which is brought behind the answer, before the same is asked for again;
+//! - `held`: functions that the context has besides, an object of arrays of two numbers: that of an environment, and that of
+//!   a function; or namespaces, each an object with such an array under `namespace`: that of a state, and that of a namespace;
+//! - `calls`: calls on a state in place of a render, an array of objects: `apply_filter` or `perform_test`, a name, with
+//!   `args`, an array; `get_temp`, a name; `set_temp`, a name, with a `value`; or `tell`, which tells the state. The state is a
+//!   new one of the template `main`, where this is named, else one without a template;
+//! - `temps`: the names of the temps that are told behind a render, an array of texts;
 //! - `templates`: what is done before the render, in order: `[name, source]` adds a template, `[name, null]` removes
 //!   the one of that name, `null` removes all, an object with `line_statement` and `line_comment` sets the prefixes of
 //!   the templates that are added from then on, and a number sets their rule of escapes, where `escapes` is one;
@@ -19,11 +30,30 @@
 //! - `limit`: the recursion limit; 500, if left out;
 //! - `undefined`: `lenient` (as also if left out), `chainable`, `semi_strict` or `strict`;
 //! - `escapes`: `false`, where nothing is escaped, or a number: names of fewer bytes are escaped as HTML, and others
-//!   not; left out, the ending of a name decides;
+//!   not; left out, the ending of a name decides. Where it is `false`, nothing can be brought;
 //! - `owned`: `true`, where the texts of templates and of the expression are copied, and let go before they are used;
 //! - `state`: `true`, where the state that a render left is told too;
 //! - `names`: `true`, where the names of a context are asked for in place of a render;
 //! - `skip`: `true`, where a refused addition does not end the case.
+//!
+//! What is brought is described by a word, or by an object with one answer:
+//!
+//! - `arguments`: the list of its arguments. Keyword arguments are one keyword map behind the others; for a method the value
+//!   is the first, and the method's name the second; `{"at": place}`: the argument at a place, counted from 0, or undefined;
+//!   `{"keyword": name}`: the keyword argument of a name;
+//! - `name`, `escape`, `undefined`, `block`: what it sees of the run;
+//! - `{"gives": value}`: a value; `{"fails": kind}`, `{"fails": [kind, cause]}`: a fault;
+//! - `{"filter": name}`, `{"test": name}`: what these come to for the same arguments; `{"lookup": name}`: what a name stands
+//!   for; `{"get": name}`: what is among the temps under a name, or undefined;
+//! - of the first argument, where MissingArgument is answered without one: `first`: itself; `safe`: its text as a safe one;
+//!   `same`: whether the second is equal; `{"times": value}`: the product; `{"temp": name}`: it stands among the temps under
+//!   the name, and what stood there is given; `{"down": name}`: itself where it is at most 0, else what the filter comes to
+//!   for one less; `call`: what it comes to where it is called with the others; and by its text, with the others:
+//!   `filter`, `test`, `lookup`, `get`, and `set`, which puts the second argument among the temps.
+//!
+//! In an object a word stands under `answer`, and beside the answer there may be `sets`, an array of pairs of a name and a
+//! value, which are set among the temps first; and `counts`, a name, under which the temps then have one more than the number
+//! that is there, or 1.
 //!
 //! The line is written as it stands, then ` = `, then what came of it:
 //!
@@ -37,6 +67,8 @@
 //!   with a fault that leaves no text;
 //! - the value of an expression, as JSON, or `undefined`, or `function N of M` for a function, N being its number and M that
 //!   of its environment; a value that a state knows may also be `namespace N of M`, M being the number of its state;
+//! - ` temps [name value, name -]` behind that, where temps are asked for, with `-` where there is none;
+//! - what each of the calls on a state gives, with `, ` between: a value, `true` or `false`, and `-` where there is no temp;
 //! - `[name, name]` where names are asked for, and two such lists for those that are used: without what stands behind
 //!   dots, then with it;
 //! - `[name "source", name "source"]` for the templates that stand, and `[name value, name value]` for the globals;
@@ -53,14 +85,18 @@
 #![tactic(auto)]
 
 mod answers;
+mod brought;
 mod calls;
 mod case;
-mod escapes;
+mod described;
+mod invoked;
+mod own;
 mod renders;
 mod report;
 mod steps;
 mod tellings;
 mod times;
+mod what;
 
 use crate::answers::answer;
 use crate::case::Case;

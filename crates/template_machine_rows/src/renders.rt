@@ -1,71 +1,72 @@
 //! Renders, by the place that their text goes to.
-use crate::case::{Place, Setting};
+use crate::case::{Case, Place};
 use crate::report::Report;
-use crate::tellings::tell_state;
+use crate::tellings::{tell_state, tell_temps};
+use template_callables::Extension;
 use template_environment::{Captured, Template};
 use template_machine_output::{NullWriter, WriteWrapper};
-use template_machine_surroundings::{AutoEscapeRule, StateIds};
+use template_machine_surroundings::StateIds;
 use template_values_core::Value;
 use template_values_errors::{Error, ErrorKind};
 
-/// Renders into the place of the setting, and tells the text that it has taken.
-pub(crate) fn tell_render<R: AutoEscapeRule>(
-    template: &Template<'_, '_, R>,
+/// Renders into the place of the case, and tells the text that it has taken.
+pub(crate) fn tell_render<E: Extension>(
+    template: &Template<'_, '_, E>,
     ids: &mut StateIds,
-    setting: &Setting,
+    case: &Case<'_>,
     context: Value,
     out: &mut Report,
 ) {
-    match setting.place {
-        Place::Text => tell_text(template, ids, setting, context, out),
-        Place::Room(room) => tell_room(template, ids, setting, context, room, out),
-        Place::Nowhere => tell_nowhere(template, ids, setting, context, out),
+    match case.setting.place {
+        Place::Text => tell_text(template, ids, case, context, out),
+        Place::Room(room) => tell_room(template, ids, case, context, room, out),
+        Place::Nowhere => tell_nowhere(template, ids, case, context, out),
     }
 }
 
-fn tell_nowhere<R: AutoEscapeRule>(
-    template: &Template<'_, '_, R>,
+fn tell_nowhere<E: Extension>(
+    template: &Template<'_, '_, E>,
     ids: &mut StateIds,
-    setting: &Setting,
+    case: &Case<'_>,
     context: Value,
     out: &mut Report,
 ) {
     let ended = template.render_captured_to(ids, context, &mut NullWriter);
     out.push('_');
-    tell_end(&ended, setting, out);
+    tell_end(&ended, case, out);
 }
 
-fn tell_text<R: AutoEscapeRule>(
-    template: &Template<'_, '_, R>,
+fn tell_text<E: Extension>(
+    template: &Template<'_, '_, E>,
     ids: &mut StateIds,
-    setting: &Setting,
+    case: &Case<'_>,
     context: Value,
     out: &mut Report,
 ) {
     let mut text = String::new(out.alloc());
     let ended = template.render_captured_to(ids, context, &mut text);
     out.quoted(text.as_bytes());
-    tell_end(&ended, setting, out);
+    tell_end(&ended, case, out);
 }
 
-fn tell_room<R: AutoEscapeRule>(
-    template: &Template<'_, '_, R>,
+fn tell_room<E: Extension>(
+    template: &Template<'_, '_, E>,
     ids: &mut StateIds,
-    setting: &Setting,
+    case: &Case<'_>,
     context: Value,
     room: usize,
     out: &mut Report,
 ) {
     match vec![in out.alloc(); 0u8; room] {
-        Ok(mut bytes) => tell_filled(template, ids, setting, context, bytes.as_mut_slice(), out),
+        Ok(mut bytes) => tell_filled(template, ids, case, context, bytes.as_mut_slice(), out),
         Err(_refused) => out.refuse(ErrorKind::OutOfMemory),
     }
 }
 
-fn tell_filled<R: AutoEscapeRule>(
-    template: &Template<'_, '_, R>,
+fn tell_filled<E: Extension>(
+    template: &Template<'_, '_, E>,
     ids: &mut StateIds,
-    setting: &Setting,
+    case: &Case<'_>,
     context: Value,
     bytes: &mut [u8],
     out: &mut Report,
@@ -73,29 +74,29 @@ fn tell_filled<R: AutoEscapeRule>(
     let (left, ended) = fill(template, ids, context, bytes);
     let taken = bytes.len().saturating_sub(left);
     out.quoted(bytes.get(..taken).unwrap_or(b""));
-    tell_end(&ended, setting, out);
+    tell_end(&ended, case, out);
 }
 
 // Renders into the bytes, and tells how many of them are left.
-fn fill<'template, 'line, R: AutoEscapeRule>(
-    template: &'template Template<'_, 'line, R>,
+fn fill<'template, 'line, E: Extension>(
+    template: &'template Template<'_, 'line, E>,
     ids: &mut StateIds,
     context: Value,
     bytes: &mut [u8],
-) -> (usize, Result<Captured<'template, 'line, R>, Error>) {
+) -> (usize, Result<Captured<'template, 'line, E>, Error>) {
     let mut sink = WriteWrapper::new(bytes);
     let ended = template.render_captured_to(ids, context, &mut sink);
     (sink.w.len(), ended)
 }
 
 // What follows the text: what the render took of its fuel and left, or how it ended.
-fn tell_end<R: AutoEscapeRule>(
-    ended: &Result<Captured<'_, '_, R>, Error>,
-    setting: &Setting,
+fn tell_end<E: Extension>(
+    ended: &Result<Captured<'_, '_, E>, Error>,
+    case: &Case<'_>,
     out: &mut Report,
 ) {
     match ended {
-        Ok(captured) => tell_left(captured, setting, out),
+        Ok(captured) => tell_left(captured, case, out),
         Err(error) => {
             out.push(' ');
             out.fault(error);
@@ -103,33 +104,33 @@ fn tell_end<R: AutoEscapeRule>(
     }
 }
 
-// What a render took of its fuel, where one is set, and the state that it left, where the setting tells it.
-fn tell_left<R: AutoEscapeRule>(
-    captured: &Captured<'_, '_, R>,
-    setting: &Setting,
-    out: &mut Report,
-) {
+// What a render took of its fuel, where one is set; then the state that it left and its temps, where the case asks for them.
+fn tell_left<E: Extension>(captured: &Captured<'_, '_, E>, case: &Case<'_>, out: &mut Report) {
     if let Some((consumed, _)) = captured.fuel_levels() {
         out.tell(" price ", &consumed);
     }
-    if setting.tells_state {
+    if case.setting.tells_state {
         out.push(' ');
         tell_state(captured.state(), out);
+    }
+    if !case.temps.is_empty() {
+        out.push_str(" temps ");
+        tell_temps(captured.state(), case.temps.as_slice(), out);
     }
 }
 
 /// Renders into a text that is kept beside the state.
-pub(crate) fn tell_captured<R: AutoEscapeRule>(
-    template: &Template<'_, '_, R>,
+pub(crate) fn tell_captured<E: Extension>(
+    template: &Template<'_, '_, E>,
     ids: &mut StateIds,
-    setting: &Setting,
+    case: &Case<'_>,
     context: Value,
     out: &mut Report,
 ) {
     match template.render_captured(ids, context) {
         Ok(captured) => {
             out.quoted(captured.output().as_bytes());
-            tell_left(&captured, setting, out);
+            tell_left(&captured, case, out);
         }
         Err(error) => out.fault(&error),
     }

@@ -1,0 +1,25 @@
+use Rattle.std.proofs.Common.{◌∙◌, ap, codes, ◌++◌, [], ◌∷◌, Option, List, ℕ, string_bytes}
+use Rattle.std.specs.Option.{option_map}
+use Rattle.template_values.specs.Answers.{text_in}
+use Rattle.template_values.specs.Val as values
+use Rattle.template_values.specs.Val.{Val}
+use Rattle.template_machine.specs.Callables.{finishes}
+use Rattle.template_machine.specs.Reading.{extras_of}
+use Rattle.template_machine.specs.States.{around_in, environment_in, world_in}
+use Rattle.template_machine.specs.declared.Environment.{Environment}
+use Rattle.template_example_callables.specs.Says.{labelled, methods_say, own_says}
+use Rattle.template_example_callables.specs.declared.callables.Own.{Own}
+use Rattle.template_example_callables.specs.declared.callables.Own.TheVariants as owns
+use Rattle.template_example_callables.proofs.Labels.{call_gives}
+use Rattle.template_example_callables.proofs.labelled.Goals as goal
+
+pub returns : goal.returns
+returns c =
+    let s = c.in_ok-state.state in
+    let shop = c.requires in
+    let there = ap (λ (e : Environment _ _ _ _ _ _). option_map own_says ((extras_of e).filters (codes "label"))) c.in_ok-state.ensures.here
+    ∙ ap (λ (o : Option Own). option_map own_says o) shop.stands in
+    let text = ap (λ (v : Val). labelled (string_bytes shop.label.prefix) (text_in v)) c.in_ok-text.ensures.made
+    ∙ ap (λ (prefix : List ℕ). finishes [] (values.text (prefix ++ c.args.text.now))) shop.prefixed in
+    call_gives (around_in own_says methods_say s) (world_in s) (world_in c.apply_filter.new.self) (own_says (owns.Label shop.label)) (codes "label")
+    (c.in_ok-text.text ∷ []) _ c.apply_filter.result there text c.apply_filter.ensures.told
