@@ -18,6 +18,7 @@ use Rattle.template_compiler_sources.specs.Source.{IsSource, RefusesSource, sour
 use Rattle.template_machine_surroundings.specs.Rule.{IsEscapeOf}
 use Rattle.template_compiled.specs.Compiled.{Compiled, IsFaithful}
 use Rattle.template_compiled.specs.Sources.{Source, HasTree, IsUnsupported, read_by, tree_in}
+use Rattle.template_compiled.specs.Streams.{BlockStream, streams_of}
 use Rattle.template_compiled.specs.declared.config.TemplateConfig.{TemplateConfig}
 use Rattle.template_compiled.proofs.Trees.{one_tree}
 
@@ -48,16 +49,17 @@ faithful name source escape s usable fits is runs rule = record {
 }
 
 -- what is kept of it
-pub kept : (name own : List ℕ) (text copied : List ℕ) (x y : TemplateConfig) (escape : AutoEscape) (code : List Code) (s : Statement) → own ≡ name → copied ≡ text
+pub kept : (name own : List ℕ) (text copied : List ℕ) (x y : TemplateConfig) (escape : AutoEscape) (code : List Code) (streams : List BlockStream) (s : Statement) → own ≡ name → copied ≡ text
     → y ≡ x → IsUsable x.syntax_config → (2 ^ 32 ≤ length text → ⊥) → IsSource x.syntax_config text s → RunsWhole s
-    → IsEscapeOf x.default_auto_escape name escape → code ≡ template_code (body_in s)
-    → IsFaithful (record { name = own; source = read_by y copied; escape = escape }) × (code ≡ template_code (tree_in (read_by y copied)))
-kept name own text copied x y escape code s named same shared usable fits is runs rule is_code =
+    → IsEscapeOf x.default_auto_escape name escape → code ≡ template_code (body_in s) → streams ≡ streams_of (body_in s)
+    → IsFaithful (record { name = own; source = read_by y copied; escape = escape }) × (code ≡ template_code (tree_in (read_by y copied))) × (streams ≡ streams_of (tree_in (read_by y copied)))
+kept name own text copied x y escape code streams s named same shared usable fits is runs rule is_code are_streams =
     let source : Source = read_by x text in
     let path : record { name = name; source = source; escape = escape } ≡ record { name = own; source = read_by y copied; escape = escape } =
     λ i. record { name = sym named i; source = read_by (sym shared i) (sym same i); escape = escape } in
-    subst (λ (c : Compiled). IsFaithful c × (code ≡ template_code (tree_in c.source))) path
-    (faithful name source escape s usable fits is runs rule, is_code ∙ ap template_code (sym (tree_is source s usable is)))
+    let tree = sym (tree_is source s usable is) in
+    subst (λ (c : Compiled). IsFaithful c × (code ≡ template_code (tree_in c.source)) × (streams ≡ streams_of (tree_in c.source))) path
+    (faithful name source escape s usable fits is runs rule, is_code ∙ ap template_code tree, are_streams ∙ ap streams_of tree)
 
 -- a source that was accepted is refused for want of memory alone
 only_want : (c : Compiled) (kinds : List ErrorKind) → IsFaithful c → RefusesSource c.source.syntax c.source.text kinds → kinds ≡ OutOfMemory ∷ []

@@ -2,10 +2,9 @@
 use Rattle.std.proofs.Common.{◌≡◌, ℕ, Bool, false, ◌||◌, List, codes, bytes_eq, Option, None, Some, inl, inr, ◌⊎◌, ◌↔◌, IsTrue, refl, sym, ap, subst, ◌∙◌}
 use Rattle.std.specs.Option.{option_map}
 use Rattle.template_callables.specs.Callables.{Callables}
-use Rattle.template_names.specs.Names.{is_used}
 use Rattle.template_names_undeclared.proofs.Walking.{turned}
 use Rattle.template_machine_meaning.specs.Isolation as isolation
-use Rattle.template_machine_meaning.specs.Isolation.{IsContextName, is_given}
+use Rattle.template_machine_meaning.specs.Isolation.{IsContextName, is_given, is_needed}
 use Rattle.template_machine_meaning.specs.Meaning.{Standing}
 use Rattle.template_compiled.specs.Compiled.{Compiled, standing_of}
 use Rattle.template_compiled.specs.Names.{uses}
@@ -23,7 +22,7 @@ used_by_one k e name = (
   λ u. (u.0, standing_of u.1, ap (option_map standing_of) u.2, u.3),
   λ u.
       let under = under_map standing_of (compiled_at e.templates u.0) u.1 u.2 in
-      (u.0, under.0, under.1, subst (λ (t : Standing). IsTrue (is_used name t.tree)) (sym under.2) u.3),
+      (u.0, under.0, under.1, subst (λ (t : Standing). IsTrue (is_needed name t.tree)) (sym under.2) u.3),
 )
 
 pub listed : (k : Callables) (e : Registry) (c : Compiled) (name : List ℕ) (given own : Bool) (Has : Type 0) → given ≡ is_given name → own ≡ (given || uses c name)
