@@ -1,13 +1,15 @@
 //! What the machine asks of what a user brought.
 use crate::answer::Answer;
+use crate::format::FormatAnswer;
 use crate::view::CallView;
 use template_values_core::Value;
 
-/// What a user brought, as the machine asks it: filters and tests by their names, functions by their numbers, and what answers for
-/// methods that values do not have. Nothing is answered where there is none.
+/// What a user brought, as the machine asks it: filters and tests by their names, functions by their numbers, what answers for
+/// methods that values do not have, and what says how values are printed. Nothing is answered where there is none.
 pub trait Callbacks {
+    ghost use Rattle.std.specs.Prelude.{◌≡◌, is_some};
     ghost use Rattle.template_callables.specs.Callables.{Callables};
-    ghost use Rattle.template_callables.specs.Callbacks.{AnswersUnder, method_says};
+    ghost use Rattle.template_callables.specs.Callbacks.{AnswersUnder, FormatsUnder, method_says};
     ghost use Rattle.template_callables.specs.Views.{seen_in};
 
     /// What is answered for each view and arguments.
@@ -34,4 +36,12 @@ pub trait Callbacks {
         args: &[Value],
     ) -> Option<Answer>
         ensures { AnswersUnder (method_says (callables self.now).methods value.now name.now) (seen_in view.now) args.now result };
+
+    /// Whether something says how values are printed.
+    fn formats(&self) -> bool
+        ensures { result ≡ is_some (callables self.now).formats };
+
+    /// What is printed in the place of a value, where something says so.
+    fn format(&self, view: &CallView<'_>, value: &Value) -> Option<FormatAnswer>
+        ensures { FormatsUnder (callables self.now).formats (seen_in view.now) value.now result };
 }

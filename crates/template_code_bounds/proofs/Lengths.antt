@@ -3,16 +3,16 @@ use Rattle.std.proofs.Common.{◌≤◌, ℕ, ◌+◌, zero, suc, Bool, true, fa
 use Rattle.template_values_model.specs.Val.{Val, silent_undefined, none, text}
 use Rattle.template_tree.specs.declared.operators.BinOpKind.{BinOpKind}
 use Rattle.template_tree.specs.declared.operators.BinOpKind.TheVariants.{Add, ScAnd, ScOr}
-use Rattle.template_tree.specs.Tree.{Expression, Optional, Expressions, Links, Arguments, unary, binary, chain, conditional, attribute, item, call, filtered, tested, list_literal, tuple_literal, map_literal, absent, given, no_expressions, expressions_more, no_links, links_more, no_arguments, arguments_more, positional, keyword, positional_spread, keyword_spread, Statement, print, for_loop, if_condition, with_block, set, set_block, auto_escape, filter_block, continue_loop, break_loop, do_call, Statements, no_statements, statements_more, Assignments, no_assignments, assignments_more}
+use Rattle.template_tree.specs.Tree.{Expression, Optional, Expressions, Links, Arguments, unary, binary, chain, conditional, attribute, item, call, filtered, tested, list_literal, tuple_literal, map_literal, absent, given, no_expressions, expressions_more, no_links, links_more, no_arguments, arguments_more, positional, keyword, positional_spread, keyword_spread, Statement, print, for_loop, if_condition, with_block, set, set_block, auto_escape, filter_block, from_import, extends, continue_loop, break_loop, do_call, Statements, no_statements, statements_more, Assignments, no_assignments, assignments_more, Imports, no_imports, imports_more}
 use Rattle.template_tree.specs.Tree as tree
 use Rattle.template_walk.specs.Constants.{constant_of}
-use Rattle.template_walk.specs.Expressions.{Passing, has_spread, Callee, by_name, by_method, by_value, callee_of}
-use Rattle.template_walk.specs.Statements.{number_of}
-use Rattle.template_code.specs.Code.{Code, get_attr, set_attr, get_item, slice, build_map, build_kwargs, merge_kwargs, build_list, build_tuple, call_function, call_method, call_object, apply_filter, perform_test, operate, compare_and_preserve, jump, jump_if_false, jump_if_false_or_pop, jump_if_true_or_pop, emit, load_const, unpack_list, unpack_lists, swap, dup_top, discard_top, push_with, pop_frame, push_loop, pop_loop_frame, push_auto_escape, pop_auto_escape, begin_capture, end_capture, include}
+use Rattle.template_walk.specs.Expressions.{Passing, has_spread, Callee, by_name, by_method, by_block, by_value, callee_of}
+use Rattle.template_walk.specs.Statements.{number_of, Printed, prints_value, prints_block, prints_super, printed_of, imported_names, stored_as}
+use Rattle.template_code.specs.Code.{Code, get_attr, set_attr, get_item, slice, build_map, build_kwargs, merge_kwargs, build_list, build_tuple, call_function, call_method, call_object, apply_filter, perform_test, operate, compare_and_preserve, jump, jump_if_false, jump_if_false_or_pop, jump_if_true_or_pop, emit, load_const, unpack_list, unpack_lists, swap, dup_top, discard_top, push_with, pop_frame, push_loop, pop_loop_frame, push_auto_escape, pop_auto_escape, begin_capture, end_capture, call_block, load_blocks, include, export_locals}
 use Rattle.template_compiler_codegen.specs.Core.{Core, no_ways, flat}
-use Rattle.template_compiler_codegen.specs.Expressions.{Coded, unary_code, then_code, one, dropped, loaded, skipped, either_code, binary_code, entry_count, listed_core, mapped_core, at_most_one, stretches_core, entries_stretches_core, list_count, rest_count, merged_core, map_count, keywords_core, keyword_count, run_core, passed_core, passed_count, called_core, no_number, expression_core, object_core, positional_cores, keyword_cores, expression_code, optional_code, expressions_code, codes_of, entries_code, chain_code, linked_code, filter_code, filters_code, passed_code, argument_count}
-use Rattle.template_compiler_codegen.specs.Statements.{Ways, own_ways, closing_with, target_code, targets_code, assignments_code, loop_flags, no_flags, one_item, rounds_code, iterable_code, keep_code, kept_code, loop_end_code, branches_code, left_by, statement_code, statements_code}
-use Rattle.template_code_bounds.proofs.Sizes.{expression_size, optional_size, expressions_size, arguments_size, chain_size, links_size, target_size, targets_size, iterable_size, assignments_size, statement_size, statements_size}
+use Rattle.template_compiler_codegen.specs.Expressions.{Coded, unary_code, then_code, one, dropped, loaded, skipped, either_code, binary_code, entry_count, listed_core, mapped_core, at_most_one, stretches_core, entries_stretches_core, list_count, rest_count, merged_core, map_count, keywords_core, keyword_count, run_core, passed_core, passed_count, block_core, called_core, no_number, expression_core, object_core, positional_cores, keyword_cores, expression_code, optional_code, expressions_code, codes_of, entries_code, chain_code, linked_code, filter_code, filters_code, passed_code, argument_count}
+use Rattle.template_compiler_codegen.specs.Statements.{Ways, own_ways, closing_with, target_code, targets_code, assignments_code, loop_flags, no_flags, one_item, rounds_code, iterable_code, keep_code, kept_code, loop_end_code, branches_code, left_by, printed_core, imports_core, apart_core, statement_code, statements_code}
+use Rattle.template_code_bounds.proofs.Sizes.{expression_size, optional_size, expressions_size, arguments_size, chain_size, links_size, target_size, targets_size, stored_size, iterable_size, assignments_size, statement_size, statements_size}
 
 abbrev AtMost : Coded → ℕ → Type 0
 AtMost f n = (place : ℕ) → length (f place) ≤ n
@@ -121,16 +121,24 @@ passed_most front args first later =
     then_most (stretches_code front args) (then_code keywords run) (positional_size args) (k + 2) (4 + arguments_size args) first
     (then_most keywords run k 2 (k + 2) (keywords_most args later) (run_most (has_spread pieces) (list_count front pieces) count) (omega arith)) (omega (arith, parted_size args))
 
+-- a block's text
+block_most : (name : List ℕ) → AtMost (flat no_ways (block_core name)) 3
+block_most name =
+    let ends = then_code (one (call_block name)) (one end_capture) in
+    then_most (one (begin_capture true)) ends 1 2 3 (one_most (begin_capture true))
+    (then_most (one (call_block name)) (one end_capture) 1 1 2 (one_most (call_block name)) (one_most end_capture) (omega arith)) (omega arith)
+
 called_most : (callee : Callee) (whole object : Core) (cs : List (Passing Core Core)) (ns : List (Passing (List ℕ × Core) Core)) (m n k : ℕ) →
-    AtMost (flat no_ways whole) m → AtMost (flat no_ways object) m → ((front : ℕ) → AtMost (flat no_ways (passed_core front cs ns)) n) → suc (m + n) ≤ k →
+    AtMost (flat no_ways whole) m → AtMost (flat no_ways object) m → ((front : ℕ) → AtMost (flat no_ways (passed_core front cs ns)) n) → suc (m + n) ≤ k → 3 ≤ k →
     AtMost (flat no_ways (called_core callee whole object cs ns)) k
-called_most (by_name name) whole object cs ns m n k f g h most =
+called_most (by_name name) whole object cs ns m n k f g h most few =
     let c = call_function name (passed_count 0 cs ns) in
     then_most (flat no_ways (passed_core 0 cs ns)) (one c) n 1 k (h 0) (one_most c) (omega arith)
-called_most (by_method name) whole object cs ns m n k f g h most =
+called_most (by_method name) whole object cs ns m n k f g h most few =
     let c = call_method name (passed_count 1 cs ns) in let passed = flat no_ways (passed_core 1 cs ns) in
     then_most (flat no_ways object) (then_code passed (one c)) m (suc n) k g (and_one_most c passed n (h 1)) (omega arith)
-called_most by_value whole object cs ns m n k f g h most =
+called_most (by_block name) whole object cs ns m n k f g h most few = λ place. omega (arith, block_most name place, few)
+called_most by_value whole object cs ns m n k f g h most few =
     let c = call_object (passed_count 1 cs ns) in let passed = flat no_ways (passed_core 1 cs ns) in
     then_most (flat no_ways whole) (then_code passed (one c)) m (suc n) k f (and_one_most c passed n (h 1)) (omega arith)
 
@@ -168,9 +176,9 @@ mutual
       (then_most (optional_code none stop) last (optional_size stop) c b (optional_most none stop)
       (and_one_most slice (optional_code none by) (optional_size by) (optional_most none by)) (omega arith)) (omega arith)) (omega arith)
   expression_most (call callee args) =
-      called_most (callee_of callee) (expression_core callee) (object_core callee) (positional_cores args) (keyword_cores args)
+      called_most (callee_of callee args) (expression_core callee) (object_core callee) (positional_cores args) (keyword_cores args)
       (expression_size callee) (4 + arguments_size args) (expression_size (call callee args))
-      (expression_most callee) (object_most callee) (λ front. passed_most front args (stretches_most args front) (named_most args 0)) (omega arith)
+      (expression_most callee) (object_most callee) (λ front. passed_most front args (stretches_most args front) (named_most args 0)) (omega arith) (omega arith)
   expression_most (filtered name absent args) = λ place. omega arith
   expression_most (filtered name (given e) args) =
       then_most (expression_code e) (filter_code name args) (expression_size e) (5 + arguments_size args) (expression_size (filtered name (given e) args)) (expression_most e)
@@ -333,9 +341,28 @@ branches_most (statements_more s ss) f g m n first second = either_most f g m n 
 left_most : (closings : List Code) (to : ℕ) → AtMost (left_by closings to) (suc (length closings))
 left_most closings to place = omega (arith, length-append closings (jump to ∷ []))
 
+-- what a print writes
+printed_most : (printed : Printed) (e : Expression) (ways : Ways) → AtMost (flat ways (printed_core printed (expression_core e))) (suc (expression_size e))
+printed_most prints_value e ways = and_one_most emit (expression_code e) (expression_size e) (expression_most e)
+printed_most (prints_block name) e ways = λ place. omega arith
+printed_most prints_super e ways = λ place. omega arith
+
+-- a template that runs in a frame of its own
+apart_most : (e : Expression) (ways : Ways) → AtMost (flat ways (apart_core e)) (2 + expression_size e)
+apart_most e ways =
+    then_most (one push_with) (then_code (expression_code e) (one (include false))) 1 (suc (expression_size e)) (2 + expression_size e) (one_most push_with)
+    (and_one_most (include false) (expression_code e) (expression_size e) (expression_most e)) (omega arith)
+
+imports_most : (names : Imports) → AtMost (flat no_ways (imports_core names)) (stored_size names)
+imports_most no_imports = λ place. omega arith
+imports_most (imports_more e alias more) =
+    let target = stored_as e alias in
+    then_most (flat no_ways (imports_core more)) (target_code target) (stored_size more) (target_size target) (stored_size (imports_more e alias more))
+    (imports_most more) (target_most target) (omega arith)
+
 mutual
   statement_most : (s : Statement) (ways : Ways) → AtMost (statement_code ways s) (statement_size (length ways.closings) s)
-  statement_most (print e) ways = and_one_most emit (expression_code e) (expression_size e) (expression_most e)
+  statement_most (print e) ways = printed_most (printed_of e) e ways
   statement_most (for_loop target e condition false body otherwise) ways =
       let n = length ways.closings in
       let inner = λ (b c : ℕ). statements_code (own_ways b c) body in
@@ -393,6 +420,31 @@ mutual
       then_most (expression_code e) (then_code (one push_auto_escape) (then_code inner (one pop_auto_escape))) (expression_size e) (1 + b) (statement_size n (auto_escape e body)) (expression_most e)
       (then_most (one push_auto_escape) (then_code inner (one pop_auto_escape)) 1 b (1 + b) (one_most push_auto_escape)
       (and_one_most pop_auto_escape inner (statements_size (suc n) body) (statements_most body (closing_with pop_auto_escape ways))) (omega arith)) (omega arith)
+  statement_most (tree.import e target) ways =
+      let closed = then_code (one pop_frame) (target_code target) in
+      let exported = then_code (one export_locals) closed in
+      let ended = then_code (one end_capture) exported in
+      let c = suc (target_size target) in let b = suc c in let d = suc b in let a = 2 + expression_size e in
+      then_most (one (begin_capture true)) (then_code (flat ways (apart_core e)) ended) 1 (a + d) (statement_size (length ways.closings) (tree.import e target)) (one_most (begin_capture true))
+      (then_most (flat ways (apart_core e)) ended a d (a + d) (apart_most e ways)
+      (then_most (one end_capture) exported 1 b d (one_most end_capture)
+      (then_most (one export_locals) closed 1 c b (one_most export_locals)
+      (then_most (one pop_frame) (target_code target) 1 (target_size target) c (one_most pop_frame) (target_most target) (omega arith)) (omega arith)) (omega arith)) (omega arith)) (omega arith)
+  statement_most (from_import e names) ways =
+      let es = imported_names names in
+      let stores = flat no_ways (imports_core names) in
+      let ended = then_code (one end_capture) (one discard_top) in
+      let stored = then_code stores ended in
+      let closed = then_code (one pop_frame) stored in
+      let s = stored_size names + 2 in let c = suc s in let m = expressions_size es + c in let a = 2 + expression_size e in
+      then_most (one (begin_capture false)) (then_code (flat ways (apart_core e)) (then_code (expressions_code es) closed)) 1 (a + m)
+      (statement_size (length ways.closings) (from_import e names)) (one_most (begin_capture false))
+      (then_most (flat ways (apart_core e)) (then_code (expressions_code es) closed) a m (a + m) (apart_most e ways)
+      (then_most (expressions_code es) closed (expressions_size es) c m (expressions_most es)
+      (then_most (one pop_frame) stored 1 s c (one_most pop_frame)
+      (then_most stores ended (stored_size names) 2 s (imports_most names)
+      (then_most (one end_capture) (one discard_top) 1 1 2 (one_most end_capture) (one_most discard_top) (omega arith)) (omega arith)) (omega arith)) (omega arith)) (omega arith)) (omega arith)
+  statement_most (extends e) ways = and_one_most load_blocks (expression_code e) (expression_size e) (expression_most e)
   statement_most (tree.include e ignore_missing) ways = and_one_most (include ignore_missing) (expression_code e) (expression_size e) (expression_most e)
   statement_most continue_loop ways = left_most ways.closings ways.continue_to
   statement_most break_loop ways = left_most ways.closings ways.break_to

@@ -1,4 +1,5 @@
 mod Sizes
+mod Blocks
 mod Weights
 mod Expressions
 mod Statements

@@ -3,9 +3,10 @@
 use Rattle.std.proofs.Common.{◌≡◌, ◌≤◌, ℕ, ◌+◌, suc, Bool, true, false, List, arith}
 use Rattle.template_tree.specs.declared.operators.CompareOpKind.{CompareOpKind}
 use Rattle.template_tree.specs.declared.operators.CompareOpKind.TheVariants as comparisons
-use Rattle.template_tree.specs.Tree.{Expression, unary, binary, chain, conditional, attribute, item, slice, call, filtered, tested, list_literal, tuple_literal, map_literal, Optional, absent, given, Expressions, no_expressions, expressions_more, Links, no_links, links_more, Arguments, no_arguments, arguments_more, Argument, positional, keyword, positional_spread, keyword_spread, Statement, print, for_loop, if_condition, with_block, set, set_block, auto_escape, filter_block, include, continue_loop, break_loop, do_call, Statements, no_statements, statements_more, Assignments, no_assignments, assignments_more}
+use Rattle.template_tree.specs.Tree.{Expression, unary, binary, chain, conditional, attribute, item, slice, call, filtered, tested, list_literal, tuple_literal, map_literal, Optional, absent, given, Expressions, no_expressions, expressions_more, Links, no_links, links_more, Arguments, no_arguments, arguments_more, Argument, positional, keyword, positional_spread, keyword_spread, Statement, print, for_loop, if_condition, with_block, set, set_block, auto_escape, filter_block, block, import, from_import, extends, include, continue_loop, break_loop, do_call, Statements, no_statements, statements_more, Assignments, no_assignments, assignments_more, Imports, no_imports, imports_more}
+use Rattle.template_walk.specs.Statements.{imported_names, stored_as}
 use Rattle.template_compiler_grammar.specs.Trees.{and_expression, and_link, and_argument, Written, and_written, followed_by, compared_once, compared, tested_as}
-use Rattle.template_compiler_grammar.specs.TemplateTrees.{and_statement, and_assignment, unpacked, together, Branches, no_branches, branches_more, and_branch, branched}
+use Rattle.template_compiler_grammar.specs.TemplateTrees.{and_statement, and_assignment, and_import, unpacked, together, Branches, no_branches, branches_more, and_branch, branched}
 
 abbrev mutual
   pub expression_size : Expression → ℕ
@@ -69,13 +70,21 @@ abbrev pub assignments_size : Assignments → ℕ
 assignments_size no_assignments = 0
 assignments_size (assignments_more target e more) = expression_size e + target_size target + assignments_size more
 
+-- names that are imported: each is looked up, and is stored
+abbrev pub stored_size : Imports → ℕ
+stored_size no_imports = 0
+stored_size (imports_more e alias more) = target_size (stored_as e alias) + stored_size more
+
+abbrev pub imports_size : Imports → ℕ
+imports_size names = expressions_size (imported_names names) + stored_size names
+
 -- what a loop goes over; with a condition, the rounds that find it
 abbrev pub iterable_size : Expression → Expression → Optional → ℕ
 iterable_size target e absent = expression_size e
 iterable_size target e (given condition) = 13 + (expression_size e + target_size target + expression_size condition)
 
 abbrev mutual
-  -- where `break` and `continue` close so many things on their way
+  -- where `break` and `continue` close so many things on their way; a block's body is counted where the block stands
   pub statement_size : ℕ → Statement → ℕ
   statement_size n (print e) = suc (expression_size e)
   statement_size n (for_loop target e filter recursive body otherwise) =
@@ -86,6 +95,10 @@ abbrev mutual
   statement_size n (set_block target filters body) = 2 + (optional_size filters + target_size target + statements_size (suc (suc n)) body)
   statement_size n (auto_escape e body) = 2 + (expression_size e + statements_size (suc n) body)
   statement_size n (filter_block filters body) = 3 + (expression_size filters + statements_size (suc (suc n)) body)
+  statement_size n (block name required body) = suc (statements_size 0 body)
+  statement_size n (import e target) = 6 + (expression_size e + target_size target)
+  statement_size n (from_import e names) = 6 + (expression_size e + imports_size names)
+  statement_size n (extends e) = suc (expression_size e)
   statement_size n (include e ignore_missing) = suc (expression_size e)
   statement_size n (do_call callee args) = suc (expression_size (call callee args))
   statement_size n continue_loop = suc n
@@ -131,6 +144,11 @@ pub and_assignment_size : (gs : Assignments) (t e : Expression) →
     assignments_size (and_assignment gs t e) ≡ assignments_size gs + (expression_size e + target_size t)
 and_assignment_size no_assignments t e = omega arith
 and_assignment_size (assignments_more u f rest) t e = omega (arith, and_assignment_size rest t e)
+
+pub and_import_size : (is : Imports) (n : Expression) (a : Optional) →
+    imports_size (and_import is n a) ≡ imports_size is + (expression_size n + target_size (stored_as n a))
+and_import_size no_imports n a = omega arith
+and_import_size (imports_more m b rest) n a = omega (arith, and_import_size rest n a)
 
 pub and_statement_size : (n : ℕ) (ss : Statements) (s : Statement) → statements_size n (and_statement ss s) ≡ statements_size n ss + statement_size n s
 and_statement_size n no_statements s = omega arith

@@ -2,14 +2,14 @@
 -- capture.
 use Rattle.std.proofs.Common.{◌≡◌, ◌≤◌, ℕ, ◌+◌, ◌*◌, suc, Bool, List, refl, ap, arith}
 use Rattle.std.specs.Prelude.{codes}
-use Rattle.template_tree.specs.Tree.{Expression, Optional, Expressions, Statement, Statements, Assignments}
+use Rattle.template_tree.specs.Tree.{Expression, Optional, absent, given, Expressions, Statement, Statements, Assignments, Imports}
 use Rattle.template_compiler_tokens.specs.Token.{Token, identifier}
 use Rattle.template_compiler_grammar.specs.TemplateTrees.{Branches, Parameters}
 use Rattle.template_compiler_grammar.specs.Grammar.{IsFilterChain, chain_end, chain_more}
-use Rattle.template_compiler_grammar.specs.TemplateGrammar.{Around, IsStored, stored, IsMore, more_end, more_next, IsTarget, name_target, path_target, paren_target, IsTargets, targets, IsMoreTargets, targets_end, targets_next, IsPath, path_end, path_more, IsValue, value, IsValues, values, IsAssignment, assignment, IsAssignments, none_assigned, some_assigned, IsLoopFilter, no_loop_filter, a_loop_filter, IsParameter, plain_parameter, default_parameter, IsParameters, none_declared, some_declared, IsOptionalParameters, not_declared, declared, IsStatements, statements_end, statements_next, IsStatement, text_statement, print_statement, for_statement, if_statement, with_statement, set_statement, set_block_statement, autoescape_statement, filter_statement, block_statement, import_statement, from_statement, extends_statement, include_statement, macro_statement, call_statement, do_statement, break_statement, continue_statement, IsBranches, branches_end, branches_next, IsElse, no_else, an_else, IsTemplate, whole_template}
-use Rattle.template_code_bounds.proofs.Sizes.{expression_size, optional_size, expressions_size, target_size, targets_size, iterable_size, assignments_size, statement_size, statements_size, branches_size, and_expression_size, and_target_size, and_assignment_size, and_statement_size, and_branch_size, unpacked_size, together_size, branched_size}
+use Rattle.template_compiler_grammar.specs.TemplateGrammar.{Around, IsStored, stored, IsMore, more_end, more_next, IsTarget, name_target, path_target, paren_target, IsTargets, targets, IsMoreTargets, targets_end, targets_next, IsPath, path_end, path_more, IsValue, value, IsValues, values, IsAssignment, assignment, IsAssignments, none_assigned, some_assigned, IsLoopFilter, no_loop_filter, a_loop_filter, IsImport, same_name, other_name, IsParameter, plain_parameter, default_parameter, IsParameters, none_declared, some_declared, IsOptionalParameters, not_declared, declared, IsStatements, statements_end, statements_next, IsStatement, text_statement, print_statement, for_statement, if_statement, with_statement, set_statement, set_block_statement, autoescape_statement, filter_statement, block_statement, import_statement, from_statement, extends_statement, include_statement, macro_statement, call_statement, do_statement, break_statement, continue_statement, IsBranches, branches_end, branches_next, IsElse, no_else, an_else, IsTemplate, whole_template}
+use Rattle.template_code_bounds.proofs.Sizes.{expression_size, optional_size, expressions_size, target_size, targets_size, iterable_size, assignments_size, imports_size, statement_size, statements_size, branches_size, and_expression_size, and_target_size, and_assignment_size, and_import_size, and_statement_size, and_branch_size, unpacked_size, together_size, branched_size}
 use Rattle.template_code_bounds.proofs.Expressions.{expression_bound, binary_bound, filter_bound}
-use Rattle.template_code_bounds.proofs.Weights.{letters, weight, stored_weighs, word_weighs, context_weighs, missing_weighs, import_weighs, block_end_weighs, more_weigh}
+use Rattle.template_code_bounds.proofs.Weights.{letters, weight, stored_weighs, word_weighs, context_weighs, missing_weighs, block_end_weighs, more_weigh}
 
 -- twice the code of a target, which a loop with a condition stores in two places
 stored_bound : {e : Expression} {ts us : List Token} → IsStored ts e us → 2 * target_size e + 51 * weight us ≤ 51 * weight ts
@@ -68,6 +68,14 @@ assignments_bound : {d : ℕ} {gs : Assignments} {ts us : List Token} → IsAssi
 assignments_bound none_assigned = omega arith
 assignments_bound (some_assigned a m) =
     let k = assignment_bound a in let l = more_bound assignments_size (λ x y vs ws i. assignment_bound i) m in omega arith
+
+import_bound : {is js : Imports} {ts us : List Token} → IsImport is ts js us →
+    imports_size js + 51 * weight us ≤ imports_size is + 51 * weight ts
+import_bound (same_name {n = n} {is = is} s e) =
+    let k = stored_bound s in omega (arith, stored_same s, and_import_size is n absent, ap imports_size e)
+import_bound (other_name {n = n} {a = a} {is = is} s t e) =
+    let k = stored_bound s in let l = stored_bound t in
+    omega (arith, stored_same s, and_import_size is n (given a), ap imports_size e)
 
 -- what a loop goes over, behind the expression
 iterable_bound : (target e : Expression) {d : ℕ} {f : Optional} {ts us : List Token} → IsLoopFilter d ts f us →
@@ -130,9 +138,9 @@ mutual
   statement_bound n (block_statement q w b f e) depth =
       let j = word_weighs w in let k = statements_bound 0 b (omega arith) in let l = block_end_weighs e in omega arith
   statement_bound n (import_statement e a c) depth =
-      let j = expression_bound e in let k = stored_weighs a in let l = context_weighs c in omega arith
+      let j = expression_bound e in let k = stored_bound a in let l = context_weighs c in omega arith
   statement_bound n (from_statement e i m c) depth =
-      let j = expression_bound e in let k = import_weighs i in let l = more_weigh (λ x y vs ws i. import_weighs i) m in
+      let j = expression_bound e in let k = import_bound i in let l = more_bound imports_size (λ x y vs ws i. import_bound i) m in
       let o = context_weighs c in omega arith
   statement_bound n (extends_statement e) depth = let l = expression_bound e in omega arith
   statement_bound n (include_statement e m) depth = let k = expression_bound e in let l = missing_weighs m in omega arith

@@ -3,7 +3,7 @@
 use Rattle.std.proofs.Common.{◌≡◌, ◌<◌, ◌≤◌, ℕ, suc, ◌+◌, ◌-◌, Bool, true, false, List, [], ◌∷◌, ◌++◌, length, drop, refl, ap, arith, length-drop, length-take}
 use Rattle.std.specs.Prelude.{nat_lt, ◌^◌, if◌then◌else◌, slice_index, take_while}
 use Rattle.std.specs.List.{prefix_len}
-use Rattle.template_tree.specs.Tree.{Expression, Imports}
+use Rattle.template_tree.specs.Tree.{Expression}
 use Rattle.template_compiler_tokens.specs.Token.{Token, TokenFault, identifier, number, bad, bad_syntax, float_literal}
 use Rattle.template_compiler_tokens.specs.Numbers.{is_float, value_of, base_of, digits_at, number_at}
 use Rattle.template_compiler_tokens.specs.Texts.{IsText, closed_text, bad_text, open_text}
@@ -11,7 +11,7 @@ use Rattle.template_compiler_tokens.specs.Lexical.{is_name_part, IsSign, long, s
 use Rattle.template_compiler_segments.specs.Segments.{is_bad}
 use Rattle.template_compiler_segments.proofs.Bytes.{takes_bytes}
 use Rattle.template_compiler_grammar.specs.Grammar.{IsNameTail, name_end, name_more, IsName, name, IsTexts, texts_end, texts_more}
-use Rattle.template_compiler_grammar.specs.TemplateGrammar.{IsStored, stored, IsMore, more_end, more_next, IsWord, no_word, a_word, IsContext, no_context, with_context, IsMissing, not_ignored, ignored, IsImport, same_name, other_name, IsBlockEnd, plain_end, named_end}
+use Rattle.template_compiler_grammar.specs.TemplateGrammar.{IsStored, stored, IsMore, more_end, more_next, IsWord, no_word, a_word, IsContext, no_context, with_context, IsMissing, not_ignored, ignored, IsBlockEnd, plain_end, named_end}
 
 -- how many bytes a token has but for one, as far as they count
 abbrev pub letters : Token → ℕ
@@ -98,10 +98,6 @@ context_weighs with_context = omega arith
 pub missing_weighs : {b : Bool} {ts us : List Token} → IsMissing ts b us → weight us ≤ weight ts
 missing_weighs (not_ignored c) = context_weighs c
 missing_weighs (ignored c e) = let k = context_weighs c in let l = context_weighs e in omega arith
-
-pub import_weighs : {is js : Imports} {ts us : List Token} → IsImport is ts js us → weight us ≤ weight ts
-import_weighs (same_name s e) = let k = stored_weighs s in omega arith
-import_weighs (other_name s a e) = let k = stored_weighs s in let l = stored_weighs a in omega arith
 
 pub block_end_weighs : {w : List ℕ} {ts us : List Token} → IsBlockEnd w ts us → weight us ≤ weight ts
 block_end_weighs plain_end = omega arith

@@ -1,6 +1,8 @@
 -- How much code a text has at most: 51 instructions for each of its bytes, and for one more.
 use Rattle.std.specs.Prelude.{ℕ, ◌+◌, ◌*◌, ◌^◌, ◌<◌, ◌≤◌, List, [], length}
+use Rattle.std.specs.List.{All}
 use Rattle.template_tree.specs.Tree.{Expression, Statements}
+use Rattle.template_walk.specs.Blocks.{Block, blocks_in}
 use Rattle.template_compiler_tokens.specs.Token.{Token}
 use Rattle.template_compiler_syntax.specs.Syntax.{Syntax, IsUsable}
 use Rattle.template_compiler_segments.specs.Flat.{IsTokens}
@@ -17,6 +19,11 @@ code_bound bytes = 51 * (bytes + 1)
 abbrev pub TemplatesAreBounded : Type 0
 TemplatesAreBounded = (x : Syntax) (source : List ℕ) (tokens : List Token) (tree : Statements) → IsUsable x → IsTokens x source tokens →
     IsTemplate tokens tree → length (template_code tree) ≤ code_bound (length source)
+
+-- So is the code of each of its blocks.
+abbrev pub BlocksAreBounded : Type 0
+BlocksAreBounded = (x : Syntax) (source : List ℕ) (tokens : List Token) (tree : Statements) → IsUsable x → IsTokens x source tokens →
+    IsTemplate tokens tree → All (λ (b : Block). length (template_code b.body) ≤ code_bound (length source)) (blocks_in tree)
 
 -- So is the code of an expression alone.
 abbrev pub ExpressionsAreBounded : Type 0

@@ -2,8 +2,8 @@
 use Rattle.std.proofs.Common.{◌≡◌, ℕ, ◌+◌, ◌*◌, ◌≤◌, suc, List, [], ◌∷◌, ◌++◌, length, Option, None, Some, append-nil, refl, sym, ap, subst, ◌∙◌, arith}
 use Rattle.template_values_model.specs.Val.{Val}
 use Rattle.template_process.specs.Process as events
-use Rattle.template_process.specs.Process.{Counts, Ask, truth_of, Process, step, asks, on_value, on_truth, Below}
-use Rattle.template_process.proofs.Below.{below-step, below-asks_value, below-asks_truth, below-trans}
+use Rattle.template_process.specs.Process.{Counts, Ask, truth_of, Process, step, asks, on_done, on_value, on_truth, Below}
+use Rattle.template_process.proofs.Below.{below-step, below-asks_done, below-asks_value, below-asks_truth, below-trans}
 use Rattle.template_walk.specs.Expressions.{folded}
 use Rattle.template_code.specs.Code.{Operand, single, Code, load_const, build_map, build_kwargs, build_list, build_tuple, merge_kwargs, jump, jump_if_false, jump_if_false_or_pop, jump_if_true_or_pop}
 use Rattle.template_code.specs.Counting.{counts_before}
@@ -36,6 +36,20 @@ asks_at code place c piece h k operands rest e go is below =
     let P : Process → Type 0 = λ q. Below (step (asks e (on_value go))) q in
     below_at code place c (instruction_at code place c piece h) k operands (step (asks e (on_value go)))
     (subst P (sym is) (below-step _ _ (below-asks_value e go (λ w. exec code k (suc place) (single w ∷ rest)) below)))
+
+-- one instruction that asks for something to be done
+pub done_at : (code : List Code) (place : ℕ) (c : Code) (piece : List Code) → StandsAt code place (c ∷ piece) → (k : ℕ) (operands rest : List Operand) (e : Ask) (p : Process)
+    → act (exec code k) (counts_before code place) (Some c) place operands ≡ step (asks e (on_done (exec code k (suc place) rest))) → Below p (exec code k (suc place) rest) → Below (step (asks e (on_done p))) (exec code (suc k) place operands)
+done_at code place c piece h k operands rest e p is below =
+    let P : Process → Type 0 = λ q. Below (step (asks e (on_done p))) q in
+    below_at code place c (instruction_at code place c piece h) k operands (step (asks e (on_done p))) (subst P (sym is) (below-step _ _ (below-asks_done e p (exec code k (suc place) rest) below)))
+
+-- the same for nothing
+pub done_free : (code : List Code) (place : ℕ) (c : Code) (piece : List Code) → StandsAt code place (c ∷ piece) → (k : ℕ) (operands rest : List Operand) (e : Ask) (p : Process)
+    → act (exec code k) (counts_before code place) (Some c) place operands ≡ asks e (on_done (exec code k (suc place) rest)) → Below p (exec code k (suc place) rest) → Below (asks e (on_done p)) (exec code (suc k) place operands)
+done_free code place c piece h k operands rest e p is below =
+    let P : Process → Type 0 = λ q. Below (asks e (on_done p)) q in
+    below_at code place c (instruction_at code place c piece h) k operands (asks e (on_done p)) (subst P (sym is) (below-asks_done e p (exec code k (suc place) rest) below))
 
 -- a constant is loaded
 loads_at : (code : List Code) (place : ℕ) (v : Val) (piece : List Code) → StandsAt code place (load_const v ∷ piece) → (k : ℕ) (operands : List Operand) (p : Process)

@@ -4,7 +4,7 @@ use Rattle.template_values_model.specs.Val.{Val}
 use Rattle.template_tree.specs.declared.operators.BinOpKind.TheVariants.{Add}
 use Rattle.template_tree.specs.Tree.{Expression, Optional, absent, given}
 use Rattle.template_process.specs.Process as events
-use Rattle.template_process.specs.Process.{truth_of, spread, open_loop, next_item, close_loop, Process, step, asks, cut_short, on_done, on_value, on_item, on_all, truth_asked, Below}
+use Rattle.template_process.specs.Process.{truth_of, spread, open_loop, next_item, close_loop, Process, step, asks, on_done, on_value, on_item, on_all, truth_asked, Below}
 use Rattle.template_process.proofs.Below.{below-cut_short, below-step, below-asks_item, below-asks_all}
 use Rattle.template_walk.specs.Expressions.{expression_walk}
 use Rattle.template_walk.specs.Statements.{target_walk, nameless_loop, kept_rounds, sifting, iterable_walk}
@@ -13,9 +13,9 @@ use Rattle.template_code.specs.Steps.{exec}
 use Rattle.template_compiler_codegen.specs.Expressions.{Coded, then_code, one, either_code, expression_code}
 use Rattle.template_compiler_codegen.specs.Statements.{target_code, no_flags, one_item, keep_code, kept_code, iterable_code}
 use Rattle.template_compiler_codegen.proofs.Standing.{StandsAt, behind_one, instruction_at, below_at, behind_then, stands_first, stands_second, first_part, last_part, stands_either, behind_either}
-use Rattle.template_compiler_codegen.proofs.Expressions.{Performs, behind_single, asks_at, moved, longer, tests_at, jumps_at}
+use Rattle.template_compiler_codegen.proofs.Expressions.{Performs, behind_single, asks_at, done_free, moved, longer, tests_at, jumps_at}
 use Rattle.template_compiler_codegen.proofs.Performing.{performs}
-use Rattle.template_compiler_codegen.proofs.Storing.{done_free, stores}
+use Rattle.template_compiler_codegen.proofs.Storing.{stores}
 
 -- the value on top goes into the counted run below it
 keeps_at : (code : List Code) (place : ℕ) → StandsAt code place (keep_code place) → (k : ℕ) (v : Val) (kept : List Val) (operands : List Operand) (p : Process)

@@ -6,5 +6,6 @@ pub mod Lengths
 pub mod Storing
 pub mod Filtering
 pub mod Gathering
+pub mod Importing
 pub mod Statements
 pub mod Whole

@@ -1,6 +1,6 @@
 -- The code of each expression performs its walk.
-use Rattle.std.proofs.Common.{◌≡◌, ℕ, ◌+◌, suc, List, [], ◌∷◌, ◌++◌, length, length-append, Some, refl, sym, ap, subst, ◌∙◌, arith}
-use Rattle.template_values_model.specs.Val.{Val, silent_undefined, none, text}
+use Rattle.std.proofs.Common.{◌≡◌, ℕ, ◌+◌, suc, true, List, [], ◌∷◌, length, Some, refl, sym, ap, subst, ◌∙◌, arith}
+use Rattle.template_values_model.specs.Val.{Val, silent_undefined, none}
 use Rattle.template_tree.specs.declared.operators.UnaryOpKind.{UnaryOpKind}
 use Rattle.template_tree.specs.declared.operators.UnaryOpKind.TheVariants.{Not, Neg}
 use Rattle.template_tree.specs.declared.operators.BinOpKind.{BinOpKind}
@@ -9,18 +9,18 @@ use Rattle.template_tree.specs.declared.operators.CompareOpKind.{CompareOpKind}
 use Rattle.template_tree.specs.Tree.{Expression, Optional, Expressions, Links, Arguments, variable, constant, unary, binary, chain, conditional, attribute, item, call, filtered, tested, list_literal, tuple_literal, map_literal, absent, given, no_expressions, expressions_more, no_links, links_more, no_arguments, arguments_more, positional, keyword, positional_spread, keyword_spread}
 use Rattle.template_tree.specs.Tree as tree
 use Rattle.template_process.specs.Process as events
-use Rattle.template_process.specs.Process.{Counts, Ask, truth_of, Process, step, asks, cut_short, on_value, on_truth, Below}
+use Rattle.template_process.specs.Process.{Counts, Ask, truth_of, Process, step, asks, cut_short, on_done, on_value, on_truth, Below}
 use Rattle.template_process.proofs.Below.{below-cut_short, below-step}
 use Rattle.template_walk.specs.Constants.{constant_of}
 use Rattle.template_walk.specs.Statements.{number_of}
-use Rattle.template_walk.specs.Expressions.{unary_ask, binary_walk, Giving, Passing, has_spread, passed_walk, Callee, by_name, by_method, by_value, callee_of, called_walk, expression_walk, object_walk, positional_walks, keyword_walks, optional_walk, expressions_walk, walks_of, entries_walk, chain_walk, linked_walk}
-use Rattle.template_code.specs.Code.{Operand, single, Code, lookup, get_attr, get_item, slice, build_map, build_kwargs, build_list, build_tuple, load_const, call_function, call_method, call_object, apply_filter, perform_test, operate, negate, invert, compare_and_preserve, swap, discard_top, jump_if_false_or_pop}
+use Rattle.template_walk.specs.Expressions.{unary_ask, binary_walk, Giving, Passing, has_spread, passed_walk, Callee, by_name, by_method, by_block, by_value, callee_of, block_walk, called_walk, expression_walk, object_walk, positional_walks, keyword_walks, optional_walk, expressions_walk, walks_of, entries_walk, chain_walk, linked_walk}
+use Rattle.template_code.specs.Code.{Operand, single, Code, lookup, get_attr, get_item, slice, build_map, build_list, build_tuple, call_function, call_method, call_object, call_block, apply_filter, perform_test, begin_capture, end_capture, operate, negate, invert, compare_and_preserve, swap, discard_top, jump_if_false_or_pop}
 use Rattle.template_code.specs.Counting.{counts_before}
 use Rattle.template_code.specs.Steps.{handed, on_taken, act, exec}
 use Rattle.template_compiler_codegen.specs.Core.{Core, no_ways, flat}
 use Rattle.template_compiler_codegen.specs.Expressions.{Coded, then_code, one, nothing, dropped, skipped, either_code, unary_code, binary_code, called_core, no_number, passed_count, passed_core, expression_core, object_core, positional_cores, keyword_cores, expression_code, optional_code, expressions_code, codes_of, entry_count, entries_code, chain_code, linked_code}
 use Rattle.template_compiler_codegen.proofs.Standing.{StandsAt, behind_one, instruction_at, below_at, behind_then, stands_first, stands_second}
-use Rattle.template_compiler_codegen.proofs.Expressions.{Performs, Over, GivesAll, gives_to, behind_single, asks_at, performs_load, performs_loaded, gives_then, moved, longer, over_one, over_two, tests_at, behind_skipped, over_and, over_or, over_either, pushed, performs_built, built_list, built_tuple, builds_at, laid, built_map}
+use Rattle.template_compiler_codegen.proofs.Expressions.{Performs, Over, GivesAll, gives_to, behind_single, asks_at, done_at, done_free, performs_load, performs_loaded, gives_then, moved, longer, over_one, over_two, tests_at, behind_skipped, over_and, over_or, over_either, pushed, performs_built, built_list, built_tuple, builds_at, laid, built_map}
 use Rattle.template_compiler_codegen.proofs.Passing.{EachPassed, none_passed, alone_more, spread_more, EachNamed, none_named, named_more, merged_more, Takes, gives_passed, performs_alone, over_front}
 
 looks_up : (name : List ℕ) → Performs (one (lookup name)) (λ go. step (asks (events.look_up name) (on_value go)))
@@ -158,7 +158,7 @@ performs_map piece walk count f code place h =
     ))
 
 -- several expressions
-abbrev AllPerform : Coded → ((List Val → Process) → Process) → ℕ → Type 0
+abbrev pub AllPerform : Coded → ((List Val → Process) → Process) → ℕ → Type 0
 AllPerform piece walk count = (code : List Code) (place : ℕ) → StandsAt code place (piece place) → GivesAll code walk count place (place + length (piece place))
 
 none_at_all : AllPerform nothing (λ go. go []) 0
@@ -184,6 +184,25 @@ pub takes : (n : ℕ) (args : List (Passing Core Core)) (walks : List (Passing G
     → Takes (λ front. passed_walk front walks named_walks) (flat no_ways (passed_core n args named)) n (passed_count n args named)
 takes n args walks each same named named_walks others alike = gives_passed n args walks each same named named_walks others alike
 
+-- a block's text
+abbrev block_code : List ℕ → Coded
+block_code name = then_code (one (begin_capture true)) (then_code (one (call_block name)) (one end_capture))
+
+performs_block : (name : List ℕ) → Performs (block_code name) (block_walk name)
+performs_block name code place h =
+    let second = behind_one code place (begin_capture true) (call_block name ∷ end_capture ∷ []) h in
+    let third = behind_one code (suc place) (call_block name) (end_capture ∷ []) second in
+    let whole : suc (suc (suc place)) ≡ place + length (block_code name place) = omega arith in
+    gives_to code (block_walk name) place (suc (suc (suc place))) (place + length (block_code name place)) whole
+    (λ k. (
+      suc (suc (suc k)),
+      λ operands go below.
+          let ended : Process = step (asks events.end_capture (on_value go)) in
+          done_free code place (begin_capture true) (call_block name ∷ end_capture ∷ []) h (suc (suc k)) operands operands (events.begin_capture true) (step (asks (events.call_block name) (on_done ended))) refl
+          (done_at code (suc place) (call_block name) (end_capture ∷ []) second (suc k) operands operands (events.call_block name) ended refl
+          (asks_at code (suc (suc place)) end_capture [] third k operands operands events.end_capture go refl below)),
+    ))
+
 -- a call
 performs_called : (callee : Callee) (whole object : Core) (f g : Giving) → Performs (flat no_ways whole) f → Performs (flat no_ways object) g
     → (args : List (Passing Core Core)) (walks : List (Passing Giving Giving)) → EachPassed args walks → has_spread walks ≡ has_spread args
@@ -197,6 +216,7 @@ performs_called (by_method name) whole object f g pf pg args walks each same nam
     (λ v go. passed_walk (v ∷ []) walks named_walks (λ vs. step (asks (events.call_method name vs) (on_value go)))) pg
     (over_front (λ front. passed_walk front walks named_walks) (flat no_ways (passed_core 1 args named)) (passed_count 1 args named) (takes 1 args walks each same named named_walks others alike)
     (call_method name (passed_count 1 args named)) (events.call_method name) (λ next before place operands. refl))
+performs_called (by_block name) whole object f g pf pg args walks each same named named_walks others alike = performs_block name
 performs_called by_value whole object f g pf pg args walks each same named named_walks others alike =
     gives_then (flat no_ways whole) (then_code (flat no_ways (passed_core 1 args named)) (one (call_object (passed_count 1 args named)))) f
     (λ v go. passed_walk (v ∷ []) walks named_walks (λ vs. step (asks (events.call_value vs) (on_value go)))) pf
@@ -331,7 +351,7 @@ mutual
       performs_loaded (constant_of (map_literal ks vs)) (then_code (entries_code ks (codes_of vs)) (one (build_map (entry_count ks (codes_of vs))))) (λ go. entries_walk ks (walks_of vs) (λ entries. step (asks (events.build_map entries) (on_value go))))
       (performs_map (entries_code ks (codes_of vs)) (entries_walk ks (walks_of vs)) (entry_count ks (codes_of vs)) (performs_entries ks (codes_of vs) (walks_of vs) (performs_each vs)))
   performs (call callee args) =
-      performs_called (callee_of callee) (expression_core callee) (object_core callee) (expression_walk callee) (object_walk callee) (performs callee) (performs_object callee)
+      performs_called (callee_of callee args) (expression_core callee) (object_core callee) (expression_walk callee) (object_walk callee) (performs callee) (performs_object callee)
       (positional_cores args) (positional_walks args) (performs_positional args) (spreads_alike args) (keyword_cores args) (keyword_walks args) (performs_keyword args) (merges_alike args)
   performs (filtered name (given e) args) =
       performs_applied (expression_core e) (expression_walk e) (performs e)
@@ -363,7 +383,7 @@ mutual
   performs_optional absent missing = performs_load missing
   performs_optional (given e) missing = performs e
 
-  performs_all : (es : Expressions) → AllPerform (expressions_code es) (expressions_walk es) (number_of es)
+  pub performs_all : (es : Expressions) → AllPerform (expressions_code es) (expressions_walk es) (number_of es)
   performs_all no_expressions = none_at_all
   performs_all (expressions_more e es) = one_more (expression_code e) (expressions_code es) (expression_walk e) (expressions_walk es) (number_of es) (performs e) (performs_all es)
 

@@ -1,25 +1,27 @@
 -- The code of each statement performs its walk: from any place, over any operands, with any ways out.
 use Rattle.std.proofs.Common.{◌≡◌, ℕ, ◌+◌, ◌≤◌, zero, suc, true, false, List, [], ◌∷◌, ◌++◌, length, Some, refl, sym, ap, subst, ◌∙◌, length-append, arith}
 use Rattle.template_values_model.specs.Val.{Val}
-use Rattle.template_tree.specs.Tree.{Expression, Expressions, Statement, Statements, Assignments, absent, given, raw, print, for_loop, if_condition, with_block, set, set_block, auto_escape, filter_block, call, continue_loop, break_loop, do_call, no_statements, statements_more, no_assignments, assignments_more}
+use Rattle.template_tree.specs.Tree.{Expression, Statement, Statements, Assignments, absent, given, raw, print, for_loop, if_condition, with_block, set, set_block, auto_escape, filter_block, block, from_import, extends, call, Imports, continue_loop, break_loop, do_call, no_statements, statements_more, no_assignments, assignments_more}
 use Rattle.template_tree.specs.Tree as tree
 use Rattle.template_process.specs.Process as events
-use Rattle.template_process.specs.Process.{Counts, Ask, truth_of, write_raw, write_value, open_frame, close_frame, plain_loop, open_loop, next_item, did_not_iterate, close_loop, open_escape, close_escape, Process, over, step, asks, cut_short, on_done, on_value, on_truth, on_item, value_asked, Below}
+use Rattle.template_process.specs.Process.{Counts, Ask, truth_of, write_raw, write_value, open_frame, close_frame, plain_loop, open_loop, next_item, did_not_iterate, close_loop, open_escape, close_escape, super_block, Process, step, asks, on_done, on_value, on_truth, on_item, value_asked, Below}
 use Rattle.template_process.proofs.Below.{below-cut_short, below-step, below-asks_value, below-asks_item}
-use Rattle.template_walk.specs.Expressions.{expression_walk, filters_walk}
-use Rattle.template_walk.specs.Statements.{Exits, closing, capture_left, capturing, target_walk, assignments_walk, rounds, iterable_walk, loop_end, past, statement_walk, statements_walk}
-use Rattle.template_code.specs.Code.{Operand, single, Code, emit_raw, emit, discard_top, jump, jump_if_false, push_with, pop_frame, push_loop, iterate, push_did_not_iterate, pop_loop_frame, push_auto_escape, pop_auto_escape, begin_capture, end_capture, include}
+use Rattle.template_walk.specs.Expressions.{expression_walk, expressions_walk, filters_walk}
+use Rattle.template_walk.specs.Statements.{Exits, closing, capture_left, capturing, target_walk, assignments_walk, rounds, iterable_walk, loop_end, Printed, prints_value, prints_block, prints_super, printed_of, printed_walk, imported_names, imports_stored, apart, past, statement_walk, statements_walk}
+use Rattle.template_code.specs.Code.{Operand, single, Code, emit_raw, emit, discard_top, jump, jump_if_false, push_with, pop_frame, push_loop, iterate, push_did_not_iterate, pop_loop_frame, push_auto_escape, pop_auto_escape, begin_capture, end_capture, fast_super, call_block, load_blocks, include, export_locals}
 use Rattle.template_code.specs.Counting.{counts_before}
 use Rattle.template_code.specs.Steps.{act, exec}
-use Rattle.template_compiler_codegen.specs.Expressions.{Coded, then_code, one, nothing, skipped, either_code, expression_code, filters_code}
-use Rattle.template_compiler_codegen.specs.Statements.{Ways, closing_with, target_code, assignments_code, loop_flags, iterable_code, rounds_code, loop_end_code, branches_code, left_by, statement_code, statements_code}
+use Rattle.template_compiler_codegen.specs.Core.{flat}
+use Rattle.template_compiler_codegen.specs.Expressions.{Coded, then_code, one, nothing, skipped, either_code, expression_core, expression_code, expressions_code, filters_code}
+use Rattle.template_compiler_codegen.specs.Statements.{Ways, closing_with, target_code, assignments_code, loop_flags, iterable_code, rounds_code, loop_end_code, branches_code, left_by, printed_core, apart_core, statement_code, statements_code}
 use Rattle.template_compiler_codegen.proofs.Standing.{StandsAt, behind_one, instruction_at, below_at, behind_then, stands_first, stands_second, first_part, last_part, stands_either, behind_either}
-use Rattle.template_compiler_codegen.proofs.Expressions.{Performs, behind_single, asks_at, moved, longer, tests_at, jumps_at, behind_skipped}
-use Rattle.template_compiler_codegen.proofs.Performing.{performs}
+use Rattle.template_compiler_codegen.proofs.Expressions.{Performs, gives_to, behind_single, asks_at, done_at, done_free, moved, longer, tests_at, jumps_at, behind_skipped, pushed}
+use Rattle.template_compiler_codegen.proofs.Performing.{performs, performs_all}
 use Rattle.template_compiler_codegen.proofs.Lengths.{long_statements}
-use Rattle.template_compiler_codegen.proofs.Storing.{done_at, done_free, Stores, stores}
+use Rattle.template_compiler_codegen.proofs.Storing.{Stores, stores}
 use Rattle.template_compiler_codegen.proofs.Filtering.{stores_over, over_filters}
 use Rattle.template_compiler_codegen.proofs.Gathering.{performs_iterable}
+use Rattle.template_compiler_codegen.proofs.Importing.{imports_code, stores_imports}
 
 -- what leaves a loop goes as far as the closings and the jump do, wherever they stand
 abbrev pub WayOut : List Code → List Code → ℕ → ℕ → Process → List Operand → Type 0
@@ -115,6 +117,14 @@ takes_free : (ways : Ways) (c : Code) (e : Val → Ask) → ((next : ℕ → Lis
 takes_free ways c e is code place h k = (
   suc k,
   λ v operands x go below outs. done_free code place c [] h k (single v ∷ operands) operands (e v) go (is (exec code k) (counts_before code place) place v operands)
+      (moved code k (place + length (one c place)) (suc place) operands go (sym (behind_single place c)) below),
+)
+
+does_one : (ways : Ways) (c : Code) (e : Ask) → ((next : ℕ → List Operand → Process) (before : Counts) (place : ℕ) (operands : List Operand) → act next before (Some c) place operands ≡ step (asks e (on_done (next (suc place) operands))))
+    → PerformsAs ways (one c) (λ x go. step (asks e (on_done go)))
+does_one ways c e is code place h k = (
+  suc k,
+  λ operands x go below outs. done_at code place c [] h k operands operands e go (is (exec code k) (counts_before code place) place operands)
       (moved code k (place + length (one c place)) (suc place) operands go (sym (behind_single place c)) below),
 )
 
@@ -349,17 +359,81 @@ does_rounds n target ss walk f ways code place h k =
 otherwise_over : (n : ℕ) (otherwise : Statements) (x : Exits) (go : Process) → otherwise ≡ no_statements → statements_walk n otherwise x go ≡ go
 otherwise_over n otherwise x go e = ap (λ ss. statements_walk n ss x go) e
 
-writes : (ways : Ways) (text : List ℕ) → PerformsAs ways (one (emit_raw text)) (λ x go. step (asks (write_raw text) (on_done go)))
-writes ways text code place h k = (
-  suc k,
-  λ operands x go below outs. done_at code place (emit_raw text) [] h k operands operands (write_raw text) go refl
-      (moved code k (place + length (one (emit_raw text) place)) (suc place) operands go (sym (behind_single place (emit_raw text))) below),
-)
+-- what a print writes
+performs_printed : (printed : Printed) (e : Expression) (ways : Ways) → PerformsAs ways (flat ways (printed_core printed (expression_core e))) (λ x go. printed_walk printed (expression_walk e) go)
+performs_printed prints_value e ways = done_with ways e (one emit) (λ v x go. step (asks (write_value v) (on_done go))) (takes_one ways emit write_value (λ next before place v operands. refl))
+performs_printed (prints_block name) e ways = does_one ways (call_block name) (events.call_block name) (λ next before place operands. refl)
+performs_printed prints_super e ways = does_one ways fast_super super_block (λ next before place operands. refl)
+
+-- a template runs in a frame of its own
+performs_apart : (e : Expression) (ways : Ways) → PerformsAs ways (flat ways (apart_core e)) (λ x go. apart e go)
+performs_apart e ways =
+    done_then ways (one push_with) (then_code (expression_code e) (one (include false))) (λ x go. asks open_frame (on_done go))
+    (λ x go. expression_walk e (λ v. step (asks (events.include false v) (on_done go)))) (does_free ways push_with open_frame (λ next before place operands. refl))
+    (done_with ways e (one (include false)) (λ v x go. step (asks (events.include false v) (on_done go))) (takes_one ways (include false) (events.include false) (λ next before place v operands. refl)))
+
+-- what was captured
+gives_captured : Performs (one end_capture) (λ go. step (asks events.end_capture (on_value go)))
+gives_captured code place h =
+    gives_to code (λ go. step (asks events.end_capture (on_value go))) place (suc place) (place + length (one end_capture place)) (behind_single place end_capture)
+    (λ k. (suc k, λ operands go below. asks_at code place end_capture [] h k operands operands events.end_capture go refl below))
+
+-- a module is made of the value on top, its frame is closed, and the module is stored
+takes_module : (ways : Ways) (target : Expression) → TakesAs ways (then_code (one export_locals) (then_code (one pop_frame) (target_code target)))
+    (λ text x go. asks (events.export_locals text) (on_value (λ m. asks close_frame (on_done (target_walk target m go)))))
+takes_module ways target code place h k =
+    let first = one export_locals in
+    let second = one pop_frame in
+    let third = target_code target in
+    let later = then_code second third in
+    let close_at = place + length (first place) in
+    let store_at = close_at + length (second close_at) in
+    let behind = stands_second code place first later h in
+    let stored = stores target code store_at (stands_second code close_at second third behind) k in (
+      suc (suc stored.0),
+      λ text operands x go below outs.
+          below_at code place export_locals (instruction_at code place export_locals [] (stands_first code place first later h)) (suc stored.0) (single text ∷ operands) (asks (events.export_locals text) (on_value (λ m. asks close_frame (on_done (target_walk target m go)))))
+          (below-asks_value (events.export_locals text) (λ m. asks close_frame (on_done (target_walk target m go))) (λ m. exec code (suc stored.0) (suc place) (single m ∷ operands)) (λ m.
+          moved code (suc stored.0) close_at (suc place) (single m ∷ operands) (asks close_frame (on_done (target_walk target m go))) (sym (behind_single place export_locals))
+          (done_free code close_at pop_frame [] (stands_first code close_at second third behind) stored.0 (single m ∷ operands) (single m ∷ operands) close_frame (target_walk target m go) refl
+          (moved code stored.0 store_at (suc close_at) (single m ∷ operands) (target_walk target m go) (sym (behind_single close_at pop_frame))
+          (stored.1 m operands go (moved code k (place + length (then_code first later place)) (store_at + length (third store_at)) operands go (behind_then first later place ∙ behind_then second third close_at) below)))))),
+    )
+
+-- names are looked up, the frame is closed, and the values are stored
+imports_named : (ways : Ways) (names : Imports) (last : Coded) (more : Walk) → PerformsAs ways last more
+    → PerformsAs ways (then_code (expressions_code (imported_names names)) (then_code (one pop_frame) (then_code (imports_code names) last)))
+    (λ x go. expressions_walk (imported_names names) (λ vs. asks close_frame (on_done (imports_stored names vs (more x go)))))
+imports_named ways names last more f code place h k =
+    let es = imported_names names in
+    let first = expressions_code es in
+    let second = one pop_frame in
+    let third = imports_code names in
+    let stored_then = then_code third last in
+    let closed_then = then_code second stored_then in
+    let close_at = place + length (first place) in
+    let store_at = close_at + length (second close_at) in
+    let last_at = store_at + length (third store_at) in
+    let behind_first = stands_second code place first closed_then h in
+    let behind_second = stands_second code close_at second stored_then behind_first in
+    let ended = f code last_at (stands_second code store_at third last behind_second) k in
+    let stored = stores_imports names code store_at (stands_first code store_at third last behind_second) ended.0 in
+    let looked = performs_all es code place (stands_first code place first closed_then h) (suc stored.0) in (
+      looked.0,
+      λ operands x go below outs.
+          looked.1 operands (λ vs. asks close_frame (on_done (imports_stored names vs (more x go))))
+          (λ vs many.
+          done_free code close_at pop_frame [] (stands_first code close_at second stored_then behind_first) stored.0 (pushed vs operands) (pushed vs operands) close_frame (imports_stored names vs (more x go)) refl
+          (moved code stored.0 store_at (suc close_at) (pushed vs operands) (imports_stored names vs (more x go)) (sym (behind_single close_at pop_frame))
+          (stored.1 vs many operands (more x go)
+          (ended.1 operands x go
+          (moved code k (place + length (then_code first closed_then place)) (last_at + length (last last_at)) operands go (behind_then first closed_then place ∙ behind_then second stored_then close_at ∙ behind_then third last store_at) below) outs)))),
+    )
 
 mutual
   performs_statement : (n : ℕ) (s : Statement) (ways : Ways) → PerformsAs ways (statement_code ways s) (statement_walk n s)
-  performs_statement n (raw text) ways = writes ways text
-  performs_statement n (print e) ways = done_with ways e (one emit) (λ v x go. step (asks (write_value v) (on_done go))) (takes_one ways emit write_value (λ next before place v operands. refl))
+  performs_statement n (raw text) ways = does_one ways (emit_raw text) (write_raw text) (λ next before place operands. refl)
+  performs_statement n (print e) ways = performs_printed (printed_of e) e ways
   performs_statement n (for_loop target e condition false body otherwise) ways =
       let looped = rounds_code (target_code target) (λ a b. statements_code (loop_ways a b) body) in
       let last = loop_end_code otherwise (statements_code ways otherwise) in
@@ -401,6 +475,26 @@ mutual
       performs_capture ways (statements_code (closing_with end_capture (closing_with discard_top ways)) body) (then_code (filters_code filters) (one emit)) (statements_walk n body)
       (λ v go. filters_walk filters v (λ w. step (asks (write_value w) (on_done go)))) (stores_over (filters_code filters) (one emit) (filters_walk filters) (λ v go. step (asks (write_value v) (on_done go))) (over_filters filters) stores_printed)
       (performs_statements n body (closing_with end_capture (closing_with discard_top ways)))
+  performs_statement n (block name required body) ways = does_one ways (call_block name) (events.call_block name) (λ next before place operands. refl)
+  performs_statement n (tree.import e target) ways =
+      let module_stored = then_code (one end_capture) (then_code (one export_locals) (then_code (one pop_frame) (target_code target))) in
+      let stored_walk : Walk = λ x go. step (asks events.end_capture (on_value (λ text. asks (events.export_locals text) (on_value (λ m. asks close_frame (on_done (target_walk target m go))))))) in
+      done_then ways (one (begin_capture true)) (then_code (flat ways (apart_core e)) module_stored) (λ x go. asks (events.begin_capture true) (on_done go))
+      (λ x go. apart e (stored_walk x go)) (does_free ways (begin_capture true) (events.begin_capture true) (λ next before place operands. refl))
+      (done_then ways (flat ways (apart_core e)) module_stored (λ x go. apart e go) stored_walk (performs_apart e ways)
+      (done_over ways (one end_capture) (λ go. step (asks events.end_capture (on_value go))) gives_captured (then_code (one export_locals) (then_code (one pop_frame) (target_code target)))
+      (λ text x go. asks (events.export_locals text) (on_value (λ m. asks close_frame (on_done (target_walk target m go))))) (takes_module ways target)))
+  performs_statement n (from_import e names) ways =
+      let ended = then_code (one end_capture) (one discard_top) in
+      let ended_walk : Walk = λ x go. step (asks events.end_capture (on_value (λ dropped. go))) in
+      let named = then_code (expressions_code (imported_names names)) (then_code (one pop_frame) (then_code (imports_code names) ended)) in
+      let named_walk : Walk = λ x go. expressions_walk (imported_names names) (λ vs. asks close_frame (on_done (imports_stored names vs (ended_walk x go)))) in
+      done_then ways (one (begin_capture false)) (then_code (flat ways (apart_core e)) named) (λ x go. asks (events.begin_capture false) (on_done go))
+      (λ x go. apart e (named_walk x go)) (does_free ways (begin_capture false) (events.begin_capture false) (λ next before place operands. refl))
+      (done_then ways (flat ways (apart_core e)) named (λ x go. apart e go) named_walk (performs_apart e ways)
+      (imports_named ways names ended ended_walk (done_over ways (one end_capture) (λ go. step (asks events.end_capture (on_value go))) gives_captured (one discard_top) (λ v x go. go) (takes_dropped ways))))
+  performs_statement n (extends e) ways =
+      done_with ways e (one load_blocks) (λ v x go. asks (events.load_blocks v) (on_done go)) (takes_free ways load_blocks events.load_blocks (λ next before place v operands. refl))
   performs_statement n (tree.include e ignore_missing) ways =
       done_with ways e (one (include ignore_missing)) (λ v x go. step (asks (events.include ignore_missing v) (on_done go))) (takes_one ways (include ignore_missing) (events.include ignore_missing) (λ next before place v operands. refl))
   performs_statement n (do_call callee args) ways = done_with ways (call callee args) (one discard_top) (λ v x go. go) (takes_dropped ways)

@@ -1,34 +1,19 @@
 -- Targets store what stands on top: from any place, over any operands.
-use Rattle.std.proofs.Common.{◌≡◌, ℕ, ◌+◌, ◌==◌, suc, true, List, [], ◌∷◌, ◌++◌, length, map, Some, refl, sym, subst, ◌∙◌, arith}
+use Rattle.std.proofs.Common.{◌≡◌, ℕ, ◌+◌, ◌==◌, suc, true, List, [], ◌∷◌, ◌++◌, length, map, refl, sym, ◌∙◌, arith}
 use Rattle.std.proofs.lemmas.Bool.Decides.{nat_tests}
 use Rattle.template_values_model.specs.Val.{Val}
 use Rattle.template_tree.specs.Tree.{Expression, Expressions, variable, attribute, list_literal, no_expressions, expressions_more}
-use Rattle.template_process.specs.Process.{Ask, store, set_attribute, unpack, Process, step, asks, on_done, on_items, Below}
-use Rattle.template_process.proofs.Below.{below-cut_short, below-step, below-asks_done, below-asks_items_of}
+use Rattle.template_process.specs.Process.{store, set_attribute, unpack, Process, step, asks, on_done, on_items, Below}
+use Rattle.template_process.proofs.Below.{below-cut_short, below-step, below-asks_items_of}
 use Rattle.template_walk.specs.Expressions.{expression_walk}
 use Rattle.template_walk.specs.Statements.{number_of, target_walk, targets_walk}
 use Rattle.template_code.specs.Code.{Operand, single, Code, store_local, set_attr, unpack_list}
-use Rattle.template_code.specs.Counting.{counts_before}
-use Rattle.template_code.specs.Steps.{act, exec}
+use Rattle.template_code.specs.Steps.{exec}
 use Rattle.template_compiler_codegen.specs.Expressions.{Coded, then_code, one, nothing, expression_code}
 use Rattle.template_compiler_codegen.specs.Statements.{target_code, targets_code}
 use Rattle.template_compiler_codegen.proofs.Standing.{StandsAt, instruction_at, below_at, behind_then, stands_first, stands_second}
-use Rattle.template_compiler_codegen.proofs.Expressions.{behind_single, moved}
+use Rattle.template_compiler_codegen.proofs.Expressions.{behind_single, done_at, moved}
 use Rattle.template_compiler_codegen.proofs.Performing.{performs}
-
--- one instruction that asks for something to be done
-pub done_at : (code : List Code) (place : ℕ) (c : Code) (piece : List Code) → StandsAt code place (c ∷ piece) → (k : ℕ) (operands rest : List Operand) (e : Ask) (p : Process)
-    → act (exec code k) (counts_before code place) (Some c) place operands ≡ step (asks e (on_done (exec code k (suc place) rest))) → Below p (exec code k (suc place) rest) → Below (step (asks e (on_done p))) (exec code (suc k) place operands)
-done_at code place c piece h k operands rest e p is below =
-    let P : Process → Type 0 = λ q. Below (step (asks e (on_done p))) q in
-    below_at code place c (instruction_at code place c piece h) k operands (step (asks e (on_done p))) (subst P (sym is) (below-step _ _ (below-asks_done e p (exec code k (suc place) rest) below)))
-
--- the same for nothing
-pub done_free : (code : List Code) (place : ℕ) (c : Code) (piece : List Code) → StandsAt code place (c ∷ piece) → (k : ℕ) (operands rest : List Operand) (e : Ask) (p : Process)
-    → act (exec code k) (counts_before code place) (Some c) place operands ≡ asks e (on_done (exec code k (suc place) rest)) → Below p (exec code k (suc place) rest) → Below (asks e (on_done p)) (exec code (suc k) place operands)
-done_free code place c piece h k operands rest e p is below =
-    let P : Process → Type 0 = λ q. Below (asks e (on_done p)) q in
-    below_at code place c (instruction_at code place c piece h) k operands (asks e (on_done p)) (subst P (sym is) (below-asks_done e p (exec code k (suc place) rest) below))
 
 -- code that takes a value and does not look at the ways out
 abbrev pub Stores : Coded → (Val → Process → Process) → Type 0

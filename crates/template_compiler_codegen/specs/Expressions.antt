@@ -8,9 +8,9 @@ use Rattle.template_tree.specs.declared.operators.BinOpKind.TheVariants.{ScAnd, 
 use Rattle.template_tree.specs.Tree.{Expression, Optional, Expressions, Links, Arguments, variable, constant, unary, binary, chain, conditional, attribute, item, call, filtered, tested, list_literal, tuple_literal, map_literal, absent, given, no_expressions, expressions_more, no_links, links_more, no_arguments, arguments_more, positional, keyword, positional_spread, keyword_spread}
 use Rattle.template_tree.specs.Tree as tree
 use Rattle.template_walk.specs.Constants.{constant_of}
-use Rattle.template_walk.specs.Expressions.{Passing, alone, spreads, has_spread, Callee, by_name, by_method, by_value, callee_of}
+use Rattle.template_walk.specs.Expressions.{Passing, alone, spreads, has_spread, Callee, by_name, by_method, by_block, by_value, callee_of}
 use Rattle.template_walk.specs.Statements.{number_of}
-use Rattle.template_code.specs.Code.{Code, lookup, load_const, get_attr, get_item, slice, build_map, build_kwargs, merge_kwargs, build_list, unpack_lists, build_tuple, operate, negate, invert, compare_and_preserve, call_function, call_method, call_object, apply_filter, perform_test, swap, discard_top, jump_if_false_or_pop, jump_if_true_or_pop}
+use Rattle.template_code.specs.Code.{Code, lookup, load_const, get_attr, get_item, slice, build_map, build_kwargs, merge_kwargs, build_list, unpack_lists, build_tuple, operate, negate, invert, compare_and_preserve, call_function, call_method, call_object, begin_capture, call_block, end_capture, apply_filter, perform_test, swap, discard_top, jump_if_false_or_pop, jump_if_true_or_pop}
 use Rattle.template_compiler_codegen.specs.Core.{Core, empty, straight, both, leaping, either, loading, chosen, choose, no_ways, flat}
 pub use Rattle.template_compiler_codegen.specs.Core.{Coded, then_code, one, nothing, loaded, skipped, either_code}
 
@@ -116,11 +116,16 @@ passed_core front args named =
 abbrev pub passed_count : ℕ → List (Passing Core Core) → List (Passing (List ℕ × Core) Core) → Option ℕ
 passed_count front args named = if has_spread args then None else Some (rest_count front args + keyword_count named)
 
+-- a block's text
+abbrev pub block_core : List ℕ → Core
+block_core name = both (straight (begin_capture true)) (both (straight (call_block name)) (straight end_capture))
+
 -- a call: the object, or what is called where it is no name; then the arguments
 abbrev pub called_core : Callee → Core → Core → List (Passing Core Core) → List (Passing (List ℕ × Core) Core) → Core
 called_core (by_name name) whole object args named = both (passed_core 0 args named) (straight (call_function name (passed_count 0 args named)))
 called_core (by_method name) whole object args named =
     both object (both (passed_core 1 args named) (straight (call_method name (passed_count 1 args named))))
+called_core (by_block name) whole object args named = block_core name
 called_core by_value whole object args named = both whole (both (passed_core 1 args named) (straight (call_object (passed_count 1 args named))))
 
 -- no number is told for the name of a filter or a test
@@ -150,7 +155,7 @@ abbrev mutual
       loading (constant_of (map_literal ks vs))
       (both (entries_core ks (codes_of vs)) (straight (build_map (entry_count ks (codes_of vs)))))
   expression_core (call callee args) =
-      called_core (callee_of callee) (expression_core callee) (object_core callee) (positional_cores args) (keyword_cores args)
+      called_core (callee_of callee args) (expression_core callee) (object_core callee) (positional_cores args) (keyword_cores args)
   expression_core (filtered name (given e) args) =
       let args_cores = positional_cores args in
       both (expression_core e) (both (passed_core 1 args_cores (keyword_cores args)) (straight (apply_filter name (passed_count 1 args_cores (keyword_cores args)) no_number)))

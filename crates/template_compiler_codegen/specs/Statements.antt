@@ -2,13 +2,13 @@
 use Rattle.std.specs.Prelude.{ℕ, Bool, true, false, List, None, pos}
 use Rattle.template_tree.specs.declared.operators.BinOpKind.TheVariants.{Add}
 use Rattle.template_values_model.specs.Val.{Val, int}
-use Rattle.template_tree.specs.Tree.{Expression, Optional, Expressions, Statement, Statements, Assignments, variable, attribute, list_literal, call, absent, given, no_expressions, expressions_more, raw, print, for_loop, if_condition, with_block, set, set_block, auto_escape, filter_block, continue_loop, break_loop, do_call, no_statements, statements_more, no_assignments, assignments_more}
+use Rattle.template_tree.specs.Tree.{Expression, Optional, Expressions, Statement, Statements, Assignments, Imports, variable, attribute, list_literal, call, absent, given, no_expressions, expressions_more, raw, print, for_loop, if_condition, with_block, set, set_block, auto_escape, filter_block, block, from_import, extends, continue_loop, break_loop, do_call, no_statements, statements_more, no_assignments, assignments_more, no_imports, imports_more}
 use Rattle.template_tree.specs.Tree as tree
-use Rattle.template_walk.specs.Statements.{number_of}
-use Rattle.template_code.specs.Code.{Code, emit_raw, emit, store_local, set_attr, load_const, build_list, unpack_list, unpack_lists, operate, swap, dup_top, discard_top, jump_if_false, push_with, pop_frame, push_loop, push_did_not_iterate, pop_loop_frame, push_auto_escape, pop_auto_escape, begin_capture, end_capture, include}
+use Rattle.template_walk.specs.Statements.{number_of, Printed, prints_value, prints_block, prints_super, printed_of, imported_names, stored_as}
+use Rattle.template_code.specs.Code.{Code, emit_raw, emit, store_local, set_attr, load_const, build_list, unpack_list, unpack_lists, operate, swap, dup_top, discard_top, jump_if_false, push_with, pop_frame, push_loop, push_did_not_iterate, pop_loop_frame, push_auto_escape, pop_auto_escape, begin_capture, end_capture, fast_super, call_block, load_blocks, include, export_locals}
 use Rattle.template_compiler_codegen.specs.Core.{Core, empty, straight, both, leaping, either, rounds, within, leave, sealed, chosen, choose, flat}
 pub use Rattle.template_compiler_codegen.specs.Core.{Ways, no_ways, own_ways, closing_with, rounds_code, left_by}
-use Rattle.template_compiler_codegen.specs.Expressions.{Coded, then_code, one, skipped, either_code, expression_core, filters_core, expression_code}
+use Rattle.template_compiler_codegen.specs.Expressions.{Coded, then_code, one, skipped, either_code, expression_core, expressions_core, filters_core, expression_code}
 
 abbrev mutual
   -- the value on top is stored in a target
@@ -65,10 +65,25 @@ loop_end_core ss otherwise =
 abbrev pub branches_core : Statements → Core → Core → Core
 branches_core ss body otherwise = chosen (are_some ss) (either body otherwise) (leaping jump_if_false body)
 
+-- what a print writes
+abbrev pub printed_core : Printed → Core → Core
+printed_core prints_value value_core = both (sealed value_core) (straight emit)
+printed_core (prints_block name) value_core = straight (call_block name)
+printed_core prints_super value_core = straight fast_super
+
+-- imported names are stored from the last to the first
+abbrev pub imports_core : Imports → Core
+imports_core no_imports = empty
+imports_core (imports_more e alias more) = both (imports_core more) (target_core (stored_as e alias))
+
+-- a template runs in a frame of its own
+abbrev pub apart_core : Expression → Core
+apart_core e = both (straight push_with) (both (sealed (expression_core e)) (straight (include false)))
+
 abbrev mutual
   pub statement_core : Statement → Core
   statement_core (raw text) = straight (emit_raw text)
-  statement_core (print e) = both (sealed (expression_core e)) (straight emit)
+  statement_core (print e) = printed_core (printed_of e) (expression_core e)
   statement_core (for_loop target e condition false body otherwise) =
       both (sealed (iterable_core target e condition)) (both (straight (push_loop loop_flags))
       (both (rounds (target_core target) (statements_core body))
@@ -91,6 +106,14 @@ abbrev mutual
   statement_core (filter_block filters body) =
       both (straight (begin_capture true)) (both (within discard_top (within end_capture (statements_core body)))
       (both (straight end_capture) (both (sealed (filters_core filters)) (straight emit))))
+  statement_core (block name required body) = straight (call_block name)  -- its body is a stream of its own
+  statement_core (tree.import e target) =
+      both (straight (begin_capture true)) (both (apart_core e) (both (straight end_capture) (both (straight export_locals)
+      (both (straight pop_frame) (sealed (target_core target))))))
+  statement_core (from_import e names) =
+      both (straight (begin_capture false)) (both (apart_core e) (both (sealed (expressions_core (imported_names names)))
+      (both (straight pop_frame) (both (sealed (imports_core names)) (both (straight end_capture) (straight discard_top))))))
+  statement_core (extends e) = both (sealed (expression_core e)) (straight load_blocks)
   statement_core (tree.include e ignore_missing) = both (sealed (expression_core e)) (straight (include ignore_missing))
   statement_core (do_call callee args) = both (sealed (expression_core (call callee args))) (straight discard_top)
   statement_core continue_loop = leave false

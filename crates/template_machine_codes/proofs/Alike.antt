@@ -14,11 +14,12 @@ use Rattle.template_code.proofs.Rising.{exec_more}
 use Rattle.template_compiler_codegen.specs.Statements.{standalone_code, template_code}
 use Rattle.template_compiler_codegen.proofs.Whole.{expressions_perform, templates_perform}
 use Rattle.template_machine_meaning.specs.World.{World}
-use Rattle.template_machine_meaning.specs.Keys.{Key, Around}
-use Rattle.template_machine_meaning.specs.Plans.{Within, Plan, replies, enters, caller_of, given, told_by, came_from, settled}
-use Rattle.template_machine_meaning.specs.Surroundings.{plan, Programs, runners, answer, ran}
-use Rattle.template_machine_meaning.specs.Meaning.{Standing, Setting, tree_at, walks_of}
+use Rattle.template_machine_meaning.specs.Keys.{standing, own, Part, whole, Key, whole_of, Around}
+use Rattle.template_machine_meaning.specs.Plans.{Within, Plan, replies, enters, caller_of, given, told_by, Runners, ran, restarted, beneath, with_beneath, parent_run, went_on, followed_at, followed, came_from, settled}
+use Rattle.template_machine_meaning.specs.Surroundings.{plan, Programs, runners, answer}
+use Rattle.template_machine_meaning.specs.Meaning.{Standing, Setting, tree_at, walks_of, top}
 use Rattle.template_machine_meaning.proofs.Entering.{Finds, found_run}
+use Rattle.template_machine_meaning.proofs.Ends.{found_parent}
 use Rattle.template_machine_codes.specs.Codes.{codes_of}
 use Rattle.template_machine_codes.specs.Laws.{CodeMeansExpression, CodeMeansTree, CodesMeanKeys}
 
@@ -136,30 +137,77 @@ module _ (s t : Programs) (follows : ProgramsFollow s t) where
   -- a key that finds nothing under one bound finds nothing under any
   none_later : (key : Key) → ((m : ℕ) → t.process m key ≡ None) → (m : ℕ) → runners t m key ≡ None
   none_later key none zero = let f : Process → World → Run World = λ p w. ended breaks w in ap (option_map f) (none 0)
-  none_later key none (suc m) = let f : Process → World → Run World = run (answer t m) in ap (option_map f) (none m)
+  none_later key none (suc m) =
+      let f : Process → World → Run World = λ p w. followed (runners t m) key.part (run (answer t m) p w) in ap (option_map f) (none m)
 
   nothing_ran : (key : Key) (w : World) (o : Option Process) → FollowedBy o (λ m. t.process m key)
       → Alike (option_map (λ (p : Process) (v : World). ended breaks v) o) (λ m. runners t m key) w
   nothing_ran key w None follow = none_later key follow
   nothing_ran key w (Some p) follow = λ finished. absurd finished
 
-  finds_later : (m : ℕ) (w : World) (o : Option Process) (q : Process) (r : Run World) → o ≡ Some q → run (answer t m) q w ≡ r → Finds (option_map (λ p. run (answer t m) p) o) w r
-  finds_later m w o q r is same = subst (λ (x : Option Process). Finds (option_map (λ p. run (answer t m) p) x) w r) (sym is) same
+  -- what follows in a template that is extended is finished where what it follows is
+  finished_on : (part_runs : Runners) (r : Run World) (e : End) → r.end ≡ e → IsFinished (followed_at part_runs r e).end → IsFinished r.end
+  finished_on part_runs r (ends operands) is finished = subst IsFinished (sym is) tt
+  finished_on part_runs r (faults kinds) is finished = subst IsFinished (sym is) tt
+  finished_on part_runs r _ is finished = finished
+
+  finished_first : (part_runs : Runners) (part : Part) (r : Run World) → IsFinished (followed part_runs part r).end → IsFinished r.end
+  finished_first part_runs whole r finished = finished_on part_runs r r.end refl finished
+  finished_first part_runs _ r finished = finished
+
+  finished_beneath : (operands : List Val) (e : End) → IsFinished (beneath operands e) → IsFinished e
+  finished_beneath operands (ends more) finished = tt
+  finished_beneath operands _ finished = finished
+
+  -- and is the same from some bound on
+  parent_alike : (w : World) (o : Option (World → Run World)) (later : ℕ → Option (World → Run World)) → Alike o later w → IsFinished (parent_run o w).end
+      → (least : ℕ) × ((m : ℕ) → least ≤ m → parent_run (later m) w ≡ parent_run o w)
+  parent_alike w None later alike finished = (0, λ m le. ap (λ (x : Option (World → Run World)). parent_run x w) (alike m))
+  parent_alike w (Some runs) later alike finished = let same = alike finished in (same.0, λ m le. found_parent (later m) w (runs w) (same.1 m le))
+
+  module _ (n : ℕ) (alike : RunnersAlike n) (r : Run World) where
+    abbrev Follows : (Runners → Run World) → Type 0
+    Follows f = IsFinished (f (runners s n)).end → (least : ℕ) × ((m : ℕ) → least ≤ m → f (runners t m) ≡ f (runners s n))
+
+    on_alike : (operands : List Val) (parent : Option (List ℕ)) → Follows (λ part_runs. went_on part_runs operands r parent)
+    on_alike operands None finished = (0, λ m le. refl)
+    on_alike operands (Some name) finished =
+        let key = whole_of (own (standing name)) in
+        let begun : World = restarted name r.after in
+        let q : Run World = parent_run (runners s n key) begun in
+        let same = parent_alike begun (runners s n key) (λ m. runners t m key) (alike key begun) (finished_beneath operands q.end finished) in
+        (same.0, λ m le. ap (λ (x : Run World). behind r.items (with_beneath operands x)) (same.1 m le))
+
+    at_alike : (e : End) → Follows (λ part_runs. followed_at part_runs r e)
+    at_alike (ends operands) finished = on_alike operands r.after.parent finished
+    at_alike _ finished = (0, λ m le. refl)
+
+    followed_alike : (part : Part) → Follows (λ part_runs. followed part_runs part r)
+    followed_alike whole finished = at_alike r.end finished
+    followed_alike _ finished = (0, λ m le. refl)
+
+  finds_later : (m : ℕ) (part : Part) (w : World) (o : Option Process) (q : Process) (r : Run World) → o ≡ Some q → followed (runners t m) part (run (answer t m) q w) ≡ r
+      → Finds (option_map (λ (p : Process) (v : World). followed (runners t m) part (run (answer t m) p v)) o) w r
+  finds_later m part w o q r is same =
+      subst (λ (x : Option Process). Finds (option_map (λ (p : Process) (v : World). followed (runners t m) part (run (answer t m) p v)) x) w r) (sym is) same
 
   process_ran : (n : ℕ) → RunnersAlike n → (key : Key) (w : World) (o : Option Process) → FollowedBy o (λ m. t.process m key)
-      → Alike (option_map (λ p. run (answer s n) p) o) (λ m. runners t m key) w
+      → Alike (option_map (λ (p : Process) (v : World). followed (runners s n) key.part (run (answer s n) p v)) o) (λ m. runners t m key) w
   process_ran n alike key w None follow = none_later key follow
-  process_ran n alike key w (Some p) follow = λ finished. (suc ((same finished).0 + follow.0), λ m le. at_bound finished m le)
+  process_ran n alike key w (Some p) follow = λ finished. (suc ((same finished).0 + (further finished).0 + follow.0), λ m le. at_bound finished m le)
     where
-      same : IsFinished (run (answer s n) p w).end
-          → (least : ℕ) × ((m : ℕ) → least ≤ m → (q : Process) → Below p q → run (answer t m) q w ≡ run (answer s n) p w)
-      same finished = run_alike n alike p w finished
+      same : IsFinished (followed (runners s n) key.part (run (answer s n) p w)).end → (least : ℕ) × ((m : ℕ) → least ≤ m → (q : Process) → Below p q → run (answer t m) q w ≡ (run (answer s n) p w))
+      same finished = run_alike n alike p w (finished_first (runners s n) key.part (run (answer s n) p w) finished)
 
-      at_bound : (finished : IsFinished (run (answer s n) p w).end) (m : ℕ) → suc ((same finished).0 + follow.0) ≤ m → Finds (runners t m key) w (run (answer s n) p w)
+      further : IsFinished (followed (runners s n) key.part (run (answer s n) p w)).end → (least : ℕ) × ((m : ℕ) → least ≤ m → followed (runners t m) key.part (run (answer s n) p w) ≡ followed (runners s n) key.part (run (answer s n) p w))
+      further finished = followed_alike n alike (run (answer s n) p w) key.part finished
+
+      at_bound : (finished : IsFinished (followed (runners s n) key.part (run (answer s n) p w)).end) (m : ℕ) → suc ((same finished).0 + (further finished).0 + follow.0) ≤ m → Finds (runners t m key) w (followed (runners s n) key.part (run (answer s n) p w))
       at_bound finished zero le = absurd (omega arith)
       at_bound finished (suc k) le =
           let found = follow.1 k (omega arith) in
-          finds_later k w (t.process k key) found.0 (run (answer s n) p w) found.1 ((same finished).1 k (omega arith) found.0 found.2)
+          finds_later k key.part w (t.process k key) found.0 (followed (runners s n) key.part (run (answer s n) p w)) found.1
+          (ap (followed (runners t k) key.part) ((same finished).1 k (omega arith) found.0 found.2) ∙ (further finished).1 k (omega arith))
 
   pub runners_alike : (n : ℕ) → RunnersAlike n
   runners_alike zero key w = nothing_ran key w (s.process 0 key) (follows.follow 0 key)
@@ -198,20 +246,11 @@ code_follows n (Some t) =
 pub codes_follow : (setting : Setting) (root : Option Standing) → ProgramsFollow (walks_of setting root) (codes_of setting root)
 codes_follow setting root = record { around = refl; follow = λ n key. code_follows n (tree_at setting root key) }
 
-pub code_means_tree : CodeMeansTree
-code_means_tree setting root w n finished =
-    let s = walks_of setting (Some root) in
-    let t = codes_of setting (Some root) in
-    let same = finished_alike s t (codes_follow setting (Some root)) n (template_walk n root.tree) w finished in
-    let performed = templates_perform root.tree n in (
-      same.0 + performed.0,
-      λ m le.
-          same.1 m (omega arith) (exec (template_code root.tree) m 0 [])
-          (below-trans (template_walk n root.tree) (exec (template_code root.tree) performed.0 0 []) (exec (template_code root.tree) m 0 []) performed.1 (exec_more (template_code root.tree) performed.0 m (omega arith) 0 [])),
-    )
-
 pub codes_mean_keys : CodesMeanKeys
 codes_mean_keys setting root key w n finished = keys_alike (walks_of setting root) (codes_of setting root) (codes_follow setting root) key w n finished
+
+pub code_means_tree : CodeMeansTree
+code_means_tree setting root w n finished = codes_mean_keys setting (Some root) top w (suc n) finished
 
 -- an expression's code, where it may run for long enough
 pub code_means_expression : CodeMeansExpression

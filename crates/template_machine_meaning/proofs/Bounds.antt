@@ -1,20 +1,22 @@
 -- Greater bounds give runs that extend.
-use Rattle.std.proofs.Common.{◌≡◌, ℕ, ◌≤◌, inl, inr, zero, suc, List, Option, None, Some, option_map, map, refl, ap, ◌∙◌, arith}
+use Rattle.std.proofs.Common.{◌≡◌, ℕ, ◌≤◌, inl, inr, zero, suc, List, [], ◌++◌, Option, None, Some, option_map, map, refl, sym, ap, subst, ◌∙◌, append_assoc, append-nil, arith}
 use Rattle.std.proofs.lemmas.List.{map-append}
 use Rattle.template_values_errors.specs.declared.ErrorKind.{ErrorKind}
 use Rattle.template_tree.specs.Tree.{Statements}
 use Rattle.template_process.specs.Process.{Ask, Answer, breaks_off, Process, Below}
-use Rattle.template_process.specs.Drive.{End, breaks, cuts}
-use Rattle.template_process.specs.Trace.{Run, run, ended}
+use Rattle.template_values_model.specs.Val.{Val}
+use Rattle.template_process.specs.Drive.{End, ends, breaks, cuts}
+use Rattle.template_process.specs.Trace.{Item, Run, run, ended, behind}
+use Rattle.template_process.specs.Fuel.{Begins}
 use Rattle.template_process.specs.Approximants.{IsUnfinished, Extends, RepliesMore}
 use Rattle.template_process.proofs.Approximants.{runs_further}
 use Rattle.template_walk.specs.Statements.{template_walk}
 use Rattle.template_walk.proofs.Rising.{walks_rise}
 use Rattle.template_machine_meaning.specs.World.{World}
-use Rattle.template_machine_meaning.specs.Keys.{Key, Around}
-use Rattle.template_machine_meaning.specs.Plans.{Within, Plan, replies, enters, caller_of, given, wrapped_by, told_by, came, Runners, came_from, settled}
-use Rattle.template_machine_meaning.specs.Surroundings.{plan, respond, Programs, runners, answer, ran}
-use Rattle.template_machine_meaning.specs.Meaning.{Standing, Setting, tree_at, walks_of}
+use Rattle.template_machine_meaning.specs.Keys.{standing, own, Part, whole, Key, whole_of, Around}
+use Rattle.template_machine_meaning.specs.Plans.{Within, Plan, replies, enters, caller_of, given, wrapped_by, told_by, came, Runners, ran, restarted, beneath, with_beneath, parent_run, went_on, followed_at, followed, came_from, settled}
+use Rattle.template_machine_meaning.specs.Surroundings.{plan, respond, Programs, runners, answer}
+use Rattle.template_machine_meaning.specs.Meaning.{Standing, Setting, tree_at, walks_of, top}
 use Rattle.template_machine_meaning.specs.Laws.{ProcessGoesFurther, Rises, BoundsExtend, KeysExtend, MeaningsExtend}
 
 -- the second runs further
@@ -50,6 +52,69 @@ settled_more r q more w (enters x) = came_from_more w x (r x.key) (q x.key) (mor
 respond_more : (a : Around) (r q : Runners) → RunnersMore r q → (w : World) (e : Ask) → RepliesMore (respond a r w e) (respond a q w e)
 respond_more a r q more w e = settled_more r q more w (plan a w e)
 
+-- what follows in a template that is extended
+behind_more : (items : List Item) (r q : Run World) → Extends r q → Extends (behind items r) (behind items q)
+behind_more items r q (inl same) = inl (ap (behind items) same)
+behind_more items r q (inr more) = inr (more.0, (more.1.0, ap (λ (xs : List Item). items ++ xs) more.1.1 ∙ sym (append_assoc items r.items more.1.0)))
+
+unfinished_beneath : (operands : List Val) (e : End) → IsUnfinished e → IsUnfinished (beneath operands e)
+unfinished_beneath operands breaks h = tt
+unfinished_beneath operands cuts h = tt
+unfinished_beneath operands _ h = absurd h
+
+beneath_more : (operands : List Val) (r q : Run World) → Extends r q → Extends (with_beneath operands r) (with_beneath operands q)
+beneath_more operands r q (inl same) = inl (ap (with_beneath operands) same)
+beneath_more operands r q (inr more) = inr (unfinished_beneath operands r.end more.0, more.1)
+
+parent_more : (o p : Option (World → Run World)) → RunsMore o p → (w : World) → Extends (parent_run o w) (parent_run p w)
+parent_more None None more w = inl refl
+parent_more (Some r) (Some q) more w = more w
+parent_more _ _ more w = absurd more
+
+module _ (r q : Runners) (more : RunnersMore r q) where
+  on_more : (operands : List Val) (a : Run World) (parent : Option (List ℕ)) → Extends (went_on r operands a parent) (went_on q operands a parent)
+  on_more operands a None = inl refl
+  on_more operands a (Some name) =
+      let key = whole_of (own (standing name)) in
+      behind_more a.items _ _ (beneath_more operands _ _ (parent_more (r key) (q key) (more key) (restarted name a.after)))
+
+  at_more : (a : Run World) (e : End) → Extends (followed_at r a e) (followed_at q a e)
+  at_more a (ends operands) = on_more operands a a.after.parent
+  at_more a _ = inl refl
+
+  alike_more : (part : Part) (a : Run World) → Extends (followed r part a) (followed q part a)
+  alike_more whole a = at_more a a.end
+  alike_more _ a = inl refl
+
+  at_once : (a : Run World) (e : End) → IsUnfinished e → followed_at r a e ≡ a
+  at_once a (ends operands) h = absurd h
+  at_once a _ h = refl
+
+  unfinished_stays : (part : Part) (a : Run World) → IsUnfinished a.end → followed r part a ≡ a
+  unfinished_stays whole a h = at_once a a.end h
+  unfinished_stays _ a h = refl
+
+  on_begins : (operands : List Val) (b : Run World) (parent : Option (List ℕ)) → Begins b.items (went_on q operands b parent).items
+  on_begins operands b None = ([], sym (append-nil b.items))
+  on_begins operands b (Some name) = (_, refl)
+
+  at_begins : (b : Run World) (e : End) → Begins b.items (followed_at q b e).items
+  at_begins b (ends operands) = on_begins operands b b.after.parent
+  at_begins b _ = ([], sym (append-nil b.items))
+
+  followed_begins : (part : Part) (b : Run World) → Begins b.items (followed q part b).items
+  followed_begins whole b = at_begins b b.end
+  followed_begins _ b = ([], sym (append-nil b.items))
+
+  further_begins : (xs ys zs : List Item) → Begins xs ys → Begins ys zs → Begins xs zs
+  further_begins xs ys zs f g = (f.0 ++ g.0, g.1 ∙ ap (λ ws. ws ++ g.0) f.1 ∙ append_assoc xs f.0 g.0)
+
+  followed_more : (part : Part) (a b : Run World) → Extends a b → Extends (followed r part a) (followed q part b)
+  followed_more part a b (inl same) = subst (λ (z : Run World). Extends (followed r part a) (followed q part z)) (sym same) (alike_more part a)
+  followed_more part a b (inr further) =
+      subst (λ (z : Run World). Extends z (followed q part b)) (sym (unfinished_stays part a further.0))
+      (inr (further.0, further_begins a.items b.items (followed q part b).items further.1 (followed_begins part b)))
+
 -- processes that go further
 process_more : (f g : Process → World → Run World) → (o p : Option Process) → ProcessGoesFurther o p → ((a b : Process) → Below a b → (w : World) → Extends (f a w) (g b w))
     → RunsMore (option_map f o) (option_map g p)
@@ -65,12 +130,15 @@ runners_more : (s : Programs) → Rises s → (n m : ℕ) → n ≤ m → Runner
 runners_more s rises zero zero less key =
     process_more (λ p w. ended breaks w) (λ p w. ended breaks w) (s.process 0 key) (s.process 0 key) (rises 0 0 key less) (λ a b h w. nothing_more w (ended breaks w))
 runners_more s rises zero (suc m) less key =
-    process_more (λ p w. ended breaks w) (λ p. run (respond s.around (runners s m)) p) (s.process 0 key) (s.process m key) (rises 0 m key (omega arith))
-    (λ a b h w. nothing_more w (run (respond s.around (runners s m)) b w))
+    process_more (λ p w. ended breaks w) (λ p w. followed (runners s m) key.part (run (respond s.around (runners s m)) p w)) (s.process 0 key) (s.process m key) (rises 0 m key (omega arith))
+    (λ a b h w. nothing_more w (followed (runners s m) key.part (run (respond s.around (runners s m)) b w)))
 runners_more s rises (suc n) zero less key = absurd (omega arith)
 runners_more s rises (suc n) (suc m) less key =
-    process_more (λ p. run (respond s.around (runners s n)) p) (λ p. run (respond s.around (runners s m)) p) (s.process n key) (s.process m key) (rises n m key (omega arith))
-    (λ a b h w. runs_further World (answer s n) (answer s m) (respond_more s.around (runners s n) (runners s m) (runners_more s rises n m (omega arith))) a b w h)
+    let more = runners_more s rises n m (omega arith) in
+    process_more (λ p w. followed (runners s n) key.part (run (respond s.around (runners s n)) p w)) (λ p w. followed (runners s m) key.part (run (respond s.around (runners s m)) p w))
+    (s.process n key) (s.process m key) (rises n m key (omega arith))
+    (λ a b h w. followed_more (runners s n) (runners s m) more key.part _ _
+    (runs_further World (answer s n) (answer s m) (respond_more s.around (runners s n) (runners s m) more) a b w h))
 
 pub bounds_extend : BoundsExtend
 bounds_extend s rises n m less p q w h =
@@ -95,4 +163,5 @@ keys_extend setting root n m less key w =
 
 pub meanings_extend : MeaningsExtend
 meanings_extend setting n m less root w =
-    bounds_extend (walks_of setting (Some root)) (walks_of_rise setting (Some root)) n m less (template_walk n root.tree) (template_walk m root.tree) w (walks_rise root.tree n m less)
+    let s = walks_of setting (Some root) in
+    ran_more (runners s (suc n) top) (runners s (suc m) top) (runners_more s (walks_of_rise setting (Some root)) (suc n) (suc m) (omega arith) top) w

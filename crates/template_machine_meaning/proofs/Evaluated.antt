@@ -1,7 +1,6 @@
 -- Over contexts that agree on the names that stand in an expression its evaluation leaves the same, and the same is handed out.
 use Rattle.std.proofs.Common.{◌≡◌, ℕ, inl, List, [], ◌∷◌, Option, None, Some, option_map, refl, sym, ap, ◌∙◌}
 use Rattle.std.specs.Prelude.{IsTrue}
-use Rattle.template_values_errors.specs.declared.modes.AutoEscape.TheVariants as escapes
 use Rattle.template_values_model.specs.Val.{Val}
 use Rattle.template_values_forms.specs.Known as forms
 use Rattle.template_values_frozen.specs.Frozen.{frozen}
@@ -17,7 +16,7 @@ use Rattle.template_machine_meaning.specs.World.{World, first_world}
 use Rattle.template_machine_meaning.specs.Replies.{kinded}
 use Rattle.template_machine_meaning.specs.Keys.{Key}
 use Rattle.template_machine_meaning.specs.Surroundings.{runners}
-use Rattle.template_machine_meaning.specs.Meaning.{Setting, around_of, walks_of, evaluation, alone, handed, evaluated}
+use Rattle.template_machine_meaning.specs.Meaning.{Setting, no_head, around_of, walks_of, evaluation, alone, handed, evaluated}
 use Rattle.template_machine_meaning.specs.Isolation.{AgreesAt, AskNoNames, IsolatesExpressions}
 use Rattle.template_machine_meaning.proofs.Known.{base}
 use Rattle.template_machine_meaning.proofs.Turned.{over_context, same_known}
@@ -41,7 +40,7 @@ module _ (names : List ℕ → Type 0) (d : Val) (setting : Setting) (ask : AskN
   same_evaluation : (id : ℕ) (e : Expression) → ((name : List ℕ) → IsTrue (stands_in name e) → names name) → (c : Val) → ((name : List ℕ) → names name → AgreesAt d c name)
       → IsSameRun (evaluated setting id e c) (evaluated setting id e d)
   same_evaluation id e listed c agrees =
-      let w = first_world id setting.globals escapes.None c in
+      let w = first_world id setting.globals no_head c in
       let r = evaluation setting e w in
       let at = runs_so names d (around_of setting None) ask (runners (walks_of setting None) 0) runners_so (base []) (standalone_walk e) (base []) w
       (λ name i. absurd i, agrees) (in_expression names (base []) (base []) e (λ name i. inl (listed name i)) (λ v. over (v ∷ [])) (λ v name i. i)) in

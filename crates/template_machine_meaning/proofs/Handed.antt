@@ -3,7 +3,6 @@ use Rattle.std.proofs.Common.{◌≡◌, ℕ, ◌-◌, true, false, nat_le, [], 
 use Rattle.std.specs.Prelude.{if◌then◌else◌}
 use Rattle.template_values_errors.specs.declared.ErrorKind.{ErrorKind}
 use Rattle.template_values_errors.specs.declared.ErrorKind.TheVariants.{OutOfFuel}
-use Rattle.template_values_errors.specs.declared.modes.AutoEscape.TheVariants as escapes
 use Rattle.template_values_model.specs.Fault.{Fault, invalid_operation, bad_serialization, missing_argument}
 use Rattle.template_values_model.specs.Val.{Val}
 use Rattle.template_values_frozen.specs.Frozen.{frozen}
@@ -14,7 +13,7 @@ use Rattle.template_walk.specs.Statements.{standalone_walk}
 use Rattle.template_machine_meaning.specs.World.{World, first_world}
 use Rattle.template_machine_meaning.specs.Records.{known_of}
 use Rattle.template_machine_meaning.specs.Replies.{kinded}
-use Rattle.template_machine_meaning.specs.Meaning.{walks_of, evaluation, alone, handed, handed_out}
+use Rattle.template_machine_meaning.specs.Meaning.{no_head, walks_of, evaluation, alone, handed, handed_out}
 use Rattle.template_machine_meaning.specs.Laws.{GivesOne, EveryExpressionGives}
 use Rattle.template_machine_meaning.specs.Keeps.{IsMeantEnd, ExpressionFaultsAreMeant}
 use Rattle.template_machine_meaning.proofs.Evaluating.{every_evaluation_gives}
@@ -31,8 +30,8 @@ one_handed w _ gives = absurd gives
 
 pub every_expression_gives : EveryExpressionGives
 every_expression_gives setting id e runs context =
-    let w = first_world id setting.globals escapes.None context in
-    let r = evaluation setting e w in one_handed r.after r.end (every_evaluation_gives setting e runs w)
+    let w = first_world id setting.globals no_head context in
+    let r = evaluation setting e w in one_handed r.after r.end (every_evaluation_gives setting e runs w refl)
 
 -- what is handed out of a run under a fuel is what comes of the whole run under it
 pub under_handed : (fuel : Option ℕ) (r : Run World) → under fuel (handed_out r) ≡ handed_out (under fuel r)
@@ -57,7 +56,7 @@ meant_handed w _ meant = tt
 
 pub expression_faults_are_meant : ExpressionFaultsAreMeant
 expression_faults_are_meant setting id e context fuel =
-    let w = first_world id setting.globals escapes.None context in
+    let w = first_world id setting.globals no_head context in
     let r = evaluation setting e w in
     let q = under fuel r in
     subst (λ (x : Run World). IsMeantEnd x.end) (sym (under_handed fuel r))

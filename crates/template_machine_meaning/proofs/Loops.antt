@@ -1,5 +1,5 @@
 -- A loop's rounds settle: there are as many as it has items, at most.
-use Rattle.std.proofs.Common.{◌≡◌, ℕ, ◌+◌, ◌-◌, ◌≤◌, zero, suc, Bool, true, false, [], ◌∷◌, ◌++◌, length, slice_get, Option, None, Some, if◌then◌else◌, refl, ap, ◌∙◌, arith}
+use Rattle.std.proofs.Common.{◌≡◌, ℕ, ◌+◌, ◌-◌, ◌≤◌, zero, suc, Bool, true, false, List, [], ◌∷◌, ◌++◌, length, slice_get, Option, None, Some, if◌then◌else◌, refl, ap, ◌∙◌, arith}
 use Rattle.std.proofs.lemmas.Option.{slice_get_within}
 use Rattle.template_values_model.specs.Val as values
 use Rattle.template_values_model.specs.Val.{Val}
@@ -10,9 +10,8 @@ use Rattle.template_machine_meaning.specs.World.{Loop, Frame, World, drop_given}
 use Rattle.template_machine_meaning.specs.Replies.{changed}
 use Rattle.template_machine_meaning.specs.Surroundings.{Programs, next_reply, is_held, after_loop, answer}
 use Rattle.template_machine_meaning.proofs.Settling.{Walk, Settles, settles_then, settles_now, settles_step, settles_before, settles_to}
-use Rattle.template_machine_meaning.proofs.Keeping.{Keeps, loops_of, Top, top, on_loop_is}
-use Rattle.template_machine_meaning.proofs.Expressions.{Kept}
-use Rattle.template_machine_meaning.proofs.Scopes.{behind_frame}
+use Rattle.template_machine_meaning.proofs.Keeping.{Keeps, loops_of, Top, top, behind_frame, may_close, on_loop_is}
+use Rattle.template_machine_meaning.proofs.Blocks.{Kept}
 
 -- how a statement comes to its end
 pub data Leave : Type 0 where
@@ -33,27 +32,27 @@ abbrev pub frame_at : Loop → ℕ → Frame
 frame_at l asked = record { locals = []; loop = Some (loop_at l asked); context = values.undefined }
 
 -- in a round of a loop whose frame stands over a base
-abbrev pub InRound : World → Loop → ℕ → World → Type 0
-InRound base l asked w = Keeps (behind_frame base (frame_at l asked)) w
+abbrev pub InRound : List (List ℕ) → World → Loop → ℕ → World → Type 0
+InRound names base l asked w = Keeps names (behind_frame base (frame_at l asked)) w
 
 -- behind its last round
-abbrev pub AtEnd : {O : Type 0} → World → Loop → O → World → Type 0
-AtEnd base l o w = (asked : ℕ) × InRound base l asked w
+abbrev pub AtEnd : {O : Type 0} → List (List ℕ) → World → Loop → O → World → Type 0
+AtEnd names base l o w = (asked : ℕ) × InRound names base l asked w
 
 -- its frame is closed, whether it stays known or not
-left_keeps : (base w : World) (own : Loop) (asked : ℕ) → InRound base own asked w → (t : Top w (Some (loop_at own asked)) (loops_of base.frames)) → (l : Loop) (kept : Bool)
-    → Keeps base (if kept then record w { frames = t.rest; closed = w.closed ++ l ∷ [] } else record w { frames = t.rest; given = drop_given l.number w.given })
-left_keeps base w own asked inside t l true = record { loops = t.others; outer = inside.outer; saved = inside.saved; captures = inside.captures }
-left_keeps base w own asked inside t l false = record { loops = t.others; outer = inside.outer; saved = inside.saved; captures = inside.captures }
+left_keeps : (names : List (List ℕ)) (base w : World) (own : Loop) (asked : ℕ) → InRound names base own asked w → (t : Top w (Some (loop_at own asked)) (loops_of base.frames)) → (l : Loop) (kept : Bool)
+    → Keeps names base (if kept then record w { frames = t.rest; closed = w.closed ++ l ∷ [] } else record w { frames = t.rest; given = drop_given l.number w.given })
+left_keeps names base w own asked inside t l true = record { loops = t.others; outer = inside.outer; floor = inside.floor; saved = inside.saved; captures = inside.captures; meets = inside.meets; loads = inside.loads; added = inside.added }
+left_keeps names base w own asked inside t l false = record { loops = t.others; outer = inside.outer; floor = inside.floor; saved = inside.saved; captures = inside.captures; meets = inside.meets; loads = inside.loads; added = inside.added }
 
-pub loop_closed : {O : Type 0} (s : Programs) (base w : World) (own : Loop) (asked : ℕ) → InRound base own asked w → (shape : O → World → Type 0) (Q : Walk O)
-    → ((z : World) → Keeps base z → Settles {O = O} s z shape Q) → Settles {O = O} s w shape (λ m go. asks close_loop (on_done (Q m go)))
-loop_closed s base w own asked inside shape Q next =
+pub loop_closed : {O : Type 0} (names : List (List ℕ)) (s : Programs) (base w : World) (own : Loop) (asked : ℕ) → base.floor ≤ length base.frames → InRound names base own asked w → (shape : O → World → Type 0) (Q : Walk O)
+    → ((z : World) → Keeps names base z → Settles {O = O} s z shape Q) → Settles {O = O} s w shape (λ m go. asks close_loop (on_done (Q m go)))
+loop_closed names s base w own asked floored inside shape Q next =
     let t = top w (Some (loop_at own asked)) (loops_of base.frames) inside.loops in
     let l : Loop = loop_at own asked in
     settles_to s w (after_loop w l t.rest) shape close_loop Q
-    (λ n. on_loop_is w t.frame t.rest l t.frames t.own (λ f k fs. changed (after_loop w k fs) done))
-    (next (after_loop w l t.rest) (left_keeps base w own asked inside t l (is_held w l)))
+    (λ n. on_loop_is w t.frame t.rest l t.frames (may_close names base w (frame_at own asked) floored inside t) t.own (λ f k fs. changed (after_loop w k fs) done))
+    (next (after_loop w l t.rest) (left_keeps names base w own asked inside t l (is_held w l)))
 
 -- a round under a bound, over an item
 abbrev pub Round : Type 0
@@ -65,25 +64,25 @@ after_round round j goes m go = step (rounds (m - j) (round m) (go tt))
 after_round round j continues m go = step (rounds (m - j) (round m) (go tt))
 after_round round j breaks_out m go = step (go tt)
 
-module _ (s : Programs) (base : World) (own : Loop) (round : Round) where
+module _ (names : List (List ℕ)) (s : Programs) (base : World) (floored : base.floor ≤ length base.frames) (own : Loop) (round : Round) where
   -- each round settles, in the loop's frame
   abbrev pub Turns : Type 0
-  Turns = (v : Val) (asked : ℕ) (w : World) → InRound base own asked w → Settles {O = Leave} s w (Kept (behind_frame base (frame_at own asked))) (λ m go. round m v (exits_of go) (go goes))
+  Turns = (v : Val) (asked : ℕ) (w : World) → InRound names base own asked w → Settles {O = Leave} s w (Kept names (behind_frame base (frame_at own asked))) (λ m go. round m v (exits_of go) (go goes))
 
   abbrev Ends : ℕ → World → Type 0
-  Ends j w = Settles {O = Unit {0}} s w (AtEnd base own) (λ m go. rounds (m - j) (round m) (go tt))
+  Ends j w = Settles {O = Unit {0}} s w (AtEnd names base own) (λ m go. rounds (m - j) (round m) (go tt))
 
-  next_round : (j asked : ℕ) (w z : World) (v : Val) → InRound base own asked z → Turns → ((u : World) → InRound base own asked u → Ends (suc j) u)
+  next_round : (j asked : ℕ) (w z : World) (v : Val) → InRound names base own asked z → Turns → ((u : World) → InRound names base own asked u → Ends (suc j) u)
       → ((n : ℕ) → answer s n w next_item ≡ changed z (item v)) → Ends j w
   next_round j asked w z v inside turns later is =
-      let after : (o : Leave) (u : World) → InRound base own asked u → Settles {O = Unit {0}} s u (AtEnd base own) (after_round round (suc j) o) =
-      λ o u kept. elim o as (λ o. Settles {O = Unit {0}} s u (AtEnd base own) (after_round round (suc j) o)) [
-        | goes ↦ settles_step s u (AtEnd base own) (λ m go. rounds (m - suc j) (round m) (go tt)) (later u kept)
-        | breaks_out ↦ settles_step s u (AtEnd base own) (λ m go. go tt) (settles_now s u (AtEnd base own) tt (asked, kept))
-        | continues ↦ settles_step s u (AtEnd base own) (λ m go. rounds (m - suc j) (round m) (go tt)) (later u kept)
+      let after : (o : Leave) (u : World) → InRound names base own asked u → Settles {O = Unit {0}} s u (AtEnd names base own) (after_round round (suc j) o) =
+      λ o u kept. elim o as (λ o. Settles {O = Unit {0}} s u (AtEnd names base own) (after_round round (suc j) o)) [
+        | goes ↦ settles_step s u (AtEnd names base own) (λ m go. rounds (m - suc j) (round m) (go tt)) (later u kept)
+        | breaks_out ↦ settles_step s u (AtEnd names base own) (λ m go. go tt) (settles_now s u (AtEnd names base own) tt (asked, kept))
+        | continues ↦ settles_step s u (AtEnd names base own) (λ m go. rounds (m - suc j) (round m) (go tt)) (later u kept)
       ] in
-      let turn = settles_then s z (Kept (behind_frame base (frame_at own asked))) (AtEnd base own) (λ m go. round m v (exits_of go) (go goes)) (after_round round (suc j)) (turns v asked z inside) after in
-      settles_before s w z (AtEnd base own) (paid [] ∷ []) (suc j) (λ m go. rounds (m - j) (round m) (go tt))
+      let turn = settles_then s z (Kept names (behind_frame base (frame_at own asked))) (AtEnd names base own) (λ m go. round m v (exits_of go) (go goes)) (after_round round (suc j)) (turns v asked z inside) after in
+      settles_before s w z (AtEnd names base own) (paid [] ∷ []) (suc j) (λ m go. rounds (m - j) (round m) (go tt))
       (λ m go. round m v (exits_of (λ o. after_round round (suc j) o m go)) (after_round round (suc j) goes m go))
       (λ n m le ge go.
       let more : m - j ≡ suc (m - suc j) = omega arith in
@@ -91,30 +90,30 @@ module _ (s : Programs) (base : World) (own : Loop) (round : Round) where
       ∙ ap (λ r. behind (paid [] ∷ []) (replied (λ a t. run (answer s n) (on_item (λ u. round m u (exits_of (λ o. after_round round (suc j) o m go)) (after_round round (suc j) goes m go)) (go tt) a) t) r)) (is n))
       turn
 
-  last_round : (j asked : ℕ) (w z : World) → InRound base own asked z → ((n : ℕ) → answer s n w next_item ≡ changed z no_item) → Ends j w
+  last_round : (j asked : ℕ) (w z : World) → InRound names base own asked z → ((n : ℕ) → answer s n w next_item ≡ changed z no_item) → Ends j w
   last_round j asked w z inside is =
-      settles_before {O = Unit {0}} s w z (AtEnd base own) (paid [] ∷ []) (suc j) (λ m go. rounds (m - j) (round m) (go tt)) (λ m go. go tt)
+      settles_before {O = Unit {0}} s w z (AtEnd names base own) (paid [] ∷ []) (suc j) (λ m go. rounds (m - j) (round m) (go tt)) (λ m go. go tt)
       (λ n m le ge go.
       let more : m - j ≡ suc (m - suc j) = omega arith in
       ap (λ b. run (answer s n) (rounds b (round m) (go tt)) w) more
       ∙ ap (λ r. behind (paid [] ∷ []) (replied (λ a t. run (answer s n) (on_item (λ u. round m u (exits_of (λ o. after_round round (suc j) o m go)) (after_round round (suc j) goes m go)) (go tt) a) t) r)) (is n))
-      (settles_now s z (AtEnd base own) tt (asked, inside))
+      (settles_now s z (AtEnd names base own) tt (asked, inside))
 
-  rounds_by : (d j asked : ℕ) → length own.items ≤ asked + d → Turns → (w : World) → InRound base own asked w → Top w (Some (loop_at own asked)) (loops_of base.frames)
+  rounds_by : (d j asked : ℕ) → length own.items ≤ asked + d → Turns → (w : World) → InRound names base own asked w → Top w (Some (loop_at own asked)) (loops_of base.frames)
       → (o : Option Val) → slice_get own.items asked ≡ o → Ends j w
   rounds_by d j asked few turns w inside t None none =
       let z : World = record w { frames = record t.frame { loop = Some (loop_at own (asked + 1)) } ∷ t.rest } in
-      last_round j (asked + 1) w z (record { loops = ap (λ ls. Some (loop_at own (asked + 1)) ∷ ls) t.others; outer = inside.outer; saved = inside.saved; captures = inside.captures })
-      (λ n. on_loop_is w t.frame t.rest (loop_at own asked) t.frames t.own (λ f k fs. next_reply w f k fs (slice_get k.items k.asked))
+      last_round j (asked + 1) w z (record { loops = ap (λ ls. Some (loop_at own (asked + 1)) ∷ ls) t.others; outer = inside.outer; floor = inside.floor; saved = inside.saved; captures = inside.captures; meets = inside.meets; loads = inside.loads; added = inside.added })
+      (λ n. on_loop_is w t.frame t.rest (loop_at own asked) t.frames (may_close names base w (frame_at own asked) floored inside t) t.own (λ f k fs. next_reply w f k fs (slice_get k.items k.asked))
       ∙ ap (next_reply w t.frame (loop_at own asked) t.rest) none)
   rounds_by zero j asked few turns w inside t (Some v) some = absurd (omega (arith, slice_get_within own.items asked v some))
   rounds_by (suc d) j asked few turns w inside t (Some v) some =
       let z : World = record w { frames = record t.frame { locals = []; loop = Some (loop_at own (asked + 1)) } ∷ t.rest } in
-      next_round j (asked + 1) w z v (record { loops = ap (λ ls. Some (loop_at own (asked + 1)) ∷ ls) t.others; outer = inside.outer; saved = inside.saved; captures = inside.captures }) turns
+      next_round j (asked + 1) w z v (record { loops = ap (λ ls. Some (loop_at own (asked + 1)) ∷ ls) t.others; outer = inside.outer; floor = inside.floor; saved = inside.saved; captures = inside.captures; meets = inside.meets; loads = inside.loads; added = inside.added }) turns
       (λ u kept. rounds_by d (suc j) (asked + 1) (omega arith) turns u kept (top u (Some (loop_at own (asked + 1))) (loops_of base.frames) kept.loops) (slice_get own.items (asked + 1)) refl)
-      (λ n. on_loop_is w t.frame t.rest (loop_at own asked) t.frames t.own (λ f k fs. next_reply w f k fs (slice_get k.items k.asked))
+      (λ n. on_loop_is w t.frame t.rest (loop_at own asked) t.frames (may_close names base w (frame_at own asked) floored inside t) t.own (λ f k fs. next_reply w f k fs (slice_get k.items k.asked))
       ∙ ap (next_reply w t.frame (loop_at own asked) t.rest) some)
 
-  pub settles_rounds : (d j asked : ℕ) → length own.items ≤ asked + d → Turns → (w : World) → InRound base own asked w → Ends j w
+  pub settles_rounds : (d j asked : ℕ) → length own.items ≤ asked + d → Turns → (w : World) → InRound names base own asked w → Ends j w
   settles_rounds d j asked few turns w inside =
       rounds_by d j asked few turns w inside (top w (Some (loop_at own asked)) (loops_of base.frames) inside.loops) (slice_get own.items asked) refl

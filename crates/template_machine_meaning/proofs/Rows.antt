@@ -1,7 +1,7 @@
 -- Worked rows, computed: texts, prices and ends.
-use Rattle.std.proofs.Common.{◌≡◌, ℕ, suc, ◌+◌, ◌==◌, pos, true, false, List, [], ◌∷◌, None, Some, Option, codes, bytes_eq, refl}
+use Rattle.std.proofs.Common.{◌++◌, Ok, ◌≡◌, ℕ, suc, ◌+◌, ◌==◌, pos, true, false, List, [], ◌∷◌, None, Some, Option, codes, bytes_eq, refl}
 use Rattle.std.specs.Prelude.{if◌then◌else◌, unwrap_or}
-use Rattle.template_values_errors.specs.declared.ErrorKind.TheVariants.{WriteFailure, InvalidOperation, UndefinedError, TooManyArguments, UnknownFilter, UnknownTest, UnknownFunction, CannotUnpack, BadInclude, OutOfFuel}
+use Rattle.template_values_errors.specs.declared.ErrorKind.TheVariants.{WriteFailure, InvalidOperation, UndefinedError, TooManyArguments, UnknownFilter, UnknownTest, UnknownFunction, CannotUnpack, BadInclude, OutOfFuel, UnknownBlock}
 use Rattle.template_values_errors.specs.declared.modes.AutoEscape.TheVariants as escapes
 use Rattle.template_values_errors.specs.declared.modes.UndefinedBehavior.{UndefinedBehavior}
 use Rattle.template_values_errors.specs.declared.modes.UndefinedBehavior.TheVariants.{Lenient, Strict}
@@ -13,6 +13,7 @@ use Rattle.template_values_forms.specs.Printed as printed_forms
 use Rattle.template_tree.specs.Tree as tree
 use Rattle.template_tree.specs.Tree.{Expression, Expressions, Arguments, Statement, Statements, variable, constant, binary, chain, filtered, tested, attribute, call, list_literal, absent, given, no_expressions, expressions_more, no_arguments, arguments_more, positional, keyword, positional_spread, keyword_spread, no_links, links_more, raw, print, for_loop, set, set_block, filter_block, no_statements, statements_more}
 use Rattle.template_callables.specs.Callables.{filter, lookup, finishes, refuses, goes_on, Says, Callables, no_callables}
+use Rattle.template_callables.specs.Joins.{Joins, keeps_name}
 use Rattle.template_process.specs.Drive.{End, ends, faults}
 use Rattle.template_process.specs.Trace.{Run, text_of, price_of}
 use Rattle.template_process.specs.Fuel.{under}
@@ -47,7 +48,7 @@ globals more = record {
 
 -- one template, named `b`, stands
 abbrev setting : UndefinedBehavior → List (List ℕ × Val) → Statements → Setting
-setting mode more b = record { templates = λ name. named (codes "b") name b; globals = globals more; callables = no_callables; limit = 500; undefined = mode }
+setting mode more b = record { templates = λ name. named (codes "b") name b; joins = keeps_name; globals = globals more; callables = no_callables; limit = 500; undefined = mode }
 
 -- one named `a` is rendered
 abbrev run_under : Setting → List Statement → Val → Run World
@@ -352,6 +353,7 @@ brought = record {
 abbrev bringing : ℕ → Statements → Setting
 bringing limit b = record {
   templates = λ name. named (codes "b") name b;
+  joins = keeps_name;
   globals = globals ((codes "f", function 0 3) ∷ (codes "g", function 0 4) ∷ []);
   callables = brought;
   limit = limit;
@@ -407,6 +409,17 @@ method_text = refl
 kept_text : text_of (brought_run (filtering (codes "kept") 1 ∷ filtering (codes "keep") 5 ∷ filtering (codes "kept") 1 ∷ [])).items ≡ codes "55"
 unfolding printed_forms.level_limit fmt.digits
 kept_text = refl
+
+-- `{% for i in [1, 2] %}{% set t = loop|keep %}{% endfor %}{{ (1|kept).index }}{{ (1|kept).last }}{{ (1|kept).cycle(1, 2, 3) }}`
+abbrev kept_item : Expression
+kept_item = filtered (codes "kept") (given (number 1)) no_arguments
+
+kept_value_text : text_of (brought_run (for_loop (variable (codes "i")) (list_literal (expressions (number 1 ∷ number 2 ∷ []))) absent false
+    (statements (set (variable (codes "t")) (filtered (codes "keep") (given (variable (codes "loop"))) no_arguments) ∷ [])) no_statements
+    ∷ print (attribute kept_item (codes "index")) ∷ print (attribute kept_item (codes "last"))
+    ∷ print (call (attribute kept_item (codes "cycle")) (passing (number 1 ∷ number 2 ∷ number 3 ∷ []))) ∷ [])).items ≡ codes "3false3"
+unfolding printed_forms.level_limit fmt.digits
+kept_value_text = refl
 
 -- `{{ f(4) }}` and `{{ g(4) }}`: nothing has the number 4
 abbrev calling : List ℕ → Statement
@@ -479,3 +492,123 @@ short_include_end = refl
 whole_include_text : text_of (under (Some 3) short_include).items ≡ codes "x"
 unfolding printed_forms.level_limit fmt.digits
 whole_include_text = refl
+
+-- Blocks, layouts and imports.
+abbrev prints : Expression → Statement
+prints e = print e
+
+abbrev name_of_template : List ℕ → Expression
+name_of_template name = constant (text name)
+
+abbrev a_block : List ℕ → List Statement → Statement
+a_block name body = tree.block name false (statements body)
+
+abbrev super_call : Expression
+super_call = call (variable (codes "super")) no_arguments
+
+-- templates that stand, by their names
+abbrev found_among : List ℕ → List (List ℕ × List Statement) → Option Standing
+found_among name [] = None
+found_among name (t ∷ ts) = if bytes_eq t.0 name then Some (record { name = t.0; tree = statements t.1; escape = escapes.None }) else found_among name ts
+
+abbrev site : Joins → List (List ℕ × List Statement) → Setting
+site joins ts = record { templates = λ name. found_among name ts; joins = joins; globals = globals []; callables = no_callables; limit = 500; undefined = Lenient }
+
+abbrev site_run : Joins → List (List ℕ × List Statement) → List Statement → Val → Run World
+site_run joins ts ss context = rendered (site joins ts) 0 9 (record { name = codes "c"; tree = statements ss; escape = escapes.None }) context
+
+abbrev Writes : Run World → List ℕ → ℕ → End → Type 0
+Writes r bytes price end = (text_of r.items ≡ bytes) × (price_of r.items ≡ price) × (r.end ≡ end)
+
+-- p = `{% block b %}{% endblock %}`, c = `{% extends "p" %}{% for x in [1] %}{% block b %}{{ x }}{% endblock %}{% endfor %}`, x 5
+abbrev loop_with_block : Statement
+loop_with_block = for_loop (variable (codes "x")) (list_literal (expressions (number 1 ∷ []))) absent false (statements (a_block (codes "b") (print (variable (codes "x")) ∷ []) ∷ [])) no_statements
+
+overridden : Writes (site_run keeps_name ((codes "p", a_block (codes "b") [] ∷ []) ∷ []) (tree.extends (name_of_template (codes "p")) ∷ loop_with_block ∷ []) (only (codes "x") (int (pos 5)))) (codes "5") 8 (ends [])
+unfolding printed_forms.level_limit fmt.digits
+overridden = (refl, refl, refl)
+
+-- p = `A{% block b %}x{% endblock %}C`, c = `{% extends "p" %}{% block b %}y{{ super() }}{% endblock %}`
+abbrev layout : List Statement
+layout = raw (codes "A") ∷ a_block (codes "b") (raw (codes "x") ∷ []) ∷ raw (codes "C") ∷ []
+
+abbrev page : List Statement
+page = tree.extends (name_of_template (codes "p")) ∷ a_block (codes "b") (raw (codes "y") ∷ print super_call ∷ []) ∷ []
+
+extended : Writes (site_run keeps_name ((codes "p", layout) ∷ []) page undefined) (codes "AyxC") 7 (ends [])
+unfolding printed_forms.level_limit fmt.digits
+extended = (refl, refl, refl)
+
+-- p = `{% block b %}{% include "i" %}{% endblock %}`, i = `{{ super() }}`, p is rendered
+super_in_an_include : Writes (site_run keeps_name ((codes "i", print super_call ∷ []) ∷ []) (a_block (codes "b") (tree.include (name_of_template (codes "i")) false ∷ []) ∷ []) undefined)
+    [] 3 (faults (BadInclude ∷ InvalidOperation ∷ []))
+unfolding printed_forms.level_limit fmt.digits
+super_in_an_include = (refl, refl, refl)
+
+-- d/x = `{% extends "x" %}`, names are joined to `d/`
+abbrev in_folder : Joins
+in_folder name parent = Ok (codes "d/" ++ name)
+
+joined_to_itself : Writes (rendered (site in_folder ((codes "d/x", tree.extends (name_of_template (codes "x")) ∷ []) ∷ [])) 0 9 (record { name = codes "d/x"; tree = statements (tree.extends (name_of_template (codes "x")) ∷ []); escape = escapes.None }) undefined)
+    [] 0 (faults (InvalidOperation ∷ []))
+unfolding printed_forms.level_limit fmt.digits
+joined_to_itself = (refl, refl, refl)
+
+-- a = `{% from "b" import v %}{{ v }}`, b empty, v 3
+imported_from_outside : Writes (site_run keeps_name ((codes "b", []) ∷ []) (tree.from_import (name_of_template (codes "b")) (tree.imports_more (variable (codes "v")) absent tree.no_imports) ∷ print (variable (codes "v")) ∷ []) (only (codes "v") (int (pos 3))))
+    (codes "3") 6 (ends [])
+unfolding printed_forms.level_limit fmt.digits
+imported_from_outside = (refl, refl, refl)
+
+-- b = `t{% set v = 1 %}{% set _w = 2 %}`, `{% import "b" as m %}{{ m.v }}{{ m }}{{ m._w }}`
+a_module : Writes (site_run keeps_name ((codes "b", raw (codes "t") ∷ set (variable (codes "v")) (number 1) ∷ set (variable (codes "_w")) (number 2) ∷ []) ∷ [])
+    (tree.import (name_of_template (codes "b")) (variable (codes "m")) ∷ print (attribute (variable (codes "m")) (codes "v")) ∷ print (variable (codes "m")) ∷ print (attribute (variable (codes "m")) (codes "_w")) ∷ []) undefined)
+    (codes "1t") 14 (ends [])
+unfolding printed_forms.level_limit fmt.digits
+a_module = (refl, refl, refl)
+
+-- `{% extends "p" %}{% extends "p" %}`; a = `{% extends "a" %}`; `{% extends 1 %}`
+extended_twice : Writes (site_run keeps_name ((codes "p", raw (codes "P") ∷ []) ∷ []) (tree.extends (name_of_template (codes "p")) ∷ tree.extends (name_of_template (codes "p")) ∷ []) undefined) [] 0 (faults (InvalidOperation ∷ []))
+unfolding printed_forms.level_limit fmt.digits
+extended_twice = (refl, refl, refl)
+
+extends_itself : Writes (site_run keeps_name ((codes "c", tree.extends (name_of_template (codes "c")) ∷ []) ∷ []) (tree.extends (name_of_template (codes "c")) ∷ []) undefined) [] 0 (faults (InvalidOperation ∷ []))
+unfolding printed_forms.level_limit fmt.digits
+extends_itself = (refl, refl, refl)
+
+-- p = `P`, b = `{% extends "p" %}`, `{% include "b" %}{% include "b" %}`
+extended_in_includes : Writes (site_run keeps_name ((codes "b", tree.extends (name_of_template (codes "p")) ∷ []) ∷ (codes "p", raw (codes "P") ∷ []) ∷ []) (tree.include (name_of_template (codes "b")) false ∷ tree.include (name_of_template (codes "b")) false ∷ []) undefined)
+    (codes "PP") 4 (ends [])
+unfolding printed_forms.level_limit fmt.digits
+extended_in_includes = (refl, refl, refl)
+
+-- p = `P`, i = `{% block b %}{{ 1 // 0 }}{% endblock %}`, c = `{% extends "p" %}{% include "i" %}`
+dropped_block : Writes (site_run keeps_name ((codes "i", a_block (codes "b") (print (binary operators.FloorDiv (number 1) (number 0)) ∷ []) ∷ []) ∷ (codes "p", raw (codes "P") ∷ []) ∷ []) (tree.extends (name_of_template (codes "p")) ∷ tree.include (name_of_template (codes "i")) false ∷ []) undefined)
+    (codes "P") 3 (ends [])
+unfolding printed_forms.level_limit fmt.digits
+dropped_block = (refl, refl, refl)
+
+-- p = `{% block b %}x{% endblock %}{% include "i" %}`, i = `{% block b %}i{% endblock %}`
+own_blocks : Writes (site_run keeps_name ((codes "i", a_block (codes "b") (raw (codes "i") ∷ []) ∷ []) ∷ []) (a_block (codes "b") (raw (codes "x") ∷ []) ∷ tree.include (name_of_template (codes "i")) false ∷ []) undefined)
+    (codes "xi") 5 (ends [])
+unfolding printed_forms.level_limit fmt.digits
+own_blocks = (refl, refl, refl)
+
+-- `{{ self.b() }}` and `{% set t = self.b() %}` and `{% set t = super() %}`
+called_by_self : Writes (site_run keeps_name [] (a_block (codes "b") (raw (codes "x") ∷ []) ∷ print (call (attribute (variable (codes "self")) (codes "b")) no_arguments) ∷ set (variable (codes "t")) (call (attribute (variable (codes "self")) (codes "b")) no_arguments) ∷ print (variable (codes "t")) ∷ []) undefined)
+    (codes "xxx") 10 (ends [])
+unfolding printed_forms.level_limit fmt.digits
+called_by_self = (refl, refl, refl)
+
+stored_super : Writes (site_run keeps_name ((codes "p", layout) ∷ []) (tree.extends (name_of_template (codes "p")) ∷ a_block (codes "b") (set (variable (codes "t")) super_call ∷ print (variable (codes "t")) ∷ print (variable (codes "t")) ∷ []) ∷ []) undefined) (codes "AxxC") 11 (ends [])
+unfolding printed_forms.level_limit fmt.digits
+stored_super = (refl, refl, refl)
+
+-- a required block that nobody gives
+lacking : Writes (site_run keeps_name [] (tree.block (codes "b") true (statements []) ∷ []) undefined) [] 1 (faults (InvalidOperation ∷ []))
+unfolding printed_forms.level_limit fmt.digits
+lacking = (refl, refl, refl)
+
+unknown_block : Writes (site_run keeps_name [] (print (call (attribute (variable (codes "self")) (codes "q")) no_arguments) ∷ []) undefined) [] 1 (faults (UnknownBlock ∷ []))
+unfolding printed_forms.level_limit fmt.digits
+unknown_block = (refl, refl, refl)

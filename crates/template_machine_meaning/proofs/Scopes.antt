@@ -1,5 +1,5 @@
 -- Stores, attributes, frames, loops and escapes settle, and keep what the world around them has.
-use Rattle.std.proofs.Common.{◌≡◌, ℕ, Bool, true, false, List, [], ◌∷◌, ◌==◌, length, slice_set, Option, None, Some, Ok, Err, refl, sym, ap, ◌∙◌}
+use Rattle.std.proofs.Common.{◌≡◌, ℕ, ◌≤◌, Bool, true, false, List, [], ◌∷◌, ◌==◌, length, slice_set, Option, None, Some, Ok, Err, refl, sym, ap, ◌∙◌}
 use Rattle.std.specs.BTreeMap.{insert_entry}
 use Rattle.std.specs.Prelude.{if◌then◌else◌}
 use Rattle.template_values_errors.specs.declared.ErrorKind.TheVariants.{InvalidOperation, CannotUnpack}
@@ -12,102 +12,91 @@ use Rattle.template_process.specs.Trace.{run, replied}
 use Rattle.template_walk.specs.Statements.{number_of, target_walk, targets_walk, assignments_walk}
 use Rattle.template_walk.specs.Expressions.{expression_walk}
 use Rattle.template_walk.specs.Runnable.{IsTarget, AreTargets, AreAssignments}
-use Rattle.template_machine_meaning.specs.World.{Loop, Frame, World, put_local, has_room}
+use Rattle.template_machine_meaning.specs.World.{Frame, World, put_local, depth_of, has_room}
 use Rattle.template_machine_meaning.specs.Records.{known_of}
 use Rattle.template_machine_meaning.specs.Replies.{changed, replied_with, changed_with}
 use Rattle.template_machine_meaning.specs.Namespaces.{may_hold_loop, put_attribute}
 use Rattle.template_machine_meaning.specs.Surroundings.{Programs, unpacked, unpacked_into, pushed, answer}
 use Rattle.template_machine_meaning.proofs.Settling.{Walk, Settles, settles_then, settles_now, settles_step, settles_refused, settles_before, settles_to}
-use Rattle.template_machine_meaning.proofs.Keeping.{Keeps, loops_of, Top, top, on_frames_is}
-use Rattle.template_machine_meaning.proofs.Expressions.{Kept, settles_expression}
+use Rattle.template_machine_meaning.proofs.Keeping.{Keeps, loops_of, Top, top, IsFramed, behind_frame, may_close, on_frames_is, on_own_is}
+use Rattle.template_machine_meaning.proofs.Entering.{AllCome}
+use Rattle.template_machine_meaning.proofs.Blocks.{Kept}
+use Rattle.template_machine_meaning.proofs.Expressions.{settles_expression}
 
--- there is a frame
-pub record IsFramed (w : World) : Type 0 where
-  pub loop : Option Loop
-  pub others : List (Option Loop)
-  pub loops : loops_of w.frames ≡ loop ∷ others
-
-pub framed_on : (base w : World) → IsFramed base → Keeps base w → IsFramed w
-framed_on base w framed kept = record { loop = framed.loop; others = framed.others; loops = kept.loops ∙ framed.loops }
-
-module _ (s : Programs) (base : World) (framed : IsFramed base) where
+module _ (names : List (List ℕ)) (s : Programs) (depth : ℕ) (deeper : AllCome names s depth) (base : World) (framed : IsFramed base) (deep : depth ≤ depth_of base) where
   -- what settles from every world that keeps what the base has
   abbrev Stays : Walk (Unit {0}) → Type 0
-  Stays P = (w : World) → Keeps base w → Settles {O = Unit {0}} s w (Kept base) P
+  Stays P = (w : World) → Keeps names base w → Settles {O = Unit {0}} s w (Kept names base) P
 
   stored : (name : List ℕ) (v : Val) → Stays (λ m go. step (asks (store name v) (on_done (go tt))))
   stored name v w kept =
       let t = top w framed.loop framed.others (kept.loops ∙ framed.loops) in
       let z : World = record w { frames = record t.frame { locals = put_local name v t.frame.locals } ∷ t.rest } in
-      let kept_there : Keeps base z = record { loops = sym (ap loops_of t.frames) ∙ kept.loops; outer = kept.outer; saved = kept.saved; captures = kept.captures } in
-      settles_step s w (Kept base) (λ m go. asks (store name v) (on_done (go tt)))
-      (settles_to s w z (Kept base) (store name v) (λ m go. go tt)
+      let kept_there : Keeps names base z = record { loops = sym (ap loops_of t.frames) ∙ kept.loops; outer = kept.outer; floor = kept.floor; saved = kept.saved; captures = kept.captures; meets = kept.meets; loads = kept.loads; added = kept.added } in
+      settles_step s w (Kept names base) (λ m go. asks (store name v) (on_done (go tt)))
+      (settles_to s w z (Kept names base) (store name v) (λ m go. go tt)
       (λ n. on_frames_is w t.frame t.rest t.frames (λ f fs. changed (record w { frames = record f { locals = put_local name v f.locals } ∷ fs }) done))
-      (settles_now s z (Kept base) tt kept_there))
+      (settles_now s z (Kept names base) tt kept_there))
 
   -- the items of a value, where they are as many as there are targets
-  counted_by : (n : ℕ) (v : Val) (w : World) → Keeps base w → (Q : List Val → Walk (Unit {0})) → ((vs : List Val) → Stays (Q vs)) → (vs : List Val) → unpacked v ≡ Some vs
-      → (b : Bool) → (length vs == n) ≡ b → Settles {O = Unit {0}} s w (Kept base) (λ m go. asks (unpack n v) (on_items n (λ us. Q us m go)))
+  counted_by : (n : ℕ) (v : Val) (w : World) → Keeps names base w → (Q : List Val → Walk (Unit {0})) → ((vs : List Val) → Stays (Q vs)) → (vs : List Val) → unpacked v ≡ Some vs
+      → (b : Bool) → (length vs == n) ≡ b → Settles {O = Unit {0}} s w (Kept names base) (λ m go. asks (unpack n v) (on_items n (λ us. Q us m go)))
   counted_by n v w kept Q stays vs is true e =
-      settles_before s w w (Kept base) [] 0 (λ m go. asks (unpack n v) (on_items n (λ us. Q us m go))) (Q vs)
+      settles_before s w w (Kept names base) [] 0 (λ m go. asks (unpack n v) (on_items n (λ us. Q us m go))) (Q vs)
       (λ k m le ge go.
       ap (λ o. replied (λ a t. run (answer s k) (on_items n (λ us. Q us m go) a) t) (replied_with w items (unpacked_into n o))) is
       ∙ ap (λ b. replied (λ a t. run (answer s k) (on_items n (λ us. Q us m go) a) t) (replied_with w items (if b then Ok vs else Err CannotUnpack))) e
       ∙ ap (λ b. run (answer s k) (if b then Q vs m go else amiss) w) e)
       (stays vs w kept)
   counted_by n v w kept Q stays vs is false e =
-      settles_refused s w (Kept base) (unpack n v) CannotUnpack (λ m go. on_items n (λ us. Q us m go))
+      settles_refused s w (Kept names base) (unpack n v) CannotUnpack (λ m go. on_items n (λ us. Q us m go))
       (λ k. ap (λ o. replied_with w items (unpacked_into n o)) is ∙ ap (λ b. replied_with w items (if b then Ok vs else Err CannotUnpack)) e)
 
-  unpacked_by : (n : ℕ) (v : Val) (w : World) → Keeps base w → (Q : List Val → Walk (Unit {0})) → ((vs : List Val) → Stays (Q vs))
-      → (o : Option (List Val)) → unpacked v ≡ o → Settles {O = Unit {0}} s w (Kept base) (λ m go. asks (unpack n v) (on_items n (λ vs. Q vs m go)))
+  unpacked_by : (n : ℕ) (v : Val) (w : World) → Keeps names base w → (Q : List Val → Walk (Unit {0})) → ((vs : List Val) → Stays (Q vs))
+      → (o : Option (List Val)) → unpacked v ≡ o → Settles {O = Unit {0}} s w (Kept names base) (λ m go. asks (unpack n v) (on_items n (λ vs. Q vs m go)))
   unpacked_by n v w kept Q stays None is =
-      settles_refused s w (Kept base) (unpack n v) CannotUnpack (λ m go. on_items n (λ vs. Q vs m go)) (λ k. ap (λ o. replied_with w items (unpacked_into n o)) is)
+      settles_refused s w (Kept names base) (unpack n v) CannotUnpack (λ m go. on_items n (λ vs. Q vs m go)) (λ k. ap (λ o. replied_with w items (unpacked_into n o)) is)
   unpacked_by n v w kept Q stays (Some vs) is = counted_by n v w kept Q stays vs is (length vs == n) refl
 
   -- a namespace that is known takes the value, one that is not refuses it
-  put_by : (name : List ℕ) (v holder : Val) (number : ℕ) (w : World) → Keeps base w → (o : Option (List (Val × Val)))
+  put_by : (name : List ℕ) (v holder : Val) (number : ℕ) (w : World) → Keeps names base w → (o : Option (List (Val × Val)))
       → ((n : ℕ) → answer s n w (set_attribute name v holder) ≡ changed_with w (λ after. done) (λ after. after) (put_attribute w number name v o))
-      → Settles {O = Unit {0}} s w (Kept base) (λ m go. asks (set_attribute name v holder) (on_done (go tt)))
-  put_by name v holder number w kept None is = settles_refused s w (Kept base) (set_attribute name v holder) InvalidOperation (λ m go. on_done (go tt)) is
+      → Settles {O = Unit {0}} s w (Kept names base) (λ m go. asks (set_attribute name v holder) (on_done (go tt)))
+  put_by name v holder number w kept None is = settles_refused s w (Kept names base) (set_attribute name v holder) InvalidOperation (λ m go. on_done (go tt)) is
   put_by name v holder number w kept (Some entries) is =
       let z : World = record w { namespaces = slice_set w.namespaces number (insert_entry val_cmp entries (values.text name) v); held = if may_hold_loop v then w.opened else w.held } in
-      let kept_there : Keeps base z = record { loops = kept.loops; outer = kept.outer; saved = kept.saved; captures = kept.captures } in
-      settles_to s w z (Kept base) (set_attribute name v holder) (λ m go. go tt) is (settles_now s z (Kept base) tt kept_there)
+      let kept_there : Keeps names base z = record { loops = kept.loops; outer = kept.outer; floor = kept.floor; saved = kept.saved; captures = kept.captures; meets = kept.meets; loads = kept.loads; added = kept.added } in
+      settles_to s w z (Kept names base) (set_attribute name v holder) (λ m go. go tt) is (settles_now s z (Kept names base) tt kept_there)
 
   attribute_set : (name : List ℕ) (v holder : Val) → Stays (λ m go. asks (set_attribute name v holder) (on_done (go tt)))
   attribute_set name v (values.namespace id number) w kept =
       put_by name v (values.namespace id number) number w kept ((known_of w).namespaces id number) (λ n. refl)
-  attribute_set name v holder w kept = settles_refused s w (Kept base) (set_attribute name v holder) InvalidOperation (λ m go. on_done (go tt)) (λ n. refl)
+  attribute_set name v holder w kept = settles_refused s w (Kept names base) (set_attribute name v holder) InvalidOperation (λ m go. on_done (go tt)) (λ n. refl)
 
   mutual
     pub settles_target : (target : Expression) → IsTarget target → (v : Val) → Stays (λ m go. target_walk target v (go tt))
     settles_target (variable name) h v w kept = stored name v w kept
     settles_target (attribute e name) h v w kept =
-        settles_then s w (Kept base) (Kept base) (λ m go. expression_walk e go) (λ holder m go. step (asks (set_attribute name v holder) (on_done (go tt)))) (settles_expression s base e h w kept)
-        (λ holder x k. settles_step s x (Kept base) (λ m go. asks (set_attribute name v holder) (on_done (go tt))) (attribute_set name v holder x k))
+        settles_then s w (Kept names base) (Kept names base) (λ m go. expression_walk e go) (λ holder m go. step (asks (set_attribute name v holder) (on_done (go tt)))) (settles_expression names s depth deeper base deep e h w kept)
+        (λ holder x k. settles_step s x (Kept names base) (λ m go. asks (set_attribute name v holder) (on_done (go tt))) (attribute_set name v holder x k))
     settles_target (list_literal targets) h v w kept =
-        settles_step s w (Kept base) (λ m go. asks (unpack (number_of targets) v) (on_items (number_of targets) (λ vs. targets_walk targets vs (go tt))))
+        settles_step s w (Kept names base) (λ m go. asks (unpack (number_of targets) v) (on_items (number_of targets) (λ vs. targets_walk targets vs (go tt))))
         (unpacked_by (number_of targets) v w kept (λ vs m go. targets_walk targets vs (go tt)) (λ vs. settles_targets targets h vs) (unpacked v) refl)
     settles_target _ h v w kept = absurd h
 
     settles_targets : (targets : Expressions) → AreTargets targets → (vs : List Val) → Stays (λ m go. targets_walk targets vs (go tt))
-    settles_targets no_expressions h vs w kept = settles_now s w (Kept base) tt kept
-    settles_targets (expressions_more target targets) h [] w kept = settles_now s w (Kept base) tt kept
+    settles_targets no_expressions h vs w kept = settles_now s w (Kept names base) tt kept
+    settles_targets (expressions_more target targets) h [] w kept = settles_now s w (Kept names base) tt kept
     settles_targets (expressions_more target targets) h (v ∷ vs) w kept =
-        settles_then s w (Kept base) (Kept base) (λ m go. target_walk target v (go tt)) (λ o m go. targets_walk targets vs (go tt)) (settles_target target h.0 v w kept)
+        settles_then s w (Kept names base) (Kept names base) (λ m go. target_walk target v (go tt)) (λ o m go. targets_walk targets vs (go tt)) (settles_target target h.0 v w kept)
         (λ o x k. settles_targets targets h.1 vs x k)
 
   pub settles_assignments : (assignments : Assignments) → AreAssignments assignments → Stays (λ m go. assignments_walk assignments (go tt))
-  settles_assignments no_assignments h w kept = settles_now s w (Kept base) tt kept
+  settles_assignments no_assignments h w kept = settles_now s w (Kept names base) tt kept
   settles_assignments (assignments_more target e more) h w kept =
-      settles_then s w (Kept base) (Kept base) (λ m go. expression_walk e go) (λ v m go. target_walk target v (assignments_walk more (go tt))) (settles_expression s base e h.1 w kept)
-      (λ v x k. settles_then s x (Kept base) (Kept base) (λ m go. target_walk target v (go tt)) (λ o m go. assignments_walk more (go tt)) (settles_target target h.0 v x k)
+      settles_then s w (Kept names base) (Kept names base) (λ m go. expression_walk e go) (λ v m go. target_walk target v (assignments_walk more (go tt))) (settles_expression names s depth deeper base deep e h.1 w kept)
+      (λ v x k. settles_then s x (Kept names base) (Kept names base) (λ m go. target_walk target v (go tt)) (λ o m go. assignments_walk more (go tt)) (settles_target target h.0 v x k)
       (λ o y l. settles_assignments more h.2 y l))
-
--- a frame in front of those of a world, with a loop or none
-abbrev pub behind_frame : World → Frame → World
-behind_frame w f = record w { frames = f ∷ w.frames }
 
 -- where a frame is pushed there is room for it, or the event is refused
 pub settles_pushed : {O : Type 0} (s : Programs) (w u : World) (shape : O → World → Type 0) (e : Ask) (f : Frame) (Q : Walk O) (room : Bool) → has_room s.around.limit 1 u ≡ room
@@ -118,14 +107,16 @@ settles_pushed s w u shape e f Q false room is q =
     settles_refused s w shape e InvalidOperation (λ m go. on_done (Q m go)) (λ n. is n ∙ ap (λ b. changed_with w (λ after. done) (λ after. after) (if b then Ok (behind_frame u f) else Err InvalidOperation)) room)
 
 -- a world behind a frame whose loop is this one, or any: what is kept there keeps the base once the frame is closed
-closed : (base w : World) (f : Frame) → Keeps (behind_frame base f) w → (t : Top w f.loop (loops_of base.frames)) → Keeps base (record w { frames = t.rest })
-closed base w f kept t = record { loops = t.others; outer = kept.outer; saved = kept.saved; captures = kept.captures }
+closed : (names : List (List ℕ)) (base w : World) (f : Frame) → Keeps names (behind_frame base f) w → (t : Top w f.loop (loops_of base.frames)) → Keeps names base (record w { frames = t.rest })
+closed names base w f kept t = record { loops = t.others; outer = kept.outer; floor = kept.floor; saved = kept.saved; captures = kept.captures; meets = kept.meets; loads = kept.loads; added = kept.added }
 
 -- a frame is closed
-pub settles_closed : {O : Type 0} (s : Programs) (base w : World) (f : Frame) → Keeps (behind_frame base f) w → (shape : O → World → Type 0) (o : O)
-    → ((z : World) → Keeps base z → shape o z) → Settles {O = O} s w shape (λ m go. asks close_frame (on_done (go o)))
-settles_closed s base w f kept shape o shaped =
+pub settles_closed : {O : Type 0} (names : List (List ℕ)) (s : Programs) (base w : World) (f : Frame) → base.floor ≤ length base.frames → Keeps names (behind_frame base f) w
+    → (shape : O → World → Type 0) (Q : Walk O) → ((z : World) → Keeps names base z → Settles {O = O} s z shape Q)
+    → Settles {O = O} s w shape (λ m go. asks close_frame (on_done (Q m go)))
+settles_closed names s base w f floored kept shape Q next =
     let t = top w f.loop (loops_of base.frames) kept.loops in
     let z : World = record w { frames = t.rest } in
-    settles_to s w z shape close_frame (λ m go. go o) (λ n. on_frames_is w t.frame t.rest t.frames (λ g gs. changed (record w { frames = gs }) done))
-    (settles_now s z shape o (shaped z (closed base w f kept t)))
+    settles_to s w z shape close_frame Q
+    (λ n. on_own_is w t.frame t.rest t.frames (may_close names base w f floored kept t) (λ g gs. changed (record w { frames = gs }) done))
+    (next z (closed names base w f kept t))

@@ -1,5 +1,5 @@
 -- Another context in the outermost frame changes no answer to what may be asked.
-use Rattle.std.proofs.Common.{◌≡◌, ℕ, suc, inl, inr, Bool, true, false, List, [], ◌∷◌, ◌++◌, map, length, Option, None, Some, refl, ap, subst}
+use Rattle.std.proofs.Common.{◌≡◌, ℕ, zero, suc, ◌-◌, ◌≤◌, inl, inr, Bool, true, false, List, [], ◌∷◌, ◌++◌, map, length, drop, Option, None, Some, refl, sym, ap, subst, ◌∙◌, arith}
 use Rattle.std.specs.Prelude.{IsTrue, IsSome, if◌then◌else◌}
 use Rattle.std.specs.Option.{option_or}
 use Rattle.std.specs.Str.{bytes_eq}
@@ -8,6 +8,8 @@ use Rattle.template_values_model.specs.Val.{Val}
 use Rattle.template_values_model.specs.Lookup.{value_at}
 use Rattle.template_machine_meaning.specs.World.{Loop, Frame, World, local_at, known_by_loop, known_in, known_at, put_local, depth_behind, depth_within}
 use Rattle.template_machine_meaning.specs.Records.{loops_of, known_by, known_of}
+use Rattle.template_machine_meaning.specs.Plans.{outermost}
+use Rattle.template_machine_meaning.proofs.Outermost.{outermost_all, outermost_behind}
 use Rattle.template_machine_meaning.proofs.Known.{Known, base, inner, IsIn, Grows, stored, closed, cleared, IsInner, IsSafe}
 
 -- the outermost frame has the context, the others stay
@@ -140,3 +142,34 @@ module _ (names : List ℕ → Type 0) (d : Val) where
   fits_stored name v (base ids) f [] fits = (holds_put v name ids f.locals fits.0, fits.1)
   fits_stored name v (base ids) f (g ∷ fs) fits = absurd fits
   fits_stored name v (inner ids k) f fs fits = (holds_put v name ids f.locals fits.0, fits.1)
+
+  -- as many frames fit
+  pub fits_many : (k : Known) (fs gs : List Frame) → Fits k fs → Fits k gs → length fs ≡ length gs
+  fits_many (base ids) (f ∷ []) (g ∷ []) h i = refl
+  fits_many (base ids) (f ∷ []) [] h i = absurd i
+  fits_many (base ids) (f ∷ []) (g ∷ b ∷ gs) h i = absurd i
+  fits_many (base ids) [] gs h i = absurd h
+  fits_many (base ids) (f ∷ b ∷ fs) gs h i = absurd h
+  fits_many (inner ids k) (f ∷ fs) (g ∷ gs) h i = ap suc (fits_many k fs gs h.1 i.1)
+  fits_many (inner ids k) [] gs h i = absurd h
+  fits_many (inner ids k) (f ∷ fs) [] h i = absurd i
+
+  -- the outermost ones
+  drop_over : (m : ℕ) (fs : List Frame) → over_frames d (drop m fs) ≡ drop m (over_frames d fs)
+  drop_over zero fs = refl
+  drop_over (suc m) [] = refl
+  drop_over (suc m) (f ∷ fs) = drop_over m fs
+
+  pub outermost_over : (n : ℕ) (fs : List Frame) → outermost n (over_frames d fs) ≡ over_frames d (outermost n fs)
+  outermost_over n fs = ap (λ k. drop (k - n) (over_frames d fs)) (many fs) ∙ sym (drop_over (length fs - n) fs)
+
+  -- behind a run in the same frames, and in one of its own
+  pub fits_same : (k : Known) (fs gs : List Frame) → Fits k fs → Fits k gs → Fits k (outermost (length fs) gs)
+  fits_same k fs gs h i = subst (Fits k) (sym (outermost_all (length fs) gs (fits_many k gs fs i h))) i
+
+  pub fits_own : (k : Known) (fs gs : List Frame) → Fits k fs → Fits (inner [] k) gs → Fits k (outermost (length fs) gs)
+  fits_own k fs [] h i = absurd i
+  fits_own k fs (g ∷ gs) h i =
+      let many_ones : length gs ≡ length fs = fits_many k gs fs i.1 h in
+      let all : length fs ≤ length gs = omega (arith, many_ones) in
+      subst (Fits k) (sym (outermost_behind (length fs) g gs all ∙ outermost_all (length fs) gs many_ones)) i.1

@@ -1,5 +1,5 @@
 -- A walk looks up used names, and what is known from a store in a frame that is still open.
-use Rattle.std.proofs.Common.{◌≡◌, ℕ, suc, inl, inr, Bool, true, false, List, [], ◌∷◌, ◌++◌, ◌==◌, length, Option, None, Some, codes, refl, ◌∙◌, arith}
+use Rattle.std.proofs.Common.{◌≡◌, ℕ, suc, inl, inr, Bool, true, false, List, [], ◌∷◌, ◌++◌, ◌==◌, length, Option, None, Some, codes, refl, ap, ◌∙◌, arith}
 use Rattle.std.specs.Prelude.{IsTrue, not, ◌&&◌, ◌||◌, if◌then◌else◌, zero}
 use Rattle.std.specs.Str.{bytes_eq}
 use Rattle.std.proofs.lemmas.Bool.{or_cases, or_left, or_right}
@@ -11,14 +11,18 @@ use Rattle.template_tree.specs.declared.operators.UnaryOpKind.{UnaryOpKind}
 use Rattle.template_tree.specs.declared.operators.UnaryOpKind.TheVariants.{Not, Neg}
 use Rattle.template_tree.specs.declared.operators.BinOpKind.{BinOpKind}
 use Rattle.template_tree.specs.declared.operators.BinOpKind.TheVariants.{ScAnd, ScOr}
-use Rattle.template_tree.specs.Tree.{Expression, Optional, Expressions, Links, Arguments, variable, constant, slice, unary, binary, chain, conditional, attribute, item, call, filtered, tested, list_literal, tuple_literal, map_literal, absent, given, no_expressions, expressions_more, no_links, links_more, no_arguments, arguments_more, positional, keyword, positional_spread, keyword_spread, Statement, Statements, Assignments, raw, print, for_loop, if_condition, with_block, set, set_block, auto_escape, filter_block, include, continue_loop, break_loop, do_call, no_statements, statements_more, no_assignments, assignments_more}
+use Rattle.template_tree.specs.Tree.{Expression, Optional, Expressions, Links, Arguments, variable, constant, slice, unary, binary, chain, conditional, attribute, item, call, filtered, tested, list_literal, tuple_literal, map_literal, absent, given, no_expressions, expressions_more, no_links, links_more, no_arguments, arguments_more, positional, keyword, positional_spread, keyword_spread, Statement, Statements, Assignments, Imports, raw, print, for_loop, if_condition, with_block, set, set_block, auto_escape, filter_block, block, import, from_import, extends, include, continue_loop, break_loop, do_call, no_statements, statements_more, no_assignments, assignments_more, no_imports, imports_more}
+use Rattle.template_tree.specs.Kinds.{is_self_name, is_empty}
 use Rattle.template_names.proofs.Plain.{in_attribute}
+use Rattle.template_names.specs.Names as imported
 use Rattle.template_names.specs.Names.{anywhere, place_in_argument, place_in_arguments, place_in_targets, stands_in, stands_if_given, stands_in_one, stands_in_links, is_stored_in, is_stored_in_one, is_used_by_target, is_used_from, is_stored_by, is_used_by, is_used_in}
 use Rattle.template_process.specs.Process as events
 use Rattle.template_process.specs.Process.{call_function, call_method, call_value, apply_filter, perform_test, close_frame, Looping, plain_loop, open_loop, close_loop, close_escape, Answer, done, value, truth, items, no_item, Process, over, step, asks, amiss, on_done, on_value, on_truth, on_item, on_items, on_all}
 use Rattle.template_walk.specs.Constants.{constant_of}
-use Rattle.template_walk.specs.Expressions.{folded, unary_ask, binary_walk, Giving, Passing, alone, spreads, listed, stretches_walk, mapped, entries_stretches, has_spread, merged_if, keywords_walk, run_if, passed_walk, Callee, by_name, by_method, by_value, callee_of, called_walk, expression_walk, object_walk, positional_walks, keyword_walks, optional_walk, expressions_walk, walks_of, entries_walk, chain_walk, linked_walk, filter_walk, filters_walk}
-use Rattle.template_walk.specs.Statements.{Exits, outside, closing, capture_left, capturing, number_of, target_walk, targets_walk, assignments_walk, rounds, kept_rounds, sifting, iterable_walk, loop_end, past, statement_walk, statements_walk, template_walk}
+use Rattle.template_walk.specs.Expressions.{folded, unary_ask, binary_walk, Giving, Passing, alone, spreads, listed, stretches_walk, mapped, entries_stretches, has_spread, merged_if, keywords_walk, run_if, passed_walk, Callee, by_name, by_method, by_block, by_value, attribute_called, callee_of, called_walk, expression_walk, object_walk, positional_walks, keyword_walks, optional_walk, expressions_walk, walks_of, entries_walk, chain_walk, linked_walk, filter_walk, filters_walk}
+use Rattle.template_walk.specs.Statements.{Exits, outside, closing, capture_left, capturing, number_of, target_walk, targets_walk, assignments_walk, rounds, kept_rounds, sifting, iterable_walk, loop_end, Printed, prints_value, prints_block, prints_super, printed_of, printed_walk, imported_names, stored_as, imports_stored, apart, past, statement_walk, statements_walk, template_walk}
+use Rattle.template_walk.specs.Imported.{is_name, is_one_of, is_imported_by, is_imported}
+use Rattle.template_machine_meaning.specs.Isolation.{IsName, AreNames, ImportsNamesAt, ImportsNames}
 use Rattle.template_machine_meaning.proofs.Expressions.{itself, value_walk}
 use Rattle.template_machine_meaning.proofs.Known.{Known, base, inner, IsKnown, Grows, grows_itself, grows_on, known_on, stored, cleared, grows_stored, knows_stored, IsSafe, Within}
 
@@ -162,12 +166,19 @@ module _ (names : List ℕ → Type 0) (start : Known) where
         in_passed [] args each named others (λ vs. step (asks (call_function name vs) (on_value go))) (λ vs. (may, at_value k go h))
     in_called (by_method name) may whole object f g args each named others go h =
         g _ (λ v. in_passed (v ∷ []) args each named others (λ vs. step (asks (call_method name vs) (on_value go))) (λ vs. (tt, at_value k go h)))
+    in_called (by_block name) may whole object f g args each named others go h =
+        (tt, at_done k _ (tt, at_done k _ (tt, at_value k go h)))
     in_called by_value may whole object f g args each named others go h =
         f _ (λ v. in_passed (v ∷ []) args each named others (λ vs. step (asks (call_value vs) (on_value go))) (λ vs. (tt, at_value k go h)))
 
-    may_call : (callee : Expression) → Sees k (λ name. stands_in name callee) → MayCall (callee_of callee)
-    may_call (variable name) sees = sees name ((bytes_eq-Decides name name).1 refl)
-    may_call _ sees = tt
+    may_call_attribute : (b : Bool) (name : List ℕ) → MayCall (attribute_called b name)
+    may_call_attribute true name = tt
+    may_call_attribute false name = tt
+
+    may_call : (callee : Expression) (args : Arguments) → Sees k (λ name. stands_in name callee) → MayCall (callee_of callee args)
+    may_call (variable name) args sees = sees name ((bytes_eq-Decides name name).1 refl)
+    may_call (attribute e name) args sees = may_call_attribute (is_self_name e && is_empty args) name
+    may_call _ args sees = tt
 
     mutual
       pub in_expression : (e : Expression) → Sees k (λ name. stands_in name e) → Keeps (expression_walk e)
@@ -213,7 +224,7 @@ module _ (names : List ℕ → Type 0) (start : Known) where
       in_expression (call callee args) sees go h =
           let in_callee = sees_left k (λ name. stands_in name callee) (λ name. place_in_arguments (anywhere name) args) sees in
           let in_args = sees_right k (λ name. stands_in name callee) (λ name. place_in_arguments (anywhere name) args) sees in
-          in_called (callee_of callee) (may_call callee in_callee) (expression_walk callee) (object_walk callee) (in_expression callee in_callee) (in_object callee in_callee)
+          in_called (callee_of callee args) (may_call callee args in_callee) (expression_walk callee) (object_walk callee) (in_expression callee in_callee) (in_object callee in_callee)
           (positional_walks args) (in_positional args in_args) (keyword_walks args) (in_keyword args in_args) go h
       in_expression (filtered name (given e) args) sees go h =
           let in_args = sees_right k (λ id. stands_in id e) (λ id. place_in_arguments (anywhere id) args) sees in
@@ -262,6 +273,14 @@ module _ (names : List ℕ → Type 0) (start : Known) where
       in_all (expressions_more e es) sees go h =
           in_expression e (sees_left k (λ name. stands_in name e) (λ name. stands_in_one name es) sees) _
           (λ v. in_all es (sees_right k (λ name. stands_in name e) (λ name. stands_in_one name es) sees) _ (λ vs. h (v ∷ vs)))
+
+      -- there are as many as there are expressions
+      in_as_many : (es : Expressions) → Sees k (λ name. stands_in_one name es) → (go : List Val → Process) → ((vs : List Val) → length vs ≡ number_of es → In k (go vs))
+          → In k (expressions_walk es go)
+      in_as_many no_expressions sees go h = h [] refl
+      in_as_many (expressions_more e es) sees go h =
+          in_expression e (sees_left k (λ name. stands_in name e) (λ name. stands_in_one name es) sees) _
+          (λ v. in_as_many es (sees_right k (λ name. stands_in name e) (λ name. stands_in_one name es) sees) _ (λ vs many. h (v ∷ vs) (ap suc many)))
 
       in_each : (es : Expressions) → Sees k (λ name. stands_in_one name es) → Each (walks_of es)
       in_each no_expressions sees = none_left
@@ -357,6 +376,53 @@ module _ (names : List ℕ → Type 0) (start : Known) where
         (λ l grows knows. in_targets targets vs l go (omega (arith, many)) (sees_behind k l (λ name. is_stored_in name target) others grows knows (sees_right k first later sees))
         (λ m more stored_later. h m (grows_on k l m grows more)
         (λ name e. elim (or_cases (is_stored_in name target) (is_stored_in_one name targets) e) [ inl i ↦ known_on l m more name (knows name i) | inr i ↦ stored_later name i ])))
+
+  -- what is imported, from the last to the first
+  imported_one : (k l : Known) (e : Expression) (alias : Optional) (more : Imports) → Grows k l → ((name : List ℕ) → IsTrue (imported.is_imported name more) → IsKnown k name)
+      → ((name : List ℕ) → IsTrue (is_stored_in name (stored_as e alias)) → IsKnown l name)
+      → (name : List ℕ) → IsTrue (imported.is_imported name (imports_more e alias more)) → IsKnown l name
+  imported_one k l e absent more grows later here name i =
+      elim (or_cases (is_stored_in name e) (imported.is_imported name more) i) [ inl own ↦ here name own | inr other ↦ known_on k l grows name (later name other) ]
+  imported_one k l e (given alias) more grows later here name i =
+      elim (or_cases (is_stored_in name alias) (imported.is_imported name more) i) [ inl own ↦ here name own | inr other ↦ known_on k l grows name (later name other) ]
+
+  sees_no_target : (k : Known) (e : Expression) → IsName e → Sees k (λ name. is_used_by_target name e)
+  sees_no_target k (variable id) is name used = absurd (cc)
+  sees_no_target k _ is name used = absurd is
+
+  sees_no_alias : (k : Known) (e : Expression) (alias : Optional) (more : Imports) → AreNames (imports_more e alias more) → Sees k (λ name. is_used_by_target name (stored_as e alias))
+  sees_no_alias k e absent more are = sees_no_target k e are.0
+  sees_no_alias k e (given alias) more are = sees_no_target k alias are.1
+
+  more_names : (e : Expression) (alias : Optional) (more : Imports) → AreNames (imports_more e alias more) → AreNames more
+  more_names e absent more are = are.1
+  more_names e (given alias) more are = are.2
+
+  in_imports : (imports : Imports) → AreNames imports → (vs : List Val) (k : Known) (go : Process) → length vs ≡ number_of (imported_names imports)
+      → Goes k (λ name. imported.is_imported name imports) go → In k (imports_stored imports vs go)
+  in_imports no_imports are vs k go many h = nothing_stored k go h k (grows_itself k)
+  in_imports (imports_more e alias more) are [] k go many h = absurd (omega (arith, many))
+  in_imports (imports_more e alias more) are (v ∷ vs) k go many h =
+      in_imports more (more_names e alias more are) vs k _ (omega (arith, many))
+      (λ l grows knows. in_target (stored_as e alias) v l go (sees_no_alias l e alias more are)
+      (λ m wider here. h m (grows_on k l m grows wider) (imported_one l m e alias more wider knows here)))
+
+  -- a name that is imported is looked up
+  is_that_name : (k : Known) (e : Expression) → IsName e → Sees k (λ name. is_name name e) → Sees k (λ name. stands_in name e)
+  is_that_name k (variable id) is sees name used = sees name used
+  is_that_name k _ is sees name used = absurd is
+
+  first_name : (e : Expression) (alias : Optional) (more : Imports) → AreNames (imports_more e alias more) → IsName e
+  first_name e absent more are = are.0
+  first_name e (given alias) more are = are.0
+
+  sees_imported : (k : Known) (imports : Imports) → AreNames imports → Sees k (λ name. is_one_of name imports) → Sees k (λ name. stands_in_one name (imported_names imports))
+  sees_imported k no_imports are sees name used = absurd (cc)
+  sees_imported k (imports_more e alias more) are sees name used =
+      elim (or_cases (stands_in name e) (stands_in_one name (imported_names more)) used) [
+        | inl own ↦ is_that_name k e (first_name e alias more are) (sees_left k (λ id. is_name id e) (λ id. is_one_of id more) sees) name own
+        | inr other ↦ sees_imported k more (more_names e alias more are) (sees_right k (λ id. is_name id e) (λ id. is_one_of id more) sees) name other
+      ]
 
   in_assignments : (assignments : Assignments) (k : Known) (go : Process) (follows : List ℕ → Bool) → Sees k (λ name. is_used_from name assignments (follows name))
       → ((l : Known) → Grows k l → Sees l follows → In l go) → In k (assignments_walk assignments go)
@@ -477,11 +543,35 @@ module _ (names : List ℕ → Type 0) (start : Known) where
     sees_body : (k : Known) (f : List ℕ → Bool) → Sees k (λ name. not (bytes_eq name (codes "loop")) && f name) → Sees k f
     sees_body k f sees name used = unless k k name (bytes_eq name (codes "loop")) (f name) (grows_itself k) (λ e. inl (loop_is name e)) (sees name) used
 
+    -- each imported name is among the names, and is a name
+    abbrev Takes : Statement → Type 0
+    Takes st = ((name : List ℕ) → IsTrue (is_imported_by name st) → names name) × ImportsNamesAt st
+
+    abbrev TakesAll : Statements → Type 0
+    TakesAll ss = ((name : List ℕ) → IsTrue (is_imported name ss) → names name) × ImportsNames ss
+
+    takes_left : (f g : List ℕ → Bool) → ((name : List ℕ) → IsTrue (f name || g name) → names name) → (name : List ℕ) → IsTrue (f name) → names name
+    takes_left f g takes name i = takes name (or_left (f name) (g name) i)
+
+    takes_right : (f g : List ℕ → Bool) → ((name : List ℕ) → IsTrue (f name || g name) → names name) → (name : List ℕ) → IsTrue (g name) → names name
+    takes_right f g takes name i = takes name (or_right (f name) (g name) i)
+
+    -- what is printed: a value, or what a block writes by itself
+    in_printed : (p : Printed) (e : Expression) (k : Known) (go : Process) → Sees k (λ name. stands_in name e) → In k go → In k (printed_walk p (expression_walk e) go)
+    in_printed prints_value e k go sees h = in_expression k e sees _ (λ v. (tt, at_done k go h))
+    in_printed (prints_block name) e k go sees h = (tt, at_done k go h)
+    in_printed prints_super e k go sees h = (tt, at_done k go h)
+
+    -- a template runs in a frame of its own
+    in_apart : (k : Known) (e : Expression) (go : Process) → Sees k (λ name. stands_in name e) → In (inner [] k) go → In k (apart e go)
+    in_apart k e go sees h =
+        (tt, at_done (inner [] k) _ (in_expression (inner [] k) e (sees_inner k (λ name. stands_in name e) sees) _ (λ v. (tt, at_done (inner [] k) go h))))
+
     mutual
-      in_statement : (n : ℕ) (s : Statement) (k : Known) (x : Exits) (go : Process) → Sees k (λ name. is_used_by name s) → Leads k x → Goes k (λ name. is_stored_by name s) go → In k (statement_walk n s x go)
-      in_statement n (raw text) k x go sees leads h = (tt, at_done k go (nothing_stored k go h k (grows_itself k)))
-      in_statement n (print e) k x go sees leads h = in_expression k e sees _ (λ v. (tt, at_done k go (nothing_stored k go h k (grows_itself k))))
-      in_statement n (for_loop target e condition false body otherwise) k x go sees leads h =
+      in_statement : (n : ℕ) (s : Statement) → Takes s → (k : Known) (x : Exits) (go : Process) → Sees k (λ name. is_used_by name s) → Leads k x → Goes k (λ name. is_stored_by name s) go → In k (statement_walk n s x go)
+      in_statement n (raw text) takes k x go sees leads h = (tt, at_done k go (nothing_stored k go h k (grows_itself k)))
+      in_statement n (print e) takes k x go sees leads h = in_printed (printed_of e) e k go sees (nothing_stored k go h k (grows_itself k))
+      in_statement n (for_loop target e condition false body otherwise) takes k x go sees leads h =
           let after : Stays k go = nothing_stored k go h in
           let item : List ℕ → Bool = λ name. is_stored_in name target in
           let tests : List ℕ → Bool = λ name. stands_if_given name condition in
@@ -499,14 +589,14 @@ module _ (names : List ℕ → Type 0) (start : Known) where
           (λ v. in_open_loop k plain_loop v _
           (in_rounds n k _ _
           (λ l grows v y again out back. in_target target v l _ (sees_on (inner [] k) l holds grows (sees_inner k holds sees_holders)) (λ m more knows.
-          in_statements n body m y again
+          in_statements n body (takes_left (λ name. is_imported name body) (λ name. is_imported name otherwise) takes.0, takes.1.0) m y again
           (sees_body m (λ name. is_used_in name body) (sees_behind l m item inside more knows (sees_on (inner [] k) l (λ name. not (item name) && inside name) grows sees_round)))
           (leads_on (inner [] k) m y (grows_on (inner [] k) l m grows more) out)
           (stays_on (inner [] k) m again (grows_on (inner [] k) l m grows more) back)))
           (in_end otherwise k _ go
-          (λ l grows. in_statements n otherwise l x go (sees_on k l (λ name. is_used_in name otherwise) grows (sees_right k most (λ name. is_used_in name otherwise) sees)) (leads_on k l x grows leads) (stays_on k l go grows after))
+          (λ l grows. in_statements n otherwise (takes_right (λ name. is_imported name body) (λ name. is_imported name otherwise) takes.0, takes.1.1) l x go (sees_on k l (λ name. is_used_in name otherwise) grows (sees_right k most (λ name. is_used_in name otherwise) sees)) (leads_on k l x grows leads) (stays_on k l go grows after))
           after)))
-      in_statement n (if_condition e body otherwise) k x go sees leads h =
+      in_statement n (if_condition e body otherwise) takes k x go sees leads h =
           let after : Stays k go = nothing_stored k go h in
           let head : List ℕ → Bool = λ name. stands_in name e || is_used_in name body in
           let sees_head = sees_left k head (λ name. is_used_in name otherwise) sees in
@@ -514,31 +604,31 @@ module _ (names : List ℕ → Type 0) (start : Known) where
           (λ v. (
             tt,
             at_truth k _ _
-                (in_statements n body k x _ (sees_right k (λ name. stands_in name e) (λ name. is_used_in name body) sees_head) leads (in_past otherwise k go after))
-                (in_statements n otherwise k x go (sees_right k head (λ name. is_used_in name otherwise) sees) leads after),
+                (in_statements n body (takes_left (λ name. is_imported name body) (λ name. is_imported name otherwise) takes.0, takes.1.0) k x _ (sees_right k (λ name. stands_in name e) (λ name. is_used_in name body) sees_head) leads (in_past otherwise k go after))
+                (in_statements n otherwise (takes_right (λ name. is_imported name body) (λ name. is_imported name otherwise) takes.0, takes.1.1) k x go (sees_right k head (λ name. is_used_in name otherwise) sees) leads after),
           ))
-      in_statement n (with_block assignments body) k x go sees leads h = (
+      in_statement n (with_block assignments body) takes k x go sees leads h = (
         tt,
         at_done (inner [] k) _
             (in_assignments assignments (inner [] k) _ (λ name. is_used_in name body) (sees_inner k (λ name. is_used_from name assignments (is_used_in name body)) sees)
-            (λ l grows inside. in_statements n body l (closing close_frame x) _ inside (closing_frame k l x grows leads)
+            (λ l grows inside. in_statements n body takes l (closing close_frame x) _ inside (closing_frame k l x grows leads)
             (λ m more. in_close_frame k m go (grows_on (inner [] k) l m grows more) (nothing_stored k go h)))),
       )
-      in_statement n (set target e) k x go sees leads h =
+      in_statement n (set target e) takes k x go sees leads h =
           let value_of : List ℕ → Bool = λ name. stands_in name e in
           let holds : List ℕ → Bool = λ name. is_used_by_target name target in
           in_expression k e (sees_left k value_of holds sees) _ (λ v. in_target target v k go (sees_right k value_of holds sees) h)
-      in_statement n (set_block target absent body) k x go sees leads h =
+      in_statement n (set_block target absent body) takes k x go sees leads h =
           let filters : List ℕ → Bool = λ name. stands_if_given name absent in
           let holds : List ℕ → Bool = λ name. is_used_by_target name target in
           let sees_body = sees_left k (λ name. is_used_in name body) filters (sees_left k (λ name. is_used_in name body || filters name) holds sees) in
           let sees_holders = sees_right k (λ name. is_used_in name body || filters name) holds sees in (
             tt,
             at_done k _
-                (in_statements n body k (capturing x) _ sees_body (capturing_body k x leads)
+                (in_statements n body takes k (capturing x) _ sees_body (capturing_body k x leads)
                 (λ l grows. (tt, at_value l _ (λ text. in_target target text l go (sees_on k l holds grows sees_holders) (λ m more knows. h m (grows_on k l m grows more) knows))))),
           )
-      in_statement n (set_block target (given filters) body) k x go sees leads h =
+      in_statement n (set_block target (given filters) body) takes k x go sees leads h =
           let passed : List ℕ → Bool = λ name. stands_in name filters in
           let holds : List ℕ → Bool = λ name. is_used_by_target name target in
           let sees_most = sees_left k (λ name. is_used_in name body || passed name) holds sees in
@@ -546,7 +636,7 @@ module _ (names : List ℕ → Type 0) (start : Known) where
           let sees_holders = sees_right k (λ name. is_used_in name body || passed name) holds sees in (
             tt,
             at_done k _
-                (in_statements n body k (capturing x) _ (sees_left k (λ name. is_used_in name body) passed sees_most) (capturing_body k x leads)
+                (in_statements n body takes k (capturing x) _ (sees_left k (λ name. is_used_in name body) passed sees_most) (capturing_body k x leads)
                 (λ l grows. (
                   tt,
                   at_value l _
@@ -554,11 +644,11 @@ module _ (names : List ℕ → Type 0) (start : Known) where
                       (λ v. in_target target v l go (sees_on k l holds grows sees_holders) (λ m more knows. h m (grows_on k l m grows more) knows))),
                 ))),
           )
-      in_statement n (filter_block filters body) k x go sees leads h =
+      in_statement n (filter_block filters body) takes k x go sees leads h =
           let passed : List ℕ → Bool = λ name. stands_in name filters in (
             tt,
             at_done k _
-                (in_statements n body k (capturing x) _ (sees_left k (λ name. is_used_in name body) passed sees) (capturing_body k x leads)
+                (in_statements n body takes k (capturing x) _ (sees_left k (λ name. is_used_in name body) passed sees) (capturing_body k x leads)
                 (λ l grows. (
                   tt,
                   at_value l _
@@ -566,31 +656,60 @@ module _ (names : List ℕ → Type 0) (start : Known) where
                       (λ v. (tt, at_done l go (nothing_stored k go h l grows)))),
                 ))),
           )
-      in_statement n (auto_escape e body) k x go sees leads h =
+      in_statement n (auto_escape e body) takes k x go sees leads h =
           in_expression k e (sees_left k (λ name. stands_in name e) (λ name. is_used_in name body) sees) _
           (λ v. (
             tt,
             at_done k _
-                (in_statements n body k (closing close_escape x) _ (sees_right k (λ name. stands_in name e) (λ name. is_used_in name body) sees) (closing_escape k x leads)
+                (in_statements n body takes k (closing close_escape x) _ (sees_right k (λ name. stands_in name e) (λ name. is_used_in name body) sees) (closing_escape k x leads)
                 (in_close_escape k go (nothing_stored k go h))),
           ))
-      in_statement n (include e ignore_missing) k x go sees leads h = in_expression k e sees _ (λ v. (tt, at_done k go (nothing_stored k go h k (grows_itself k))))
-      in_statement n (do_call callee args) k x go sees leads h = in_expression k (call callee args) sees _ (λ v. nothing_stored k go h k (grows_itself k))
-      in_statement n continue_loop k x go sees leads h = leads.1 k (grows_itself k)
-      in_statement n break_loop k x go sees leads h = leads.0 k (grows_itself k)
-      in_statement n _ k x go sees leads h = tt
+      in_statement n (block name required body) takes k x go sees leads h = (tt, at_done k go (nothing_stored k go h k (grows_itself k)))
+      in_statement n (import e target) takes k x go sees leads h =
+          let value_of : List ℕ → Bool = λ name. stands_in name e in
+          let holds : List ℕ → Bool = λ name. is_used_by_target name target in (
+            tt,
+            at_done k _
+                (in_apart k e _ (sees_left k value_of holds sees) (
+                  tt,
+                  at_value (inner [] k) _
+                      (λ text. (
+                        tt,
+                        at_value (inner [] k) _
+                            (λ m. in_close_frame k (inner [] k) _ (grows_itself (inner [] k))
+                            (λ l grows. in_target target m l go (sees_on k l holds grows (sees_right k value_of holds sees))
+                            (λ wide wider knows. h wide (grows_on k l wide grows wider) knows))),
+                      )),
+                )),
+          )
+      in_statement n (from_import e imports) takes k x go sees leads h = (
+        tt,
+        at_done k _
+            (in_apart k e _ sees
+            (in_as_many (inner [] k) (imported_names imports) (sees_imported (inner [] k) imports takes.1 (λ name used. inl (takes.0 name used))) _
+            (λ vs many. in_close_frame k (inner [] k) _ (grows_itself (inner [] k))
+            (λ l grows. in_imports imports takes.1 vs l _ many
+            (λ wide wider knows. (tt, at_value wide _ (λ dropped. h wide (grows_on k l wide grows wider) knows))))))),
+      )
+      in_statement n (extends e) takes k x go sees leads h = in_expression k e sees _ (λ v. (tt, at_done k go (nothing_stored k go h k (grows_itself k))))
+      in_statement n (include e ignore_missing) takes k x go sees leads h = in_expression k e sees _ (λ v. (tt, at_done k go (nothing_stored k go h k (grows_itself k))))
+      in_statement n (do_call callee args) takes k x go sees leads h = in_expression k (call callee args) sees _ (λ v. nothing_stored k go h k (grows_itself k))
+      in_statement n continue_loop takes k x go sees leads h = leads.1 k (grows_itself k)
+      in_statement n break_loop takes k x go sees leads h = leads.0 k (grows_itself k)
+      in_statement n _ takes k x go sees leads h = tt
 
-      in_statements : (n : ℕ) (ss : Statements) (k : Known) (x : Exits) (go : Process) → Sees k (λ name. is_used_in name ss) → Leads k x → Stays k go → In k (statements_walk n ss x go)
-      in_statements n no_statements k x go sees leads h = h k (grows_itself k)
-      in_statements n (statements_more s ss) k x go sees leads h =
+      in_statements : (n : ℕ) (ss : Statements) → TakesAll ss → (k : Known) (x : Exits) (go : Process) → Sees k (λ name. is_used_in name ss) → Leads k x → Stays k go → In k (statements_walk n ss x go)
+      in_statements n no_statements takes k x go sees leads h = h k (grows_itself k)
+      in_statements n (statements_more s ss) takes k x go sees leads h =
           let later : List ℕ → Bool = λ name. not (is_stored_by name s) && is_used_in name ss in
-          in_statement n s k x _ (sees_left k (λ name. is_used_by name s) later sees) leads
-          (λ l grows knows. in_statements n ss l x go
+          in_statement n s (takes_left (λ name. is_imported_by name s) (λ name. is_imported name ss) takes.0, takes.1.0) k x _ (sees_left k (λ name. is_used_by name s) later sees) leads
+          (λ l grows knows. in_statements n ss (takes_right (λ name. is_imported_by name s) (λ name. is_imported name ss) takes.0, takes.1.1) l x go
           (sees_behind k l (λ name. is_stored_by name s) (λ name. is_used_in name ss) grows knows (sees_right k (λ name. is_used_by name s) later sees))
           (leads_on k l x grows leads) (stays_on k l go grows h))
 
 -- a template, from what is known on
 pub template_within : (names : List ℕ → Type 0) → ((name : List ℕ) → IsTrue (bytes_eq name (codes "loop")) → names name)
-    → (n : ℕ) (tree : Statements) → ((name : List ℕ) → IsTrue (is_used_in name tree) → names name) → (k : Known) → Within names k k (template_walk n tree)
-template_within names loop_is n tree used k =
-    in_statements names k loop_is n tree k outside (over []) (λ name u. inl (used name u)) (λ l grows. tt, λ l grows. tt) (λ l grows. grows)
+    → (n : ℕ) (tree : Statements) → ((name : List ℕ) → IsTrue (is_imported name tree) → names name) → ImportsNames tree
+    → ((name : List ℕ) → IsTrue (is_used_in name tree) → names name) → (k : Known) → Within names k k (template_walk n tree)
+template_within names loop_is n tree taken are used k =
+    in_statements names k loop_is n tree (taken, are) k outside (over []) (λ name u. inl (used name u)) (λ l grows. tt, λ l grows. tt) (λ l grows. grows)

@@ -1,5 +1,5 @@
 -- What calls come to: by themselves, by what a user's own answers, and by what that asks further.
-use Rattle.std.specs.Prelude.{ℕ, zero, suc, ◌-◌, Bool, true, false, List, [], ◌∷◌, length, Option, None, Some, option_map, Result, Ok, Err, if◌then◌else◌}
+use Rattle.std.specs.Prelude.{ℕ, zero, suc, ◌-◌, Bool, true, false, ◌||◌, List, [], ◌∷◌, length, Option, None, Some, option_map, Result, Ok, Err, if◌then◌else◌}
 use Rattle.std.specs.Ordering.{eq_by_cmp}
 use Rattle.template_values_errors.specs.declared.ErrorKind.{ErrorKind}
 use Rattle.template_values_errors.specs.declared.ErrorKind.TheVariants.{InvalidOperation, UnknownFilter, UnknownTest, UnknownMethod}
@@ -16,8 +16,9 @@ use Rattle.template_process.specs.Trace.{Reply}
 use Rattle.template_machine_meaning.specs.World.{World, value_named, given_at, put_given, depth_of}
 use Rattle.template_machine_meaning.specs.Records.{known_of}
 use Rattle.template_machine_meaning.specs.Replies.{told, changed, refused, kinded, replied_with}
-use Rattle.template_machine_meaning.specs.Keys.{Home, rendered, standing, kept, Stream, own, block_of, Around}
-use Rattle.template_machine_meaning.specs.Namespaces.{made_namespace}
+use Rattle.template_machine_meaning.specs.Keys.{Around}
+use Rattle.template_machine_meaning.specs.Names.{name_of}
+use Rattle.template_machine_meaning.specs.Namespaces.{may_hold_loop, made_namespace}
 use Rattle.template_machine_meaning.specs.Functions.{Invoked, filter_named, test_named, function_numbered, method_of, Called, gives, makes, compares, invokes, value_called}
 
 -- whether arguments are those of the call before
@@ -25,23 +26,20 @@ abbrev pub are_as_before : List Val → Option (List Val) → Bool
 are_as_before vs None = false
 are_as_before vs (Some ws) = eq_by_cmp val_cmp (values.list (vals_of vs)) (values.list (vals_of ws))
 
--- the name of the template whose stream it is
-abbrev pub name_at : Around → Home → List ℕ
-name_at a rendered = a.name
-name_at a (standing name) = name
-name_at a (kept number) = a.name
-
-abbrev pub name_of : Around → Stream → List ℕ
-name_of a (own home) = name_at a home
-name_of a (block_of home block) = name_at a home
-
--- what a user's own sees of a run; no blocks run yet
+-- what a user's own sees of a run
 abbrev pub view_of : Around → World → View
-view_of a w = record { name = name_of a w.here; escape = w.escape; undefined = a.undefined; block = None; temps = w.temps }
+view_of a w = record { name = name_of a w.here; escape = w.escape; undefined = a.undefined; block = w.block; temps = w.temps }
 
--- what is set under names, in turn
+-- what is set under names, in turn; a loop whose value is among it stays known
+abbrev pub may_hold_any : List (List ℕ × Val) → Bool
+may_hold_any [] = false
+may_hold_any (t ∷ temps) = may_hold_loop t.1 || may_hold_any temps
+
 abbrev pub with_temps : List (List ℕ × Val) → World → World
-with_temps temps w = record w { temps = with_all_named temps w.temps }
+with_temps temps w = record w {
+  temps = with_all_named temps w.temps;
+  held = if may_hold_any temps then w.opened else w.held;
+}
 
 -- what answers for a call of a user's own, if anything does; and how the call is refused where nothing does
 abbrev pub said : Callables → Invoked → Option Says

@@ -1,11 +1,13 @@
 -- What a template's render takes of its context, and an expression's evaluation.
-use Rattle.std.specs.Prelude.{◌≡◌, ℕ, ◌⊎◌, Bool, ◌||◌, IsTrue, List, Option, None, Some, codes}
+use Rattle.std.specs.Prelude.{◌≡◌, ℕ, ◌⊎◌, Bool, false, ◌||◌, IsTrue, List, [], ◌∷◌, Option, None, Some, codes}
 use Rattle.std.specs.Str.{bytes_eq}
 use Rattle.template_values_model.specs.Val.{Val}
 use Rattle.template_values_model.specs.Lookup.{value_at}
 use Rattle.template_callables.specs.Callables.{View, Asked, lookup, Stated, goes_on, Says, Callables}
-use Rattle.template_tree.specs.Tree.{Expression, Statements}
+use Rattle.template_tree.specs.Tree.{Expression, Statement, Statements, Imports, variable, absent, given, for_loop, if_condition, with_block, set_block, auto_escape, filter_block, block, from_import, no_statements, statements_more, no_imports, imports_more}
 use Rattle.template_names.specs.Names.{is_used, is_stored_everywhere, stands_in}
+use Rattle.template_walk.specs.Blocks.{Block, blocks_in}
+use Rattle.template_walk.specs.Imported.{is_imported}
 use Rattle.template_process.specs.Fuel.{IsSameRun, under}
 use Rattle.template_machine_meaning.specs.Functions.{Invoked}
 use Rattle.template_machine_meaning.specs.Calls.{said}
@@ -15,13 +17,22 @@ use Rattle.template_machine_meaning.specs.Meaning.{Standing, Setting, rendered, 
 abbrev pub is_given : List ℕ → Bool
 is_given name = is_stored_everywhere name || bytes_eq name (codes "loop") || bytes_eq name (codes "caller")
 
--- a template that stands uses the name
-abbrev pub IsUsedByOne : Setting → List ℕ → Type 0
-IsUsedByOne setting name = (other : List ℕ) × (t : Standing) × (setting.templates other ≡ Some t) × IsTrue (is_used name t.tree)
+-- a block uses the name by itself
+abbrev pub is_used_by_block : List ℕ → List Block → Bool
+is_used_by_block name [] = false
+is_used_by_block name (b ∷ blocks) = is_used name b.body || is_used_by_block name blocks
 
--- the context names of a template: those that the engine gives, and those that it uses, or a template that stands
+-- a template uses the name, or one of its blocks does by itself, or it is imported
+abbrev pub is_needed : List ℕ → Statements → Bool
+is_needed name tree = (is_used name tree || is_used_by_block name (blocks_in tree)) || is_imported name tree
+
+-- a template that stands needs the name
+abbrev pub IsUsedByOne : Setting → List ℕ → Type 0
+IsUsedByOne setting name = (other : List ℕ) × (t : Standing) × (setting.templates other ≡ Some t) × IsTrue (is_needed name t.tree)
+
+-- the context names of a template: those that the engine gives, and those that it needs, or a template that stands
 abbrev pub IsContextName : Setting → Statements → List ℕ → Type 0
-IsContextName setting tree name = IsTrue (is_given name) ⊎ IsTrue (is_used name tree) ⊎ IsUsedByOne setting name
+IsContextName setting tree name = IsTrue (is_given name) ⊎ IsTrue (is_needed name tree) ⊎ IsUsedByOne setting name
 
 -- the two contexts hold the same under the name, or neither holds anything
 abbrev pub AgreesAt : Val → Val → List ℕ → Type 0
@@ -46,10 +57,38 @@ SaysNoName (Some says) = (view : View) (vs : List Val) → AsksNoName (says view
 abbrev pub AskNoNames : Callables → Type 0
 AskNoNames callables = (what : Invoked) → SaysNoName (said callables what)
 
+-- what is imported is taken by its name, and stored under a name
+abbrev pub IsName : Expression → Type 0
+IsName (variable name) = Unit {0}
+IsName _ = ⊥
+
+abbrev pub AreNames : Imports → Type 0
+AreNames no_imports = Unit {0}
+AreNames (imports_more e absent more) = IsName e × AreNames more
+AreNames (imports_more e (given alias) more) = IsName e × IsName alias × AreNames more
+
+abbrev mutual
+  pub ImportsNamesAt : Statement → Type 0
+  ImportsNamesAt (for_loop _ _ _ _ body otherwise) = ImportsNames body × ImportsNames otherwise
+  ImportsNamesAt (if_condition _ body otherwise) = ImportsNames body × ImportsNames otherwise
+  ImportsNamesAt (with_block _ body) = ImportsNames body
+  ImportsNamesAt (set_block _ _ body) = ImportsNames body
+  ImportsNamesAt (auto_escape _ body) = ImportsNames body
+  ImportsNamesAt (filter_block _ body) = ImportsNames body
+  ImportsNamesAt (block _ _ body) = ImportsNames body
+  ImportsNamesAt (from_import _ names) = AreNames names
+  ImportsNamesAt _ = Unit {0}
+
+  pub ImportsNames : Statements → Type 0
+  ImportsNames no_statements = Unit {0}
+  ImportsNames (statements_more s ss) = ImportsNamesAt s × ImportsNames ss
+
 -- Where what a user brought asks for no names, over contexts that agree at the context names a render leaves the same
 -- items and comes to the same end, under every bound and every fuel.
 abbrev pub IsolatesNames : Type 0
-IsolatesNames = (setting : Setting) → AskNoNames setting.callables → (id : ℕ) (t : Standing) (c d : Val)
+IsolatesNames = (setting : Setting) → AskNoNames setting.callables
+    → ((other : List ℕ) (t : Standing) → setting.templates other ≡ Some t → ImportsNames t.tree)
+    → (id : ℕ) (t : Standing) → ImportsNames t.tree → (c d : Val)
     → ((name : List ℕ) → IsContextName setting t.tree name → AgreesAt c d name)
     → (n : ℕ) (fuel : Option ℕ) → IsSameRun (under fuel (rendered setting id n t c)) (under fuel (rendered setting id n t d))
 

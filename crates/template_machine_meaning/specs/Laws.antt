@@ -1,5 +1,5 @@
 -- The laws of meanings under bounds.
-use Rattle.std.specs.Prelude.{◌≡◌, ℕ, ◌≤◌, List, [], ◌∷◌, Option, None, Some, IsSome}
+use Rattle.std.specs.Prelude.{◌≡◌, ℕ, ◌<◌, ◌≤◌, true, List, [], ◌∷◌, length, Option, None, Some, IsSome}
 use Rattle.template_values_model.specs.Val.{Val}
 use Rattle.template_tree.specs.Tree.{Expression}
 use Rattle.template_process.specs.Process.{Process, Below}
@@ -8,9 +8,11 @@ use Rattle.template_process.specs.Trace.{run}
 use Rattle.template_process.specs.Approximants.{Extends, IsFinished}
 use Rattle.template_walk.specs.Runnable.{IsRunnable, IsRunnableTemplate}
 use Rattle.template_walk.specs.Statements.{standalone_walk}
-use Rattle.template_machine_meaning.specs.World.{Frame, World}
+use Rattle.template_machine_meaning.specs.World.{World}
+use Rattle.template_machine_meaning.specs.Plans.{ran}
+use Rattle.template_machine_meaning.specs.Blocks.{is_among}
 use Rattle.template_machine_meaning.specs.Keys.{Key}
-use Rattle.template_machine_meaning.specs.Surroundings.{Programs, runners, answer, ran}
+use Rattle.template_machine_meaning.specs.Surroundings.{Programs, runners, answer}
 use Rattle.template_machine_meaning.specs.Meaning.{Standing, Setting, tree_at, walks_of, meaning, evaluation, evaluated}
 
 -- the second goes further
@@ -42,15 +44,25 @@ KeysExtend = (setting : Setting) (root : Option Standing) (n m : ℕ) → n ≤ 
 abbrev pub AreAllRunnable : Setting → Type 0
 AreAllRunnable setting = (name : List ℕ) (t : Standing) → setting.templates name ≡ Some t → IsRunnableTemplate t.tree
 
+-- so many names of templates are enough to list all that stand
+abbrev pub ListsAll : Setting → List (List ℕ) → Type 0
+ListsAll setting names = (name : List ℕ) → IsSome (setting.templates name) → is_among name names ≡ true
+
+-- a run may begin here: there is a frame, it owns none of those that it may not close, and it extends no template yet
+pub record MayBegin (w : World) : Type 0 where
+  pub framed : 0 < length w.frames
+  pub floor : w.floor ≤ length w.frames
+  pub alone : w.parent ≡ None
+
 -- Every run ends: under some bound it is finished.
 abbrev pub EveryRunEnds : Type 0
-EveryRunEnds = (setting : Setting) → AreAllRunnable setting → (root : Standing) → IsRunnableTemplate root.tree
-    → (w : World) (f : Frame) (fs : List Frame) → w.frames ≡ f ∷ fs → (n : ℕ) × IsFinished (meaning setting root n w).end
+EveryRunEnds = (setting : Setting) (names : List (List ℕ)) → ListsAll setting names → AreAllRunnable setting → (root : Standing)
+    → IsRunnableTemplate root.tree → (w : World) → MayBegin w → (n : ℕ) × IsFinished (meaning setting root n w).end
 
 -- So does what each key comes to that finds something, in the render of a template.
 abbrev pub EveryKeyEnds : Type 0
-EveryKeyEnds = (setting : Setting) → AreAllRunnable setting → (root : Standing) → IsRunnableTemplate root.tree
-    → (key : Key) → IsSome (tree_at setting (Some root) key) → (w : World) (f : Frame) (fs : List Frame) → w.frames ≡ f ∷ fs
+EveryKeyEnds = (setting : Setting) (names : List (List ℕ)) → ListsAll setting names → AreAllRunnable setting → (root : Standing)
+    → IsRunnableTemplate root.tree → (key : Key) → IsSome (tree_at setting (Some root) key) → (w : World) → MayBegin w
     → (n : ℕ) × IsFinished (ran (runners (walks_of setting (Some root)) n key) w).end
 
 -- A run that is finished under two bounds is the same under both.
@@ -65,16 +77,16 @@ GivesOne (ends (v ∷ [])) = Unit {0}
 GivesOne (faults kinds) = Unit {0}
 GivesOne _ = ⊥
 
--- Every expression comes to its value, or to a fault.
+-- Every expression comes to its value, or to a fault, where there are no blocks.
 abbrev pub EveryEvaluationGives : Type 0
-EveryEvaluationGives = (setting : Setting) (e : Expression) → IsRunnable e → (w : World) → GivesOne (evaluation setting e w).end
+EveryEvaluationGives = (setting : Setting) (e : Expression) → IsRunnable e → (w : World) → w.blocks ≡ [] → GivesOne (evaluation setting e w).end
 
 -- So it does over a context, where its value is handed out.
 abbrev pub EveryExpressionGives : Type 0
 EveryExpressionGives = (setting : Setting) (id : ℕ) (e : Expression) → IsRunnable e → (context : Val)
     → GivesOne (evaluated setting id e context).end
 
--- Under every bound an expression does the same.
+-- Under every bound an expression does the same, where there are no blocks.
 abbrev pub EvaluationsNeedNoBound : Type 0
-EvaluationsNeedNoBound = (setting : Setting) (n : ℕ) (e : Expression) (w : World)
+EvaluationsNeedNoBound = (setting : Setting) (n : ℕ) (e : Expression) (w : World) → w.blocks ≡ []
     → run (answer (walks_of setting None) n) (standalone_walk e) w ≡ evaluation setting e w

@@ -3,8 +3,13 @@ pub mod Records
 pub mod Undefined
 pub mod Replies
 pub mod Keys
+pub mod Bodies
+pub mod Captures
+pub mod Names
 pub mod Plans
 pub mod Includes
+pub mod Blocks
+pub mod Modules
 pub mod Namespaces
 pub mod Functions
 pub mod Calls

@@ -1,6 +1,6 @@
 -- What a template means for a context, under a bound; and what an expression does, without one.
-use Rattle.std.specs.Prelude.{ℕ, suc, List, [], ◌∷◌, Option, None, Some, option_map, Result, Ok, Err, codes}
-use Rattle.std.specs.Option.{option_map_or}
+use Rattle.std.specs.Prelude.{ℕ, suc, List, [], ◌∷◌, map, Option, None, Some, option_map, Result, Ok, Err, codes}
+use Rattle.std.specs.Option.{option_map_or, option_and_then}
 use Rattle.template_values_errors.specs.declared.ErrorKind.{ErrorKind}
 use Rattle.template_values_errors.specs.declared.modes.AutoEscape.{AutoEscape}
 use Rattle.template_values_errors.specs.declared.modes.AutoEscape.TheVariants as escapes
@@ -8,16 +8,19 @@ use Rattle.template_values_errors.specs.declared.modes.UndefinedBehavior.{Undefi
 use Rattle.template_values_model.specs.Val.{Val}
 use Rattle.template_values_frozen.specs.Frozen.{frozen}
 use Rattle.template_callables.specs.Callables.{Callables}
+use Rattle.template_callables.specs.Joins.{Joins}
 use Rattle.template_tree.specs.Tree.{Expression, Statements}
 use Rattle.template_process.specs.Drive.{End, ends, faults}
 use Rattle.template_process.specs.Trace.{Run, run}
 use Rattle.template_walk.specs.Statements.{standalone_walk, template_walk}
+use Rattle.template_walk.specs.Blocks.{Block, blocks_in, block_named}
 use Rattle.template_machine_meaning.specs.World.{Globals, World, first_world}
 use Rattle.template_machine_meaning.specs.Records.{known_of}
 use Rattle.template_machine_meaning.specs.Replies.{kinded}
 use Rattle.template_machine_meaning.specs.Keys as keys
-use Rattle.template_machine_meaning.specs.Keys.{Home, standing, kept, Stream, own, Part, whole, Key, whole_of, Head, Around}
-use Rattle.template_machine_meaning.specs.Surroundings.{Programs, runners, answer, ran}
+use Rattle.template_machine_meaning.specs.Keys.{Home, standing, kept, Stream, own, block_of, Part, whole, Key, whole_of, Head, Around}
+use Rattle.template_machine_meaning.specs.Plans.{ran}
+use Rattle.template_machine_meaning.specs.Surroundings.{Programs, runners, answer}
 
 -- a template that stands: its name, its tree, and the escape of its name when it was added
 pub record Standing : Type 0 where
@@ -25,10 +28,11 @@ pub record Standing : Type 0 where
   pub tree : Statements
   pub escape : AutoEscape
 
--- what no render changes: the templates that stand; what stands under all frames; what the environment was given of its user's
--- own; the limit of the depth; and what may be done with undefined values
+-- what no render changes: the templates that stand; which of them are meant by the names that stand in templates; what stands under
+-- all frames; what the environment was given of its user's own; the limit of the depth; and what may be done with undefined values
 pub record Setting : Type 0 where
   pub templates : List ℕ → Option Standing
+  pub joins : Joins
   pub globals : Globals
   pub callables : Callables
   pub limit : ℕ
@@ -40,9 +44,14 @@ template_at setting root keys.rendered = root
 template_at setting root (standing name) = setting.templates name
 template_at setting root (kept number) = None
 
--- the tree that a key runs: there are no blocks, macros and loops to be called again yet
+-- the body of a block of a template
+abbrev pub body_of : List ℕ → Standing → Option Statements
+body_of name t = option_map (λ (b : Block). b.body) (block_named name t.tree)
+
+-- the tree that a key runs: there are no macros and no loops to be called again yet
 abbrev pub tree_in : Setting → Option Standing → Stream → Part → Option Statements
 tree_in setting root (own home) whole = option_map (λ t. t.tree) (template_at setting root home)
+tree_in setting root (block_of home name) whole = option_and_then (body_of name) (template_at setting root home)
 tree_in setting root _ _ = None
 
 abbrev pub tree_at : Setting → Option Standing → Key → Option Statements
@@ -50,13 +59,17 @@ tree_at setting root key = tree_in setting root key.stream key.part
 
 -- what is around every run: the same for trees and codes
 abbrev pub head_of : Standing → Head
-head_of t = record { escape = t.escape }
+head_of t = record { escape = t.escape; blocks = map (λ (b : Block). (b.name, b.required)) (blocks_in t.tree) }
+
+abbrev pub no_head : Head
+no_head = record { escape = escapes.None; blocks = [] }
 
 abbrev pub around_of : Setting → Option Standing → Around
 around_of setting root = record {
   name = option_map_or (λ (t : Standing). t.name) root (codes "<expression>");
   callables = setting.callables;
   head = λ home. option_map head_of (template_at setting root home);
+  joins = setting.joins;
   limit = setting.limit;
   undefined = setting.undefined;
 }
@@ -78,7 +91,7 @@ meaning setting root n w = ran (runners (walks_of setting (Some root)) (suc n) t
 
 -- a template that stands, over a context, in the state of a number
 abbrev pub rendered : Setting → ℕ → ℕ → Standing → Val → Run World
-rendered setting id n t context = meaning setting t n (first_world id setting.globals t.escape context)
+rendered setting id n t context = meaning setting t n (first_world id setting.globals (head_of t) context)
 
 -- an expression from a world on, to its value; it has no rounds and starts no run within, so the least bound will do
 abbrev pub evaluation : Setting → Expression → World → Run World
@@ -100,4 +113,4 @@ handed_out r = record r { end = handed r.after r.end }
 
 -- an expression over a context, under no escape, in the state of a number: its value is handed out
 abbrev pub evaluated : Setting → ℕ → Expression → Val → Run World
-evaluated setting id e context = handed_out (evaluation setting e (first_world id setting.globals escapes.None context))
+evaluated setting id e context = handed_out (evaluation setting e (first_world id setting.globals no_head context))

@@ -1,18 +1,24 @@
 -- What an event comes to: a reply at once, or one run within the run.
-use Rattle.std.specs.Prelude.{ℕ, List, ◌++◌, map, Option, None, Some, if◌then◌else◌}
+use Rattle.std.specs.Prelude.{ℕ, suc, ◌-◌, Bool, List, [], ◌∷◌, ◌++◌, length, drop, map, Option, None, Some, if◌then◌else◌}
 use Rattle.template_values_errors.specs.declared.ErrorKind.{ErrorKind}
-use Rattle.template_values_errors.specs.declared.ErrorKind.TheVariants.{InvalidOperation}
+use Rattle.template_values_errors.specs.declared.ErrorKind.TheVariants.{InvalidOperation, TemplateNotFound}
 use Rattle.template_values_errors.specs.declared.modes.AutoEscape.{AutoEscape}
-use Rattle.template_process.specs.Process.{Answer, done, Told, tells, fails, breaks_off}
-use Rattle.template_process.specs.Drive.{End, ends, faults}
-use Rattle.template_process.specs.Trace.{Item, paid, written, Reply, Run}
+use Rattle.template_values_model.specs.Val.{Val}
+use Rattle.template_process.specs.Process.{Answer, done, value, Told, tells, fails, breaks_off}
+use Rattle.template_process.specs.Drive.{End, ends, faults, breaks}
+use Rattle.template_process.specs.Trace.{Item, paid, written, Reply, Run, ended, behind}
 use Rattle.template_machine_meaning.specs.World.{World, has_room}
+use Rattle.template_machine_meaning.specs.Captures.{captured, innermost, around_innermost}
+use Rattle.template_machine_meaning.specs.Bodies.{Bodies, with_place}
 use Rattle.template_machine_meaning.specs.Replies.{refused}
-use Rattle.template_machine_meaning.specs.Keys.{Stream, Key}
+use Rattle.template_machine_meaning.specs.Keys.{standing, Stream, own, Part, whole, Key, whole_of}
 
--- why a run is entered: that says what is told at its end, and what is put back
+-- why a run is entered, which says what is told at its end, and what is put back: a template is included; a block is called; or
+-- the body behind the one of a block that runs, whose place is put back, by a name, or in the place of a print
 pub data Purpose : Type 0 where
   includes : Purpose
+  calls_block : Purpose
+  calls_super : Bool → List ℕ → ℕ → Purpose
 
 -- a run within a run: what runs, where it begins, the kinds that wrap its faults, the outermost first, and its purpose
 pub record Within : Type 0 where
@@ -29,27 +35,69 @@ pub data Plan : Type 0 where
 abbrev pub room_for : ℕ → ℕ → World → Within → Plan
 room_for limit levels w x = if has_room limit levels w then enters x else replies (refused w InvalidOperation)
 
--- what of a run's world is put back behind a run within it, whatever its end
+-- what of a run's world is put back behind a run within it, whatever its end; and how many names were loaded, and frames and
+-- captures open
 pub record Caller : Type 0 where
   pub here : Stream
+  pub block : Option (List ℕ)
+  pub parent : Option (List ℕ)
+  pub blocks : List (List ℕ × Bodies)
+  pub loaded : ℕ
+  pub frames : ℕ
+  pub floor : ℕ
   pub outer : ℕ
   pub escape : AutoEscape
   pub saved : List AutoEscape
   pub first : AutoEscape
+  pub captures : ℕ
 
 abbrev pub caller_of : World → Caller
-caller_of w = record { here = w.here; outer = w.outer; escape = w.escape; saved = w.saved; first = w.first }
+caller_of w = record {
+  here = w.here;
+  block = w.block;
+  parent = w.parent;
+  blocks = w.blocks;
+  loaded = length w.loaded;
+  frames = length w.frames;
+  floor = w.floor;
+  outer = w.outer;
+  escape = w.escape;
+  saved = w.saved;
+  first = w.first;
+  captures = length w.captures;
+}
 
--- all else stays as the run within left it
+-- so many of them, the outermost ones
+abbrev pub outermost : {X : Type 0} → ℕ → List X → List X
+outermost n xs = drop (length xs - n) xs
+
+-- all else stays as the run within left it: what stands under the names of blocks, and the names of what was loaded, too
 abbrev pub put_back : Caller → World → World
-put_back c v = record v { here = c.here; outer = c.outer; escape = c.escape; saved = c.saved; first = c.first }
+put_back c v = record v {
+  here = c.here;
+  block = c.block;
+  parent = c.parent;
+  frames = outermost c.frames v.frames;
+  floor = c.floor;
+  outer = c.outer;
+  escape = c.escape;
+  saved = c.saved;
+  first = c.first;
+  captures = outermost c.captures v.captures;
+}
 
+-- behind an include these are put back as well, and behind `super()` the place among the block's bodies
 abbrev pub after_by : Purpose → Caller → World → World
-after_by includes c v = put_back c v
+after_by includes c v = record (put_back c v) { blocks = c.blocks; loaded = outermost c.loaded v.loaded }
+after_by calls_block c v = put_back c v
+after_by (calls_super named name place) c v = record (put_back c v) { blocks = with_place name place v.blocks }
 
--- what is answered where the run within ended in a world
+-- what is answered where the run within ended in a world: by a name, what it wrote
 abbrev pub given : Purpose → Caller → World → Answer
 given includes c v = done
+given calls_block c v = done
+given (calls_super named name place) c v =
+    if named then value (captured c.escape (innermost (outermost (suc c.captures) v.captures))) else done
 
 -- a fault of a run within is wrapped
 abbrev pub wrapped_by : List ErrorKind → Item → Item
@@ -72,6 +120,42 @@ came w x r = record {
 -- how keys run; there is nothing under some of them, and to enter these is refused
 abbrev pub Runners : Type 0
 Runners = Key → Option (World → Run World)
+
+-- what a key comes to from a world on
+abbrev pub ran : Option (World → Run World) → World → Run World
+ran None w = ended breaks w
+ran (Some runs) w = runs w
+
+-- a stream came to its end, and these operands are left; where it extends a template, that one runs in its place: in the same
+-- frames, under the escape in force, and what is written is no longer dropped
+abbrev pub restarted : List ℕ → World → World
+restarted name w = record w { here = own (standing name); parent = None; captures = around_innermost w.captures }
+
+abbrev pub beneath : List Val → End → End
+beneath operands (ends more) = ends (more ++ operands)
+beneath operands e = e
+
+abbrev pub with_beneath : List Val → Run World → Run World
+with_beneath operands r = record r { end = beneath operands r.end }
+
+-- one that doesn't stand is refused
+abbrev pub parent_run : Option (World → Run World) → World → Run World
+parent_run None w = ended (faults (TemplateNotFound ∷ [])) w
+parent_run (Some runs) w = runs w
+
+abbrev pub went_on : Runners → List Val → Run World → Option (List ℕ) → Run World
+went_on runners operands r None = r
+went_on runners operands r (Some name) =
+    behind r.items (with_beneath operands (parent_run (runners (whole_of (own (standing name)))) (restarted name r.after)))
+
+abbrev pub followed_at : Runners → Run World → End → Run World
+followed_at runners r (ends operands) = went_on runners operands r r.after.parent
+followed_at runners r e = r
+
+-- only what runs whole is so followed
+abbrev pub followed : Runners → Part → Run World → Run World
+followed runners whole r = followed_at runners r r.end
+followed runners part r = r
 
 abbrev pub came_from : World → Within → Option (World → Run World) → Reply World
 came_from w x None = refused w InvalidOperation

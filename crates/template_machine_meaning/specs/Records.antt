@@ -1,5 +1,5 @@
 -- What a run knows of records: of its own namespaces, and of its own loops, as long as their frames are open, or where they
--- were closed and a namespace may hold their values.
+-- were closed and a namespace may hold their values, or what callables have set.
 use Rattle.std.specs.Prelude.{ℕ, ◌-◌, ◌==◌, nat_le, List, [], ◌∷◌, ◌++◌, length, map, slice_get, Option, None, Some, option_map, if◌then◌else◌}
 use Rattle.template_values_model.specs.Val.{Val}
 use Rattle.template_values_forms.specs.Known.{LoopSeen, Known}

@@ -2,7 +2,10 @@
 
 ghost use Rattle.template_machine_meaning.specs.Keeps.{ExpressionFaultsAreMeant, FaultsAreMeant, RunsKeep};
 
-/// A run counts as much depth around its frames at its end as at its start. A machine has faults of its own, for want of
+/// A run leaves what counts as depth around its frames, how many frames are not to be closed, and those frames but for the
+/// innermost of them; the escape that it began with, and the block in which it runs; the names of what was loaded, with others
+/// before them at most; and of each block the body that runs and the bodies that it had, with others behind them at most:
+/// whatever the run's end. A machine has faults of its own, for want of
 /// memory, for a sink that fails, or for code that is lost: none of these stands among the kinds that the run ends with, nor
 /// among those that wrap its faults, however many includes they come from, and whatever a user's own callables state.
 pub fn runs_keep()

@@ -6,5 +6,5 @@ mod owned;
 mod state;
 
 pub use dotted::go_left;
-pub use owned::{add_name, add_text};
+pub use owned::{add_each, add_name, add_text};
 pub use state::Names;

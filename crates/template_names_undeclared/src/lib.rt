@@ -4,6 +4,6 @@
 mod owned;
 mod undeclared;
 
-pub use owned::add_undeclared;
+pub use owned::{add_names, add_undeclared};
 pub use template_names::add_name;
 pub use undeclared::{find_undeclared, first_segments};

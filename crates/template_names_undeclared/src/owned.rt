@@ -29,7 +29,12 @@ pub fn add_undeclared(
     add_names(names, used)
 }
 
-fn add_names(names: &mut BTreeSet<String>, used: BTreeSet<String>) -> Result<(), AllocError>
+/// Adds the names of a set to another. Takes a look-up in it and memory for each of them.
+///
+/// # Errors
+///
+/// Want of memory; then the set has its old names, and some of the others.
+pub fn add_names(names: &mut BTreeSet<String>, used: BTreeSet<String>) -> Result<(), AllocError>
     ensures added { OnOk result (Adds (contains_text used) names.old names.new) }
     ensures partial { OnErr result (AddsSome (contains_text used) names.old names.new) }
 {

@@ -4,13 +4,13 @@ use Rattle.template_values_model.specs.Val as values
 use Rattle.template_values_model.specs.Val.{Val}
 use Rattle.template_tree.specs.declared.operators.BinOpKind.{BinOpKind}
 use Rattle.template_tree.specs.declared.operators.BinOpKind.TheVariants.{ScAnd, ScOr}
-use Rattle.template_tree.specs.Tree.{Expression, Optional, Expressions, Links, Arguments, variable, constant, slice, unary, binary, chain, conditional, attribute, item, call, filtered, tested, list_literal, tuple_literal, map_literal, absent, given, no_expressions, expressions_more, no_links, links_more, no_arguments, arguments_more, positional, keyword, positional_spread, keyword_spread, Statement, Statements, Assignments, raw, print, for_loop, if_condition, with_block, set, set_block, auto_escape, filter_block, include, continue_loop, break_loop, do_call, no_statements, statements_more, no_assignments, assignments_more}
+use Rattle.template_tree.specs.Tree.{Expression, Optional, Expressions, Links, Arguments, variable, constant, slice, unary, binary, chain, conditional, attribute, item, call, filtered, tested, list_literal, tuple_literal, map_literal, absent, given, no_expressions, expressions_more, no_links, links_more, no_arguments, arguments_more, positional, keyword, positional_spread, keyword_spread, Statement, Statements, Assignments, raw, print, for_loop, if_condition, with_block, set, set_block, auto_escape, filter_block, include, continue_loop, break_loop, do_call, no_statements, statements_more, no_assignments, assignments_more, Imports, block, import, from_import, extends, no_imports, imports_more}
 use Rattle.template_process.specs.Process as events
-use Rattle.template_process.specs.Process.{Ask, look_up, operate, compare, get_attribute, get_item, get_slice, build_list, build_tuple, build_map, build_kwargs, merge_kwargs, spread, apply_filter, perform_test, call_function, call_method, call_value, store, set_attribute, truth_of, unpack, spread, write_raw, write_value, open_frame, close_frame, plain_loop, open_loop, next_item, did_not_iterate, close_loop, open_escape, close_escape, begin_capture, end_capture, Process, over, step, asks, cut_short, on_done, on_value, on_truth, on_item, on_all, Below}
+use Rattle.template_process.specs.Process.{Ask, look_up, operate, compare, get_attribute, get_item, get_slice, build_list, build_tuple, build_map, build_kwargs, merge_kwargs, spread, apply_filter, perform_test, call_function, call_method, call_value, store, set_attribute, truth_of, unpack, spread, write_raw, write_value, call_block, super_block, load_blocks, export_locals, open_frame, close_frame, plain_loop, open_loop, next_item, did_not_iterate, close_loop, open_escape, close_escape, begin_capture, end_capture, Process, over, step, asks, cut_short, on_done, on_value, on_truth, on_item, on_all, Below}
 use Rattle.template_process.proofs.Below.{below-cut_short, below-over, below-step, below-asks_done, below-asks_value, below-asks_truth, below-asks_item, below-asks_items, below-asks_all}
 use Rattle.template_walk.specs.Constants.{constant_of}
-use Rattle.template_walk.specs.Expressions.{folded, unary_ask, binary_walk, Giving, Passing, alone, spreads, listed, stretches_walk, mapped, entries_stretches, has_spread, merged_if, keywords_walk, run_if, passed_walk, Callee, by_name, by_method, by_value, callee_of, called_walk, expression_walk, object_walk, positional_walks, keyword_walks, optional_walk, expressions_walk, walks_of, entries_walk, chain_walk, linked_walk, filter_walk, filters_walk}
-use Rattle.template_walk.specs.Statements.{Exits, outside, closing, capture_left, capturing, number_of, target_walk, targets_walk, assignments_walk, rounds, nameless_loop, kept_rounds, sifting, iterable_walk, loop_end, past, statement_walk, statements_walk}
+use Rattle.template_walk.specs.Expressions.{folded, unary_ask, binary_walk, Giving, Passing, alone, spreads, listed, stretches_walk, mapped, entries_stretches, has_spread, merged_if, keywords_walk, run_if, passed_walk, Callee, by_name, by_method, by_block, by_value, callee_of, called_walk, expression_walk, object_walk, positional_walks, keyword_walks, optional_walk, expressions_walk, walks_of, entries_walk, chain_walk, linked_walk, filter_walk, filters_walk}
+use Rattle.template_walk.specs.Statements.{Exits, Printed, prints_value, prints_block, prints_super, printed_of, printed_walk, imported_names, stored_as, imports_stored, apart, outside, closing, capture_left, capturing, number_of, target_walk, targets_walk, assignments_walk, rounds, nameless_loop, kept_rounds, sifting, iterable_walk, loop_end, past, statement_walk, statements_walk}
 use Rattle.template_walk.specs.Laws.{WalksRise}
 
 -- the second goes further, whatever value it is given
@@ -111,6 +111,8 @@ lift_called (by_name name) whole object f g args each named others go on h =
     lift_passed [] args each named others _ _ (λ vs. step_value (call_function name vs) go on h)
 lift_called (by_method name) whole object f g args each named others go on h =
     g _ _ (λ v. lift_passed (v ∷ []) args each named others _ _ (λ vs. step_value (call_method name vs) go on h))
+lift_called (by_block name) whole object f g args each named others go on h =
+    below-asks_done (begin_capture true) _ _ (step_done (call_block name) _ _ (step_value end_capture go on h))
 lift_called by_value whole object f g args each named others go on h =
     f _ _ (λ v. lift_passed (v ∷ []) args each named others _ _ (λ vs. step_value (call_value vs) go on h))
 
@@ -135,7 +137,7 @@ mutual
   lift (map_literal ks vs) go on h =
       lift_folded (constant_of (map_literal ks vs)) go on _ _ h (lift_entries ks (walks_of vs) (lift_each vs) _ _ (λ entries. step_value (build_map entries) go on h))
   lift (call callee args) go on h =
-      lift_called (callee_of callee) (expression_walk callee) (object_walk callee) (lift callee) (lift_object callee)
+      lift_called (callee_of callee args) (expression_walk callee) (object_walk callee) (lift callee) (lift_object callee)
       (positional_walks args) (lift_positional args) (keyword_walks args) (lift_keyword args) go on h
   lift (filtered name (given e) args) go on h =
       lift e _ _ (λ v. lift_passed (v ∷ []) (positional_walks args) (lift_positional args) (keyword_walks args) (lift_keyword args) _ _ (λ vs. step_value (apply_filter name vs) go on h))
@@ -273,10 +275,23 @@ lift_past : (otherwise : Statements) (p q : Process) → Below p q → Below (pa
 lift_past no_statements p q h = h
 lift_past (statements_more _ _) p q h = below-step p q h
 
+lift_printed : (printed : Printed) (gives : Giving) → Lifts gives → (p q : Process) → Below p q → Below (printed_walk printed gives p) (printed_walk printed gives q)
+lift_printed prints_value gives f p q h = f _ _ (λ v. step_done (write_value v) p q h)
+lift_printed (prints_block name) gives f p q h = step_done (call_block name) p q h
+lift_printed prints_super gives f p q h = step_done super_block p q h
+
+lift_imports : (names : Imports) (vs : List Val) (p q : Process) → Below p q → Below (imports_stored names vs p) (imports_stored names vs q)
+lift_imports no_imports vs p q h = h
+lift_imports (imports_more e alias more) [] p q h = h
+lift_imports (imports_more e alias more) (v ∷ vs) p q h = lift_imports more vs _ _ (lift_target (stored_as e alias) v p q h)
+
+lift_apart : (e : Expression) (p q : Process) → Below p q → Below (apart e p) (apart e q)
+lift_apart e p q h = below-asks_done open_frame _ _ (lift e _ _ (λ v. step_done (events.include false v) p q h))
+
 mutual
   lift_statement : (n m : ℕ) → n ≤ m → (s : Statement) (x y : Exits) (p q : Process) → Leads x y → Below p q → Below (statement_walk n s x p) (statement_walk m s y q)
   lift_statement n m less (raw text) x y p q leads h = step_done (write_raw text) p q h
-  lift_statement n m less (print e) x y p q leads h = lift e _ _ (λ v. step_done (write_value v) p q h)
+  lift_statement n m less (print e) x y p q leads h = lift_printed (printed_of e) (expression_walk e) (lift e) p q h
   lift_statement n m less (for_loop target e condition false body otherwise) x y p q leads h =
       lift_iterable n m less target e condition _ _ (λ v. below-asks_done (open_loop plain_loop v) _ _
       (lift_rounds n m less _ _ (λ item k l r s inner i. lift_target target item _ _ (lift_statements n m less body k l r s inner i)) _ _
@@ -301,6 +316,15 @@ mutual
       below-asks_done (begin_capture true) _ _
       (lift_statements n m less body _ _ _ _ (leads_capturing x y leads)
       (step_value end_capture _ _ (λ text. lift_filters filters text _ _ (λ v. step_done (write_value v) p q h))))
+  lift_statement n m less (block name required body) x y p q leads h = step_done (call_block name) p q h
+  lift_statement n m less (import e target) x y p q leads h =
+      below-asks_done (begin_capture true) _ _ (lift_apart e _ _
+      (step_value end_capture _ _ (λ text. below-asks_value (export_locals text) _ _ (λ m. below-asks_done close_frame _ _ (lift_target target m p q h)))))
+  lift_statement n m less (from_import e names) x y p q leads h =
+      below-asks_done (begin_capture false) _ _ (lift_apart e _ _
+      (lift_all (imported_names names) _ _ (λ vs. below-asks_done close_frame _ _
+      (lift_imports names vs _ _ (step_value end_capture _ _ (λ dropped. h))))))
+  lift_statement n m less (extends e) x y p q leads h = lift e _ _ (λ v. below-asks_done (load_blocks v) p q h)
   lift_statement n m less (include e ignore_missing) x y p q leads h = lift e _ _ (λ v. step_done (events.include ignore_missing v) p q h)
   lift_statement n m less (do_call callee args) x y p q leads h = lift (call callee args) _ _ (λ v. h)
   lift_statement n m less continue_loop x y p q leads h = leads.on_continue

@@ -1,12 +1,13 @@
 -- The walk of an expression: its events in the order of execution, and between them the priced steps.
-use Rattle.std.specs.Prelude.{ℕ, Bool, true, false, List, [], ◌∷◌, ◌++◌, Option, None, Some}
+use Rattle.std.specs.Prelude.{ℕ, Bool, true, false, ◌&&◌, List, [], ◌∷◌, ◌++◌, Option, None, Some}
 use Rattle.template_values_model.specs.Val.{Val, silent_undefined, none, text}
 use Rattle.template_tree.specs.declared.operators.UnaryOpKind.{UnaryOpKind}
 use Rattle.template_tree.specs.declared.operators.UnaryOpKind.TheVariants.{Not, Neg}
 use Rattle.template_tree.specs.declared.operators.BinOpKind.{BinOpKind}
 use Rattle.template_tree.specs.declared.operators.BinOpKind.TheVariants.{ScAnd, ScOr}
 use Rattle.template_tree.specs.Tree.{Expression, Optional, Expressions, Links, Arguments, variable, constant, slice, unary, binary, chain, conditional, attribute, item, call, filtered, tested, list_literal, tuple_literal, map_literal, absent, given, no_expressions, expressions_more, no_links, links_more, no_arguments, arguments_more, positional, keyword, positional_spread, keyword_spread}
-use Rattle.template_process.specs.Process.{Ask, look_up, negate, invert, operate, compare, get_attribute, get_item, get_slice, build_list, build_tuple, build_map, build_kwargs, merge_kwargs, spread, call_function, call_method, call_value, apply_filter, perform_test, Process, step, asks, cut_short, on_all, value_asked, truth_asked}
+use Rattle.template_tree.specs.Kinds.{is_self_name, is_empty}
+use Rattle.template_process.specs.Process.{Ask, look_up, negate, invert, operate, compare, get_attribute, get_item, get_slice, build_list, build_tuple, build_map, build_kwargs, merge_kwargs, spread, call_function, call_method, call_value, call_block, begin_capture, end_capture, apply_filter, perform_test, Process, step, asks, cut_short, on_done, on_all, done_asked, value_asked, truth_asked}
 use Rattle.template_walk.specs.Constants.{constant_of}
 
 -- a constant costs nothing and asks nothing; what is none does its own walk
@@ -82,21 +83,32 @@ abbrev pub passed_walk : List Val → List (Passing Giving Giving) → List (Pas
 passed_walk front args named go =
     stretches_walk front args (λ lists vs. keywords_walk named (λ last. run_if (has_spread args) lists (vs ++ last) go))
 
--- what is called: a name, a method of an object, or a value
+-- what is called: a name, a method of an object, a block of the template, or a value
 pub data Callee : Type 0 where
   by_name : List ℕ → Callee
   by_method : List ℕ → Callee
+  by_block : List ℕ → Callee
   by_value : Callee
 
-abbrev pub callee_of : Expression → Callee
-callee_of (variable name) = by_name name
-callee_of (attribute e name) = by_method name
-callee_of _ = by_value
+-- an attribute of `self` that is called without arguments is a block
+abbrev pub attribute_called : Bool → List ℕ → Callee
+attribute_called true name = by_block name
+attribute_called false name = by_method name
+
+abbrev pub callee_of : Expression → Arguments → Callee
+callee_of (variable name) args = by_name name
+callee_of (attribute e name) args = attribute_called (is_self_name e && is_empty args) name
+callee_of _ args = by_value
+
+-- a block's text
+abbrev pub block_walk : List ℕ → Giving
+block_walk name go = asks (begin_capture true) (on_done (done_asked (call_block name) (value_asked end_capture go)))
 
 -- a call: the object, or what is called where it is no name; then the arguments
 abbrev pub called_walk : Callee → Giving → Giving → (List Val → (List Val → Process) → Process) → Giving
 called_walk (by_name name) whole object passed go = passed [] (λ vs. value_asked (call_function name vs) go)
 called_walk (by_method name) whole object passed go = object (λ v. passed (v ∷ []) (λ vs. value_asked (call_method name vs) go))
+called_walk (by_block name) whole object passed go = block_walk name go
 called_walk by_value whole object passed go = whole (λ v. passed (v ∷ []) (λ vs. value_asked (call_value vs) go))
 
 abbrev mutual
@@ -121,7 +133,7 @@ abbrev mutual
   expression_walk (map_literal ks vs) go =
       folded (constant_of (map_literal ks vs)) go (entries_walk ks (walks_of vs) (λ entries. value_asked (build_map entries) go))
   expression_walk (call callee args) go =
-      called_walk (callee_of callee) (expression_walk callee) (object_walk callee) (λ front. passed_walk front (positional_walks args) (keyword_walks args)) go
+      called_walk (callee_of callee args) (expression_walk callee) (object_walk callee) (λ front. passed_walk front (positional_walks args) (keyword_walks args)) go
   expression_walk (filtered name (given e) args) go =
       expression_walk e (λ v. passed_walk (v ∷ []) (positional_walks args) (keyword_walks args) (λ vs. value_asked (apply_filter name vs) go))
   expression_walk (tested name e args) go =

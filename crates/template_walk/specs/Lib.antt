@@ -4,4 +4,6 @@ pub mod Constants
 pub mod Expressions
 pub mod Statements
 pub mod Runnable
+pub mod Blocks
+pub mod Imported
 pub mod Laws

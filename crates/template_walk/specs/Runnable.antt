@@ -1,12 +1,12 @@
 -- The trees whose constructs have a walk today. What holds another construct is refused where it is added.
-use Rattle.std.specs.Prelude.{◌≡◌, ℕ, Bool, true, false, ◌||◌, List, IsTrue, codes}
+use Rattle.std.specs.Prelude.{◌≡◌, ℕ, Bool, true, false, List, IsTrue, codes}
 use Rattle.std.specs.Str.{bytes_eq}
-use Rattle.template_tree.specs.Tree.{Expression, Optional, Expressions, Links, Arguments, Argument, variable, constant, slice, unary, binary, chain, conditional, attribute, item, call, filtered, tested, list_literal, tuple_literal, map_literal, absent, given, no_expressions, expressions_more, no_links, links_more, no_arguments, arguments_more, positional, keyword, positional_spread, keyword_spread, Statement, Statements, Assignments, raw, print, for_loop, if_condition, with_block, set, set_block, auto_escape, filter_block, include, continue_loop, break_loop, do_call, no_statements, statements_more, no_assignments, assignments_more}
+use Rattle.template_tree.specs.Tree.{Expression, Optional, Expressions, Links, Arguments, Argument, variable, constant, slice, unary, binary, chain, conditional, attribute, item, call, filtered, tested, list_literal, tuple_literal, map_literal, absent, given, no_expressions, expressions_more, no_links, links_more, no_arguments, arguments_more, positional, keyword, positional_spread, keyword_spread, Statement, Statements, Assignments, Imports, raw, print, for_loop, if_condition, with_block, set, set_block, auto_escape, filter_block, block, import, from_import, extends, include, continue_loop, break_loop, do_call, no_statements, statements_more, no_assignments, assignments_more, no_imports, imports_more}
+use Rattle.template_walk.specs.Statements.{stored_as}
 
--- the engine gives these names, in places, values that are not there yet
+-- the engine gives this name, in macros, a value that is not there yet
 abbrev pub is_kept_back : List ℕ → Bool
-is_kept_back name =
-    bytes_eq name (codes "caller") || (bytes_eq name (codes "self") || bytes_eq name (codes "super"))
+is_kept_back name = bytes_eq name (codes "caller")
 
 -- the rounds of a loop can't be called again yet
 abbrev pub is_loop_called : Expression → Bool
@@ -80,8 +80,13 @@ abbrev pub AreAssignments : Assignments → Type 0
 AreAssignments no_assignments = Unit {0}
 AreAssignments (assignments_more target e more) = IsTarget target × IsRunnable e × AreAssignments more
 
+-- each name is looked up, and is stored under itself or under its alias
+abbrev pub AreImports : Imports → Type 0
+AreImports no_imports = Unit {0}
+AreImports (imports_more e alias more) = IsRunnable e × IsTarget (stored_as e alias) × AreImports more
+
 abbrev mutual
-  -- `break` and `continue` stand in loops alone, as the first argument says
+  -- `break` and `continue` stand in loops alone, as the first argument says; none leads out of a block
   pub IsRunnableStatement : Bool → Statement → Type 0
   IsRunnableStatement looping (raw text) = Unit {0}
   IsRunnableStatement looping (print e) = IsRunnable e
@@ -96,6 +101,10 @@ abbrev mutual
       AreFilters filters × IsTarget target × AreRunnableStatements looping body
   IsRunnableStatement looping (auto_escape e body) = IsRunnable e × AreRunnableStatements looping body
   IsRunnableStatement looping (filter_block filters body) = AreFilters filters × AreRunnableStatements looping body
+  IsRunnableStatement looping (block name required body) = AreRunnableStatements false body
+  IsRunnableStatement looping (import e target) = IsRunnable e × IsTarget target
+  IsRunnableStatement looping (from_import e names) = IsRunnable e × AreImports names
+  IsRunnableStatement looping (extends e) = IsRunnable e
   IsRunnableStatement looping (include e ignore_missing) = IsRunnable e
   IsRunnableStatement looping (do_call callee args) = IsRunnable (call callee args)
   IsRunnableStatement looping continue_loop = IsTrue looping

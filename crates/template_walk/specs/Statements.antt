@@ -1,11 +1,12 @@
 -- The walk of statements: their events in the order of execution, and between them the priced steps. A loop does at
 -- most so many rounds as the bound says.
-use Rattle.std.specs.Prelude.{ℕ, zero, suc, true, false, List, [], ◌∷◌, ◌++◌, None}
+use Rattle.std.specs.Prelude.{ℕ, zero, suc, Bool, true, false, ◌&&◌, List, [], ◌∷◌, ◌++◌, None, codes, bytes_eq, if◌then◌else◌}
 use Rattle.template_values_model.specs.Val.{Val}
-use Rattle.template_tree.specs.Tree.{Expression, Optional, Expressions, Statement, Statements, Assignments, variable, attribute, list_literal, call, absent, given, no_expressions, expressions_more, raw, print, for_loop, if_condition, with_block, set, set_block, auto_escape, filter_block, include, continue_loop, break_loop, do_call, no_statements, statements_more, no_assignments, assignments_more}
+use Rattle.template_tree.specs.Tree.{Expression, Optional, Expressions, Arguments, Statement, Statements, Assignments, Imports, variable, attribute, list_literal, call, absent, given, no_expressions, expressions_more, raw, print, for_loop, if_condition, with_block, set, set_block, auto_escape, filter_block, block, import, from_import, extends, include, continue_loop, break_loop, do_call, no_statements, statements_more, no_assignments, assignments_more, no_imports, imports_more}
+use Rattle.template_tree.specs.Kinds.{is_empty}
 use Rattle.template_process.specs.Process as events
-use Rattle.template_process.specs.Process.{Ask, store, set_attribute, unpack, spread, build_list, write_raw, write_value, open_frame, close_frame, Looping, plain_loop, open_loop, next_item, did_not_iterate, close_loop, open_escape, close_escape, begin_capture, end_capture, Process, over, step, asks, cut_short, on_done, on_value, on_item, on_items, on_all, done_asked, value_asked, truth_asked}
-use Rattle.template_walk.specs.Expressions.{expression_walk, filters_walk}
+use Rattle.template_process.specs.Process.{Ask, store, set_attribute, unpack, spread, build_list, write_raw, write_value, open_frame, close_frame, Looping, plain_loop, open_loop, next_item, did_not_iterate, close_loop, open_escape, close_escape, begin_capture, end_capture, call_block, super_block, load_blocks, export_locals, Process, over, step, asks, cut_short, on_done, on_value, on_item, on_items, on_all, done_asked, value_asked, truth_asked}
+use Rattle.template_walk.specs.Expressions.{Giving, Callee, by_name, by_block, callee_of, expression_walk, expressions_walk, filters_walk}
 
 -- where `break` and `continue` lead
 pub record Exits : Type 0 where
@@ -88,6 +89,47 @@ loop_end no_statements otherwise go = asks close_loop (on_done go)
 loop_end (statements_more s ss) otherwise go =
     asks did_not_iterate (on_value (λ flag. asks close_loop (on_done (truth_asked flag otherwise go))))
 
+-- what a print writes: a value; or what a block, or `super()`, writes by itself
+pub data Printed : Type 0 where
+  prints_value : Printed
+  prints_block : List ℕ → Printed
+  prints_super : Printed
+
+abbrev pub is_super_name : List ℕ → Bool
+is_super_name name = bytes_eq name (codes "super")
+
+abbrev pub printed_by : Callee → Arguments → Printed
+printed_by (by_name name) args = if is_super_name name && is_empty args then prints_super else prints_value
+printed_by (by_block name) args = prints_block name
+printed_by _ args = prints_value
+
+abbrev pub printed_of : Expression → Printed
+printed_of (call callee args) = printed_by (callee_of callee args) args
+printed_of _ = prints_value
+
+abbrev pub printed_walk : Printed → Giving → Process → Process
+printed_walk prints_value gives go = gives (λ v. done_asked (write_value v) go)
+printed_walk (prints_block name) gives go = done_asked (call_block name) go
+printed_walk prints_super gives go = done_asked super_block go
+
+-- the names that are imported, and where each is stored: under itself, or under its alias
+abbrev pub imported_names : Imports → Expressions
+imported_names no_imports = no_expressions
+imported_names (imports_more e alias more) = expressions_more e (imported_names more)
+
+abbrev pub stored_as : Expression → Optional → Expression
+stored_as e absent = e
+stored_as e (given alias) = alias
+
+-- from the last to the first
+abbrev pub imports_stored : Imports → List Val → Process → Process
+imports_stored (imports_more e alias more) (v ∷ vs) go = imports_stored more vs (target_walk (stored_as e alias) v go)
+imports_stored _ vs go = go
+
+-- a template runs in a frame of its own
+abbrev pub apart : Expression → Process → Process
+apart e go = asks open_frame (on_done (expression_walk e (λ v. done_asked (events.include false v) go)))
+
 -- behind a branch that an else part follows, one step leads past that
 abbrev pub past : Statements → Process → Process
 past no_statements go = go
@@ -96,7 +138,7 @@ past (statements_more s ss) go = step go
 abbrev mutual
   pub statement_walk : ℕ → Statement → Exits → Process → Process
   statement_walk n (raw text) exits go = done_asked (write_raw text) go
-  statement_walk n (print e) exits go = expression_walk e (λ v. done_asked (write_value v) go)
+  statement_walk n (print e) exits go = printed_walk (printed_of e) (expression_walk e) go
   statement_walk n (for_loop target e condition false body otherwise) exits go =
       iterable_walk n target e condition (λ v. asks (open_loop plain_loop v) (on_done
       (rounds n (λ item inner again. target_walk target item (statements_walk n body inner again))
@@ -119,6 +161,15 @@ abbrev mutual
   statement_walk n (filter_block filters body) exits go =
       asks (begin_capture true) (on_done
       (statements_walk n body (capturing exits) (value_asked end_capture (λ text. filters_walk filters text (λ v. done_asked (write_value v) go)))))
+  statement_walk n (block name required body) exits go = done_asked (call_block name) go
+  statement_walk n (import e target) exits go =
+      asks (begin_capture true) (on_done (apart e
+      (value_asked end_capture (λ text. asks (export_locals text) (on_value (λ m. asks close_frame (on_done (target_walk target m go))))))))
+  statement_walk n (from_import e names) exits go =
+      asks (begin_capture false) (on_done (apart e
+      (expressions_walk (imported_names names) (λ vs. asks close_frame (on_done
+      (imports_stored names vs (value_asked end_capture (λ dropped. go))))))))
+  statement_walk n (extends e) exits go = expression_walk e (λ v. asks (load_blocks v) (on_done go))
   statement_walk n (include e ignore_missing) exits go = expression_walk e (λ v. done_asked (events.include ignore_missing v) go)
   statement_walk n (do_call callee args) exits go = expression_walk (call callee args) (λ v. go)
   statement_walk n continue_loop exits go = exits.on_continue
