@@ -4,20 +4,23 @@ use Rattle.std.specs.Prelude.{◌^◌}
 use Rattle.template_values_errors.specs.declared.ErrorKind.{ErrorKind}
 use Rattle.template_values_errors.specs.declared.ErrorKind.TheVariants.{OutOfMemory}
 use Rattle.template_values_errors.specs.declared.modes.AutoEscape.{AutoEscape}
-use Rattle.template_tree.specs.Tree.{Statement, template}
+use Rattle.template_tree.specs.Tree.{Statement, Statements, template}
 use Rattle.template_tree_statements.specs.View.{statement_of}
 use Rattle.template_tree_statements.specs.declared.statements.Stmt.{Stmt}
 use Rattle.template_values_errors.specs.Memory.{NoMemory}
 use Rattle.template_walk.specs.Runnable.{IsRunnableTemplate}
 use Rattle.template_code.specs.Code.{Code}
 use Rattle.template_compiler_codegen.specs.Statements.{template_code}
+use Rattle.template_compiler_numbers.specs.Numbers.{numbered_in}
 use Rattle.template_compiler_runnable.specs.Runs.{RunsWhole}
 use Rattle.template_compiler_statement_codegen.specs.Listed.{IsRunnableTree, body_in}
 use Rattle.template_compiler_syntax.specs.Syntax.{Syntax, IsUsable}
 use Rattle.template_compiler_sources.specs.Source.{IsSource, RefusesSource, source_of}
 use Rattle.template_machine_surroundings.specs.Rule.{IsEscapeOf}
-use Rattle.template_compiled.specs.Compiled.{Compiled, IsFaithful}
+use Rattle.template_compiled.specs.Compiled.{Compiled, IsFaithful, code_for}
 use Rattle.template_compiled.specs.Sources.{Source, HasTree, IsUnsupported, read_by, tree_in}
+use Rattle.template_code_blocks.specs.Streams.{BlockStream}
+use Rattle.template_compiled.specs.Streams.{streams_of}
 use Rattle.template_compiled.specs.declared.config.TemplateConfig.{TemplateConfig}
 use Rattle.template_compiled.proofs.Trees.{one_tree}
 
@@ -48,16 +51,19 @@ faithful name source escape s usable fits is runs rule = record {
 }
 
 -- what is kept of it
-pub kept : (name own : List ℕ) (text copied : List ℕ) (x y : TemplateConfig) (escape : AutoEscape) (code : List Code) (s : Statement) → own ≡ name → copied ≡ text
+pub kept : (name own : List ℕ) (text copied : List ℕ) (x y : TemplateConfig) (escape : AutoEscape) (code : List Code) (streams : List BlockStream) (s : Statement) → own ≡ name → copied ≡ text
     → y ≡ x → IsUsable x.syntax_config → (2 ^ 32 ≤ length text → ⊥) → IsSource x.syntax_config text s → RunsWhole s
-    → IsEscapeOf x.default_auto_escape name escape → code ≡ template_code (body_in s)
-    → IsFaithful (record { name = own; source = read_by y copied; escape = escape }) × (code ≡ template_code (tree_in (read_by y copied)))
-kept name own text copied x y escape code s named same shared usable fits is runs rule is_code =
+    → IsEscapeOf x.default_auto_escape name escape → code ≡ numbered_in (template_code (body_in s)) → streams ≡ streams_of (body_in s)
+    → IsFaithful (record { name = own; source = read_by y copied; escape = escape })
+    × (code ≡ code_for (record { name = own; source = read_by y copied; escape = escape }))
+    × (streams ≡ streams_of (tree_in (read_by y copied)))
+kept name own text copied x y escape code streams s named same shared usable fits is runs rule is_code are_streams =
     let source : Source = read_by x text in
     let path : record { name = name; source = source; escape = escape } ≡ record { name = own; source = read_by y copied; escape = escape } =
     λ i. record { name = sym named i; source = read_by (sym shared i) (sym same i); escape = escape } in
-    subst (λ (c : Compiled). IsFaithful c × (code ≡ template_code (tree_in c.source))) path
-    (faithful name source escape s usable fits is runs rule, is_code ∙ ap template_code (sym (tree_is source s usable is)))
+    let tree = sym (tree_is source s usable is) in
+    subst (λ (c : Compiled). IsFaithful c × (code ≡ code_for c) × (streams ≡ streams_of (tree_in c.source))) path
+    (faithful name source escape s usable fits is runs rule, is_code ∙ ap (λ (t : Statements). numbered_in (template_code t)) tree, are_streams ∙ ap streams_of tree)
 
 -- a source that was accepted is refused for want of memory alone
 only_want : (c : Compiled) (kinds : List ErrorKind) → IsFaithful c → RefusesSource c.source.syntax c.source.text kinds → kinds ≡ OutOfMemory ∷ []

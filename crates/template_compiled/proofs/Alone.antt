@@ -10,12 +10,13 @@ use Rattle.template_tree.specs.declared.expressions.Expr.{Expr}
 use Rattle.template_walk.specs.Runnable.{IsRunnable}
 use Rattle.template_code.specs.Code.{Code}
 use Rattle.template_compiler_codegen.specs.Statements.{standalone_code}
+use Rattle.template_compiler_numbers.specs.Numbers.{numbered_in}
 use Rattle.template_compiler_tokens.specs.Token.{Token}
 use Rattle.template_compiler_source_tokens.proofs.Spelling.{one_spelled, some_spelled}
 use Rattle.template_compiler_grammar.specs.Reader.{expression_at}
 use Rattle.template_compiler_grammar_laws.proofs.Complete.{expression_complete}
 use Rattle.template_compiler_sources.specs.Source.{IsExpressionSource, RefusesExpression, expression_source}
-use Rattle.template_compiled.specs.Expressions.{HasExpression, IsFaithfulExpression, expression_in, read_alone}
+use Rattle.template_compiled.specs.Expressions.{HasExpression, IsFaithfulExpression, code_alone, expression_in, read_alone}
 
 pub one_expression : (source : List ℕ) (e : Expression) → IsExpressionSource source e → expression_in source ≡ e
 unfolding expression_in
@@ -32,10 +33,10 @@ faithful_alone source e fits is runs = record {
 
 -- what is kept of it
 pub kept_alone : (source copied : List ℕ) (code : List Code) (e : Expression) → copied ≡ source → (2 ^ 32 ≤ length source → ⊥) → IsExpressionSource source e
-    → IsRunnable e → code ≡ standalone_code e → IsFaithfulExpression copied × (code ≡ standalone_code (expression_in copied))
+    → IsRunnable e → code ≡ numbered_in (standalone_code e) → IsFaithfulExpression copied × (code ≡ code_alone copied)
 kept_alone source copied code e same fits is runs is_code =
-    subst (λ (s : List ℕ). IsFaithfulExpression s × (code ≡ standalone_code (expression_in s))) (sym same)
-    (faithful_alone source e fits is runs, is_code ∙ ap standalone_code (sym (one_expression source e is)))
+    subst (λ (s : List ℕ). IsFaithfulExpression s × (code ≡ code_alone s)) (sym same)
+    (faithful_alone source e fits is runs, is_code ∙ ap (λ (x : Expression). numbered_in (standalone_code x)) (sym (one_expression source e is)))
 
 -- a source that was accepted is refused for want of memory alone
 wants_alone : (source : List ℕ) (kinds : List ErrorKind) → IsFaithfulExpression source → RefusesExpression source kinds → kinds ≡ OutOfMemory ∷ []

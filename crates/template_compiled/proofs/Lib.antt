@@ -5,3 +5,4 @@ pub mod Alone
 pub mod Updates
 pub mod Listing
 pub mod Refusals
+pub mod Bodies

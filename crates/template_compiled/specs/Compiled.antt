@@ -3,6 +3,7 @@ use Rattle.std.specs.Prelude.{ℕ, ◌<◌, ◌^◌, Bool, false, List, length}
 use Rattle.template_values_errors.specs.declared.modes.AutoEscape.{AutoEscape}
 use Rattle.template_code.specs.Code.{Code}
 use Rattle.template_compiler_codegen.specs.Statements.{template_code}
+use Rattle.template_compiler_numbers.specs.Numbers.{numbered_in}
 use Rattle.template_compiler_runnable.specs.Running.{statements_run}
 use Rattle.template_compiler_syntax.specs.Syntax.{IsUsable}
 use Rattle.template_machine_surroundings.specs.Rule.{IsEscapeOf}
@@ -29,8 +30,9 @@ escaped_as escape c = record { name = c.name; source = escaping_as escape c.sour
 abbrev pub standing_of : Compiled → Standing
 standing_of c = record { name = c.name; tree = tree_in c.source; escape = c.escape }
 
+-- the code of its tree, whose filters and tests have their numbers
 abbrev pub code_for : Compiled → List Code
-code_for c = template_code (tree_in c.source)
+code_for c = numbered_in (template_code (tree_in c.source))
 
 -- all constructs of its tree run
 abbrev pub runs : Compiled → Bool

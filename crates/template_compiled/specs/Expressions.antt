@@ -5,6 +5,9 @@ use Rattle.template_values_errors.specs.declared.ErrorKind.TheVariants.{SyntaxEr
 use Rattle.template_values_model.specs.Val.{none}
 use Rattle.template_tree.specs.Tree.{Expression, constant}
 use Rattle.template_walk.specs.Runnable.{IsRunnable}
+use Rattle.template_code.specs.Code.{Code}
+use Rattle.template_compiler_codegen.specs.Statements.{standalone_code}
+use Rattle.template_compiler_numbers.specs.Numbers.{numbered_in}
 use Rattle.template_compiler_tokens.specs.Steps.{Read}
 use Rattle.template_compiler_grammar.specs.Reader.{expression_at}
 use Rattle.template_compiler_source_tokens.proofs.Spelling.{some_spelled}
@@ -26,6 +29,10 @@ read_alone _ = constant none
 -- the expression of a source, whose tokens are read from the first to the last
 unfoldable pub expression_in : List ℕ → Expression
 expression_in source = read_alone (expression_at 150 (some_spelled source).0)
+
+-- the code of that expression, whose filters and tests have their numbers
+abbrev pub code_alone : List ℕ → List Code
+code_alone source = numbered_in (standalone_code (expression_in source))
 
 -- the source is an expression, of which a construct does not run yet
 abbrev pub IsUnsupportedExpression : List ℕ → Type 0

@@ -4,3 +4,4 @@ pub mod Names
 pub mod Plain
 pub mod Expressions
 pub mod Standing
+pub mod Streams

@@ -1,5 +1,5 @@
 //! Compiled templates.
-ghost use Rattle.std.specs.Prelude.{◌≡◌, ◌↔◌, ◌≤◌, ◌^◌, ℕ, List, length, IsTrue, IfOk, IfErr, IsErrAnd, OnOk, OnErr};
+ghost use Rattle.std.specs.Prelude.{◌≡◌, ◌↔◌, ◌≤◌, ◌^◌, ℕ, List, length, option_map, IsTrue, IfOk, IfErr, IsErrAnd, OnOk, OnErr};
 ghost use Rattle.std.specs.BTreeSet.{contains_text};
 ghost use Rattle.std.specs.Cow.{cow_str_bytes};
 ghost use Rattle.template_values_errors.specs.Memory.{NoMemory};
@@ -17,20 +17,27 @@ ghost use Rattle.template_names_undeclared.specs.Found.{Adds, AddsSome};
 ghost use Rattle.template_compiled.specs.Names.{uses};
 ghost use Rattle.template_compiler_emission.specs.Puts.{NoRoom};
 ghost use Rattle.template_compiled.specs.Plain.{IsPlain, PlainStandsForItself};
+ghost use Rattle.template_code_blocks.specs.Streams.{stream_in, streams_in};
+ghost use Rattle.template_compiled.specs.Streams.{stream_named, streams_of};
 ghost use Rattle.template_compiled.specs.Sources.{HasNoRoom, IsAccepted, IsRefusedWith, Source, read_by, tree_in};
 
 use crate::config::TemplateConfig;
 use crate::room::put_template;
+use crate::streams::compile_blocks;
 use std::alloc::Global;
 use std::borrow::CowStr;
 use std::collections::BTreeSet;
 use std::marker::Model;
 use template_code::Instructions;
+use template_code_blocks::{CompiledBlock, block_among, own_blocks};
+use template_compiler_numbers::number_names;
 use template_compiler_runnable::is_runnable;
 use template_compiler_sources::parse;
+use template_compiler_statement_codegen::children;
 use template_compiler_syntax::SyntaxConfig;
 use template_machine_surroundings::EscapeRule;
-use template_names_undeclared::{add_undeclared, find_undeclared};
+use template_names_needed::add_needed;
+use template_names_undeclared::find_undeclared;
 use template_tree_statements::Stmt;
 use template_values_errors::{AutoEscape, Error, ErrorKind};
 
@@ -38,6 +45,7 @@ use template_values_errors::{AutoEscape, Error, ErrorKind};
 /// the source and what it was read under.
 pub struct CompiledTemplate<'source> {
     instructions: Instructions<'source>,
+    blocks: Vec<CompiledBlock<'source>>,
     config: TemplateConfig,
     initial_auto_escape: AutoEscape,
 }
@@ -47,6 +55,7 @@ impl<'source> Drop for CompiledTemplate<'source> {
     fn drop(self) {
         let CompiledTemplate {
             instructions: _,
+            blocks: _,
             config: _,
             initial_auto_escape: _,
         } = self;
@@ -56,9 +65,10 @@ impl<'source> Drop for CompiledTemplate<'source> {
 impl<'source> Model for CompiledTemplate<'source> {
     ghost use Rattle.std.specs.Prelude.{◌≡◌};
     ghost use Rattle.template_code.specs.Listing.{code_in, name_in, source_in};
-    ghost use Rattle.template_compiler_codegen.specs.Statements.{template_code};
-    ghost use Rattle.template_compiled.specs.Compiled.{Compiled, IsFaithful};
+    ghost use Rattle.template_compiled.specs.Compiled.{Compiled, IsFaithful, code_for};
     ghost use Rattle.template_compiled.specs.Sources.{read_by, tree_in};
+    ghost use Rattle.template_code_blocks.specs.Streams.{streams_in};
+    ghost use Rattle.template_compiled.specs.Streams.{streams_of};
 
     ghost Value = { Compiled };
 
@@ -72,7 +82,12 @@ impl<'source> Model for CompiledTemplate<'source> {
       name = name_in t.instructions;
       source = read_by t.config (source_in t.instructions);
       escape = t.initial_auto_escape;
-    }) × (code_in t.instructions ≡ template_code (tree_in (read_by t.config (source_in t.instructions)))) };
+    }) × (code_in t.instructions ≡ code_for (record {
+      name = name_in t.instructions;
+      source = read_by t.config (source_in t.instructions);
+      escape = t.initial_auto_escape;
+    }))
+        × (streams_in t.blocks.items ≡ streams_of (tree_in (read_by t.config (source_in t.instructions)))) };
 }
 
 impl<'source> CompiledTemplate<'source> {
@@ -111,9 +126,12 @@ impl<'source> CompiledTemplate<'source> {
         }
         let mut instructions = Instructions::new(alloc, name, source);
         put_template(alloc, &mut instructions, &tree, source)?;
+        number_names(alloc, &mut instructions)?;
         instructions.shrink_to_fit();
+        let blocks = compile_blocks(alloc, name, source, children(&tree))?;
         Ok(CompiledTemplate {
             instructions,
+            blocks,
             config: config.clone()?,
             initial_auto_escape: config.default_auto_escape.escape(name),
         })
@@ -157,11 +175,13 @@ impl<'source> CompiledTemplate<'source> {
     {
         let CompiledTemplate {
             instructions,
+            blocks,
             config,
             initial_auto_escape,
         } = self;
         Ok(CompiledTemplate {
             instructions: instructions.into_owned(alloc)?,
+            blocks: own_blocks(alloc, blocks)?,
             config,
             initial_auto_escape,
         })
@@ -173,11 +193,13 @@ impl<'source> CompiledTemplate<'source> {
     {
         let CompiledTemplate {
             instructions,
+            blocks,
             config,
             initial_auto_escape: _,
         } = self;
         CompiledTemplate {
             instructions,
+            blocks,
             config: TemplateConfig {
                 syntax_config: config.syntax_config,
                 default_auto_escape: EscapeRule::Fixed(escape),
@@ -222,6 +244,7 @@ impl<'source> CompiledTemplate<'source> {
     /// [`ErrorKind::OutOfMemory`].
     pub fn tree(&self, alloc: Global) -> Result<Stmt<'_>, Error>
         ensures tree { IfOk result (λ tree. statement_of tree ≡ template (tree_in self.now.source)) }
+        ensures faithful { IsFaithful self.now }
         ensures refused { IfErr result NoMemory }
     {
         parse(
@@ -232,8 +255,9 @@ impl<'source> CompiledTemplate<'source> {
         )
     }
 
-    /// Adds the names that the template uses to a set of names. Reads the source once more, in time linear in its
-    /// length, and takes a look-up for each place of use.
+    /// Adds the names that the template needs to a set of names: those that it uses, those that one of its blocks uses
+    /// by itself, and those that it imports from others. Reads the source once more, in time linear in its length, and
+    /// takes a look-up for each place of use, and once more for each block around it.
     ///
     /// # Errors
     ///
@@ -244,7 +268,7 @@ impl<'source> CompiledTemplate<'source> {
         ensures refused { IfErr result NoMemory }
     {
         let tree = self.tree(alloc)?;
-        add_undeclared(alloc, names, &tree)?;
+        add_needed(alloc, names, children(&tree))?;
         Ok(())
     }
 
@@ -262,6 +286,20 @@ impl<'source> CompiledTemplate<'source> {
     {
         let tree = self.tree(alloc)?;
         Ok(find_undeclared(alloc, &tree, nested)?)
+    }
+
+    /// The template's blocks, in order, those inside others too, each with the code of its body.
+    pub fn blocks(&self) -> &[CompiledBlock<'source>]
+        ensures { streams_in result.now ≡ streams_of (tree_in self.now.source) }
+    {
+        &self.blocks
+    }
+
+    /// The template's block of a name, if it has one. Linear in its blocks.
+    pub fn block(&self, name: &str) -> Option<&CompiledBlock<'source>>
+        ensures { option_map (λ b. stream_in b.now) result ≡ stream_named name.now (tree_in self.now.source) }
+    {
+        block_among(&self.blocks, name)
     }
 
     /// The template's code.

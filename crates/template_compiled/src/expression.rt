@@ -8,11 +8,10 @@ ghost use Rattle.template_values_errors.specs.declared.ErrorKind.TheVariants.{To
 ghost use Rattle.template_tree.specs.Tree.{Expression};
 ghost use Rattle.template_tree.specs.View.{expression_of};
 ghost use Rattle.template_code.specs.Listing.{code_in};
-ghost use Rattle.template_compiler_codegen.specs.Statements.{standalone_code};
 ghost use Rattle.template_compiler_emission.specs.Puts.{NoRoom};
 ghost use Rattle.template_compiler_sources.specs.Source.{IsAlone, IsExpressionSource};
 ghost use Rattle.template_names.specs.Names.{IsToldAlone};
-ghost use Rattle.template_compiled.specs.Expressions.{IsAcceptedExpression, IsExpressionRefusedWith, IsFaithfulExpression, expression_in};
+ghost use Rattle.template_compiled.specs.Expressions.{IsAcceptedExpression, IsExpressionRefusedWith, IsFaithfulExpression, code_alone, expression_in};
 
 use crate::room::put_expr;
 use std::alloc::Global;
@@ -20,6 +19,7 @@ use std::borrow::CowStr;
 use std::collections::BTreeSet;
 use std::marker::Model;
 use template_code::Instructions;
+use template_compiler_numbers::number_names;
 use template_compiler_runnable::is_runnable_expr;
 use template_compiler_sources::parse_expr;
 use template_names_undeclared::find_undeclared;
@@ -45,15 +45,14 @@ impl<'source> Drop for CompiledExpression<'source> {
 impl<'source> Model for CompiledExpression<'source> {
     ghost use Rattle.std.specs.Prelude.{◌≡◌, ℕ, List};
     ghost use Rattle.template_code.specs.Listing.{code_in, source_in};
-    ghost use Rattle.template_compiler_codegen.specs.Statements.{standalone_code};
-    ghost use Rattle.template_compiled.specs.Expressions.{IsFaithfulExpression, expression_in};
+    ghost use Rattle.template_compiled.specs.Expressions.{IsFaithfulExpression, code_alone};
 
     ghost Value = { List ℕ };
 
     ghost view = { λ e. source_in e.instructions };
 
     ghost invariant = { λ e. IsFaithfulExpression (source_in e.instructions)
-        × (code_in e.instructions ≡ standalone_code (expression_in (source_in e.instructions))) };
+        × (code_in e.instructions ≡ code_alone (source_in e.instructions)) };
 }
 
 impl<'source> CompiledExpression<'source> {
@@ -77,6 +76,7 @@ impl<'source> CompiledExpression<'source> {
         }
         let mut instructions = Instructions::new(alloc, NAME, source);
         put_expr(alloc, &mut instructions, &tree, source)?;
+        number_names(alloc, &mut instructions)?;
         instructions.shrink_to_fit();
         Ok(CompiledExpression { instructions })
     }
@@ -154,7 +154,7 @@ impl<'source> CompiledExpression<'source> {
 
     /// The expression's code.
     pub fn instructions(&self) -> &Instructions<'source>
-        ensures code { code_in result.now ≡ standalone_code (expression_in self.now) }
+        ensures code { code_in result.now ≡ code_alone self.now }
         ensures faithful { IsFaithfulExpression self.now }
     {
         &self.instructions

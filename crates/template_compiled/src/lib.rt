@@ -7,9 +7,11 @@ mod config;
 mod expression;
 mod naming;
 mod room;
+mod streams;
 mod templates;
 
 pub use compiled::{CompiledTemplate, one_refusal, one_tree, plain_text};
 pub use config::TemplateConfig;
 pub use expression::{CompiledExpression, one_standalone_refusal, one_standalone_tree};
+pub use template_code_blocks::CompiledBlock;
 pub use templates::CompiledTemplates;

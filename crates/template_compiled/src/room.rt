@@ -1,8 +1,9 @@
 //! The code of trees, and why there is no room for it.
-ghost use Rattle.std.specs.Prelude.{IfErr, OnOk};
+ghost use Rattle.std.specs.Prelude.{false, IfErr, OnOk};
 ghost use Rattle.template_tree.specs.View.{expression_of};
 ghost use Rattle.template_tree_statements.specs.View.{statement_of};
-ghost use Rattle.template_walk.specs.Runnable.{IsRunnable};
+ghost use Rattle.template_tree_parts.specs.Listed.{statements_in};
+ghost use Rattle.template_walk.specs.Runnable.{IsRunnable, AreRunnableStatements};
 ghost use Rattle.template_compiler_codegen.specs.Expressions.{expression_code};
 ghost use Rattle.template_compiler_codegen.specs.Statements.{no_ways, statements_code};
 ghost use Rattle.template_compiler_emission.specs.Puts.{NoRoom, Puts};
@@ -11,7 +12,7 @@ ghost use Rattle.template_compiled.specs.Sources.{HasNoRoom};
 
 use std::alloc::Global;
 use template_code::Instructions;
-use template_compiler_statement_codegen::{compile_expr, compile_template};
+use template_compiler_statement_codegen::{compile_expr, compile_statements, compile_template};
 use template_tree::Expr;
 use template_tree_statements::Stmt;
 use template_values_errors::{Error, ErrorKind};
@@ -32,6 +33,23 @@ pub(crate) fn put_template<'source>(
     ensures refused { IfErr result (HasNoRoom source.now) }
 {
     match compile_template(alloc, code, tree) {
+        Ok(()) => Ok(()),
+        Err(error) => Err(refused_for(source, error)),
+    }
+}
+
+// The same of the body of a block.
+pub(crate) fn put_body<'source>(
+    alloc: Global,
+    code: &mut Instructions<'source>,
+    body: &[Stmt<'source>],
+    source: &str,
+) -> Result<(), Error>
+    requires { AreRunnableStatements false (statements_in body.now) }
+    ensures put { OnOk result (Puts (statements_code no_ways (statements_in body.now)) code.old code.new) }
+    ensures refused { IfErr result (HasNoRoom source.now) }
+{
+    match compile_statements(alloc, code, body) {
         Ok(()) => Ok(()),
         Err(error) => Err(refused_for(source, error)),
     }

@@ -37,17 +37,21 @@ pub use Rattle.template_walk.specs.Constants
 pub use Rattle.template_walk.specs.Expressions as ExpressionWalk
 pub use Rattle.template_walk.specs.Statements as StatementWalk
 pub use Rattle.template_walk.specs.Runnable
+pub use Rattle.template_walk.specs.Blocks as TemplateBlocks
 pub use Rattle.template_code.specs.Code
 pub use Rattle.template_code.specs.View as CodeView
 pub use Rattle.template_code.specs.Steps
 pub use Rattle.template_code.specs.Prices
 pub use Rattle.template_code.specs.Listing
 pub use Rattle.template_code.specs.Laws as CodeLaws
+pub use Rattle.template_code_blocks.specs.Streams as BlockStreams
 pub use Rattle.template_code_references.specs.References
 pub use Rattle.template_compiler_codegen.specs.Core as CodeCore
 pub use Rattle.template_compiler_codegen.specs.Expressions as ExpressionCode
 pub use Rattle.template_compiler_codegen.specs.Statements as StatementCode
 pub use Rattle.template_compiler_codegen.specs.Laws
+pub use Rattle.template_compiler_numbers.specs.Numbers
+pub use Rattle.template_compiler_numbers.specs.Laws as NumberLaws
 pub use Rattle.template_compiler_emission.specs.Puts
 pub use Rattle.template_compiler_statement_codegen.specs.Listed
 pub use Rattle.template_compiler_generator.specs.Drafts
@@ -56,6 +60,7 @@ pub use Rattle.template_compiler_generator.specs.Laws as DraftLaws
 pub use Rattle.template_compiler_runnable.specs.Runs
 pub use Rattle.template_compiled.specs.Sources
 pub use Rattle.template_compiled.specs.Compiled
+pub use Rattle.template_compiled.specs.Streams as TemplateStreams
 pub use Rattle.template_compiled.specs.Expressions as ExpressionSources
 pub use Rattle.template_compiled.specs.Names as TemplateNames
 pub use Rattle.template_compiled.specs.Plain

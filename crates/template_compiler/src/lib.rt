@@ -30,8 +30,9 @@
 //! - [`is_runnable`] tells whether all constructs of a template's tree have a walk yet, [`is_runnable_expr`] of an
 //!   expression's.
 //! - [`compile_template`] puts the code of a tree behind what stands in [`Instructions`], [`compile_expr`]
-//!   that of an expression. [`CompiledTemplate::new`] and [`CompiledExpression::new`] do all of it: from a text to its
-//!   code. A [`CodeGenerator`] adds instructions one by one, with their lines and the jumps of blocks.
+//!   that of an expression. [`number_names`] numbers the filters and tests that it names. [`CompiledTemplate::new`] and
+//!   [`CompiledExpression::new`] do all of it: from a text to its code, and a template's blocks too, each a
+//!   [`CompiledBlock`]. A [`CodeGenerator`] adds instructions one by one, with their lines and the jumps of blocks.
 //! - [`get_referenced_names`] gives the names that instructions before a place look up or store.
 //!
 //! # What is proved
@@ -40,8 +41,9 @@
 //! walk of a tree (a process that takes priced steps and asks its surroundings), and the step table of the
 //! instructions. [`one_token`] says that at each place stands one token or fault, [`one_template`] and
 //! [`is_decided`] that tokens have one tree or none, [`templates_perform`] and [`expressions_perform`] that
-//! the code of every tree does exactly what the tree's walk does, whatever is answered, and [`one_tree`]
-//! and [`one_standalone_tree`] which tree an accepted source has.
+//! the code of every tree does exactly what the tree's walk does, whatever is answered, [`numbers_run_alike`]
+//! that it does the same once its names are numbered, and [`one_tree`] and [`one_standalone_tree`] which tree an
+//! accepted source has.
 #![tactic(auto)]
 
 pub mod ast;
@@ -52,13 +54,14 @@ pub use template_code::{
 };
 pub use template_code_references::get_referenced_names;
 pub use template_compiled::{
-    CompiledExpression, CompiledTemplate, CompiledTemplates, TemplateConfig, one_standalone_tree,
-    one_tree, plain_text,
+    CompiledBlock, CompiledExpression, CompiledTemplate, CompiledTemplates, TemplateConfig,
+    one_standalone_tree, one_tree, plain_text,
 };
 pub use template_compiler_codegen::{expressions_perform, templates_perform};
 pub use template_compiler_folding::as_const;
 pub use template_compiler_generator::{CodeGenerator, blocks_generate};
 pub use template_compiler_grammar_laws::templates::{is_decided, one_template, reads_the_grammar};
+pub use template_compiler_numbers::{number_names, numbers_run_alike};
 pub use template_compiler_runnable::{is_runnable, is_runnable_expr};
 pub use template_compiler_sources::{Parser, parse, parse_expr};
 pub use template_compiler_statement_codegen::{compile_expr, compile_template};

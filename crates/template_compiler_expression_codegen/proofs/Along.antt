@@ -1,5 +1,5 @@
 -- Along a left chain: each node is runnable, and adds its own to what stands.
-use Rattle.std.proofs.Common.{◌≡◌, ℕ, ◌+◌, ◌<◌, ◌≤◌, zero, suc, Result, Ok, Err, List, [], ◌∷◌, ◌++◌, length, map, take, get_or, Option, None, Some, option_map, Bor, sym, ap, subst, ◌∙◌, add-zero, arith}
+use Rattle.std.proofs.Common.{◌≡◌, ℕ, ◌+◌, ◌<◌, ◌≤◌, zero, suc, Bool, true, false, ◌&&◌, Result, Ok, Err, List, [], ◌∷◌, ◌++◌, length, map, take, get_or, Option, None, Some, option_map, Bor, sym, ap, subst, ◌∙◌, add-zero, arith}
 use Rattle.std.specs.List.{All, fold}
 use Rattle.std.specs.Prelude.{OnOk}
 use Rattle.std.proofs.lemmas.List.{take_more}
@@ -7,11 +7,13 @@ use Rattle.std.proofs.lemmas.List.Sums.{fold_push}
 use Rattle.std.proofs.lemmas.List.Elements.{All-nil, All-head, All-tail, All-same, All-push, All-get_or}
 use Rattle.template_values_model.specs.Val.{Val}
 use Rattle.template_tree.specs.Tree.{Expression, slice, binary, chain, filtered, tested, variable, attribute, item, call, absent, given}
+use Rattle.template_tree.specs.Kinds.{is_self_name, is_empty}
 use Rattle.template_tree.specs.View.{expression_of}
 use Rattle.template_tree.specs.declared.expressions.Expr.{Expr, size-Expr}
 use Rattle.template_tree_parts.specs.Spine.{before}
-use Rattle.template_compiler_expression_codegen.specs.Coded.{coded_spine, coded_left}
+use Rattle.template_compiler_expression_codegen.specs.Coded.{of_called, coded_spine, coded_left}
 use Rattle.template_walk.specs.Constants.{constant_of}
+use Rattle.template_walk.specs.Expressions.{attribute_called}
 use Rattle.template_walk.specs.Runnable.{IsRunnable}
 use Rattle.template_code.specs.Code.{Code}
 use Rattle.template_compiler_codegen.specs.Expressions.{expression_code}
@@ -22,6 +24,11 @@ use Rattle.template_compiler_emission.proofs.Putting.{same_then}
 use Rattle.template_compiler_expression_codegen.specs.Own.{own_constant, own_code}
 use Rattle.template_compiler_expression_codegen.proofs.Own.{known, add_own, with_own, no_left, own_step, own_runnable, added}
 
+runnable_called : (b : Bool) (e t : Expression) (name : List ℕ) → All IsRunnable (coded_spine e) → IsRunnable t
+    → All IsRunnable (of_called (attribute_called b name) [] (coded_spine e) (coded_spine (attribute e name)) ++ t ∷ [])
+runnable_called true e t name along h = All-push IsRunnable [] t (All-nil IsRunnable) h
+runnable_called false e t name along h = All-push IsRunnable (coded_spine e) t along h
+
 runnable_along : (e : Expression) → IsRunnable e → All IsRunnable (coded_spine e)
 runnable_along (slice e start stop by) h = All-push IsRunnable (coded_spine e) (slice e start stop by) (runnable_along e h.0) h
 runnable_along (binary op l r) h = All-push IsRunnable (coded_spine l) (binary op l r) (runnable_along l h.0) h
@@ -30,7 +37,8 @@ runnable_along (filtered name absent args) h = absurd h
 runnable_along (filtered name (given e) args) h = All-push IsRunnable (coded_spine e) (filtered name (given e) args) (runnable_along e h.0) h
 runnable_along (tested name e args) h = All-push IsRunnable (coded_spine e) (tested name e args) (runnable_along e h.0) h
 runnable_along (call (variable name) args) h = All-push IsRunnable [] (call (variable name) args) (All-nil IsRunnable) h
-runnable_along (call (attribute e name) args) h = All-push IsRunnable (coded_spine e) (call (attribute e name) args) (runnable_along e h.0) h
+runnable_along (call (attribute e name) args) h =
+    runnable_called (is_self_name e && is_empty args) e (call (attribute e name) args) name (runnable_along e h.0) h
 runnable_along (call e args) h = All-push IsRunnable (coded_spine e) (call e args) (runnable_along e h.0) h
 runnable_along (attribute e name) h = All-push IsRunnable (coded_spine e) (attribute e name) (runnable_along e h) h
 runnable_along (item e key) h = All-push IsRunnable (coded_spine e) (item e key) (runnable_along e h.0) h
@@ -40,6 +48,11 @@ runnable_along e h = All-push IsRunnable [] e (All-nil IsRunnable) h
 is_left : (l e : Expression) → IsRunnable e → ◌≡◌ {A = Option Expression} (Some l) (Some e) → IsRunnable l
 is_left l e h same = let is : e ≡ l = cc in subst (λ (x : Expression). IsRunnable x) is h
 
+left_called : (b : Bool) (e l : Expression) (name : List ℕ) → IsRunnable e
+    → Some l ≡ of_called (attribute_called b name) None (Some e) (Some (attribute e name)) → IsRunnable l
+left_called true e l name h left = absurd cc
+left_called false e l name h left = is_left l e h left
+
 pub left_runnable : (e l : Expression) → IsRunnable e → Some l ≡ coded_left e → IsRunnable l
 left_runnable (slice e start stop by) l h left = is_left l e h.0 left
 left_runnable (binary op a b) l h left = is_left l a h.0 left
@@ -48,7 +61,7 @@ left_runnable (filtered name absent args) l h left = absurd h
 left_runnable (filtered name (given e) args) l h left = is_left l e h.0 left
 left_runnable (tested name e args) l h left = is_left l e h.0 left
 left_runnable (call (variable name) args) l h left = absurd cc
-left_runnable (call (attribute e name) args) l h left = is_left l e h.0 left
+left_runnable (call (attribute e name) args) l h left = left_called (is_self_name e && is_empty args) e l name h.0 left
 left_runnable (call e args) l h left = is_left l e h.0 left
 left_runnable (attribute e name) l h left = is_left l e h left
 left_runnable (item e key) l h left = is_left l e h.0 left

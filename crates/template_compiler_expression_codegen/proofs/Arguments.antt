@@ -1,10 +1,11 @@
 -- The arguments of a call, a filter or a test: those that are passed by their place, and those that are passed by a name, one
 -- behind the other.
-use Rattle.std.proofs.Common.{◌≡◌, ℕ, ◌+◌, ◌<◌, ◌≤◌, zero, suc, Bool, true, false, ◌||◌, Result, Ok, Err, Option, None, Some, Box, Global, List, [], ◌∷◌, ◌++◌, length, get_or, drop, refl, sym, ap, subst, ◌∙◌, append-nil, arith}
+use Rattle.std.proofs.Common.{◌≡◌, ℕ, ◌+◌, ◌<◌, ◌≤◌, zero, suc, Bool, true, false, ◌||◌, ◌&&◌, Result, Ok, Err, Option, None, Some, Box, Global, List, [], ◌∷◌, ◌++◌, length, get_or, drop, refl, sym, ap, subst, ◌∙◌, append-nil, arith}
 use Rattle.std.specs.Prelude.{OnOk, if◌then◌else◌}
 use Rattle.std.proofs.lemmas.List.{drop_more, drop_all}
 use Rattle.template_values_model.specs.Val.{Val, text}
-use Rattle.template_tree.specs.Tree.{Arguments, Optional, absent, given, filtered, no_arguments, arguments_more}
+use Rattle.template_tree.specs.Kinds.{is_self_name, is_empty}
+use Rattle.template_tree.specs.Tree.{Arguments, Optional, absent, given, call, filtered, no_arguments, arguments_more}
 use Rattle.template_tree.specs.View.{expression_of, argument_of, arguments_in}
 use Rattle.template_tree.specs.declared.calls.CallArg.{CallArg, Pos, Kwarg, PosSplat, KwargSplat}
 use Rattle.template_tree.specs.declared.span.Spanned.{Spanned}
@@ -13,16 +14,16 @@ use Rattle.template_tree.specs.declared.expressions.Var.{Var as VarNode}
 use Rattle.template_tree.specs.declared.expressions.GetAttr.{GetAttr as GetAttrNode}
 use Rattle.template_tree.specs.declared.expressions.Expr.{Expr, Var, GetAttr, GetAttr', Compare'}
 use Rattle.template_walk.specs.Runnable.{IsRunnable, AreRunnableArguments}
-use Rattle.template_walk.specs.Expressions.{Passing, has_spread, Callee, by_value, callee_of}
+use Rattle.template_walk.specs.Expressions.{Passing, has_spread, Callee, by_value, attribute_called, callee_of}
 use Rattle.template_code.specs.Code.{Code, load_const, build_kwargs, build_list, merge_kwargs, unpack_lists, call_function, call_method, call_object, apply_filter, perform_test}
 use Rattle.template_code.specs.Listing.{code_in}
 use Rattle.template_code.specs.declared.listing.Instructions.{Instructions}
-use Rattle.template_compiler_codegen.specs.Core.{Core}
-use Rattle.template_compiler_codegen.specs.Expressions.{Coded, one, then_code, no_number, at_most_one, list_count, rest_count, merged_count, map_count, keyword_count, expression_code, filter_code, passed_code, argument_count, positional_cores, keyword_cores}
+use Rattle.template_compiler_codegen.specs.Core.{Core, no_ways, flat}
+use Rattle.template_compiler_codegen.specs.Expressions.{Coded, one, then_code, no_number, at_most_one, list_count, rest_count, merged_count, map_count, keyword_count, called_core, expression_core, object_core, expression_code, filter_code, passed_code, argument_count, positional_cores, keyword_cores}
 use Rattle.template_compiler_emission.specs.Puts.{Keeps, Puts, unless, held, behind}
 use Rattle.template_compiler_emission.proofs.Pieces.{two_pieces}
 use Rattle.template_compiler_emission.proofs.Putting.{puts_nothing, puts_then, same_itself, same_then}
-use Rattle.template_compiler_expression_codegen.specs.Own.{call_code, called_behind, test_code}
+use Rattle.template_compiler_expression_codegen.specs.Own.{block_code, call_code, called_behind, test_code}
 use Rattle.template_compiler_expression_codegen.specs.Passing.{listed_code, mapped_code, merged_code, run_code, stretches_code, named_code, keywords_code, PassesOne, PassesByPlace, PassesByName, PassesAll, ArePassedByPlace, ArePassedByName}
 use Rattle.template_compiler_expression_codegen.specs.declared.stretches.Stretches.{Stretches}
 use Rattle.template_compiler_expression_codegen.proofs.Items.{then_assoc}
@@ -410,24 +411,51 @@ puts_function v e n args count is counted first last =
     rw is (puts_then first (puts_as (ap (λ (k : Option ℕ). call_function n.node.id.now k) counted) last))
 
 pub puts_method : (v : Option Val) (e : Expr) (n : Box (Spanned GetAttrNode) Global) (args : Arguments) (count : Option ℕ) {a b c d : Instructions}
-    → e ≡ GetAttr n → count ≡ argument_count 1 args → Puts (held v) a b → Puts (passed_code 1 args) b c
+    → e ≡ GetAttr n → (is_self_name (expression_of n.value.node.expr) && is_empty args) ≡ false → count ≡ argument_count 1 args
+    → Puts (held v) a b → Puts (passed_code 1 args) b c
     → Puts (one (call_method n.value.node.name.now count)) c d → Puts (call_code v (expression_of e) args) a d
-puts_method v e n args count is counted object first last =
-    rw is (puts_behind v object (puts_then first (puts_as (ap (λ (k : Option ℕ). call_method n.value.node.name.now k) counted) last)))
+puts_method v e n args count {a} {b} {c} {d} is no_block counted object first last =
+    let name = n.value.node.name.now in
+    let put : Puts (called_behind (attribute_called false name) v args) a d =
+    puts_behind v object (puts_then first (puts_as (ap (λ (k : Option ℕ). call_method name k) counted) last)) in
+    rw is (subst (λ (x : Bool). Puts (called_behind (attribute_called x name) v args) a d) (sym no_block) put)
 
-no_name_called : (e : Expr) → ((n : _) → e ≡ Var n → ⊥) → ((n : Box (Spanned GetAttrNode) Global) → e ≡ GetAttr n → ⊥)
-    → callee_of (expression_of e) ≡ by_value
-no_name_called (Var n) no_name no_method = absurd (no_name n refl)
-no_name_called (GetAttr' p expr name span) no_name no_method =
+-- a call of a block
+pub puts_block : (v : Option Val) (e : Expr) (n : Box (Spanned GetAttrNode) Global) (args : Arguments) {a b : Instructions} → e ≡ GetAttr n
+    → (is_self_name (expression_of n.value.node.expr) && is_empty args) ≡ true → Puts (block_code n.value.node.name.now) a b
+    → Puts (call_code v (expression_of e) args) a b
+puts_block v e n args {a} {b} is block put =
+    rw is (subst (λ (x : Bool). Puts (called_behind (attribute_called x n.value.node.name.now) v args) a b) (sym block) put)
+
+whole_block : (x : Bool) → x ≡ true → (name : List ℕ) (args : Arguments) (whole object : Core) (cs : List (Passing Core Core)) (ns : List (Passing (List ℕ × Core) Core))
+    (a b : Instructions) → Puts (called_behind (attribute_called x name) None args) a b → Puts (flat no_ways (called_core (attribute_called x name) whole object cs ns)) a b
+whole_block true is name args whole object cs ns a b put = put
+whole_block false is name args whole object cs ns a b put = let never : false ≡ true = is in absurd cc
+
+pub puts_whole_block : (e : Expr) (n : Box (Spanned GetAttrNode) Global) (args : Arguments) (a b : Instructions) → e ≡ GetAttr n
+    → (is_self_name (expression_of n.value.node.expr) && is_empty args) ≡ true → Puts (call_code None (expression_of e) args) a b
+    → Puts (expression_code (call (expression_of e) args)) a b
+puts_whole_block e n args a b is block put =
+    let P : Expr → Type 0 = λ x. Puts (call_code None (expression_of x) args) a b → Puts (expression_code (call (expression_of x) args)) a b in
+    let t = expression_of (GetAttr n) in
+    let held : P (GetAttr n) =
+    whole_block (is_self_name (expression_of n.value.node.expr) && is_empty args) block n.value.node.name.now args (expression_core t) (object_core t)
+    (positional_cores args) (keyword_cores args) a b in
+    subst P (sym is) held put
+
+no_name_called : (e : Expr) (args : Arguments) → ((n : _) → e ≡ Var n → ⊥) → ((n : Box (Spanned GetAttrNode) Global) → e ≡ GetAttr n → ⊥)
+    → callee_of (expression_of e) args ≡ by_value
+no_name_called (Var n) args no_name no_method = absurd (no_name n refl)
+no_name_called (GetAttr' p expr name span) args no_name no_method =
     absurd (no_method record { ptr = p.ptr; alloc = p.alloc; value = record { node = record { expr = expr; name = name }; span = span } } refl)
-no_name_called (Compare' p (compared expr shape ops) span) no_name no_method = refl
-no_name_called _ no_name no_method = refl
+no_name_called (Compare' p (compared expr shape ops) span) args no_name no_method = refl
+no_name_called _ args no_name no_method = refl
 
 pub puts_value : (v : Option Val) (e : Expr) (args : Arguments) (count : Option ℕ) {a b c d : Instructions}
     → ((n : _) → e ≡ Var n → ⊥) → ((n : Box (Spanned GetAttrNode) Global) → e ≡ GetAttr n → ⊥) → count ≡ argument_count 1 args
     → Puts (held v) a b → Puts (passed_code 1 args) b c → Puts (one (call_object count)) c d → Puts (call_code v (expression_of e) args) a d
 puts_value v e args count {a} {b} {c} {d} no_name no_method counted value first last =
-    subst (λ (callee : Callee). Puts (called_behind callee v args) a d) (sym (no_name_called e no_name no_method))
+    subst (λ (callee : Callee). Puts (called_behind callee v args) a d) (sym (no_name_called e args no_name no_method))
     (puts_behind v value (puts_then first (puts_as (ap (λ (k : Option ℕ). call_object k) counted) last)))
 
 -- a filter or a test behind its arguments

@@ -1,16 +1,19 @@
 -- Facts of left chains in the order of their code.
-use Rattle.std.proofs.Common.{◌≡◌, ℕ, ◌+◌, ◌<◌, ◌≤◌, List, [], ◌∷◌, ◌++◌, map, reverse, Option, None, Some, Bor, Box, Global, refl, sym, ap, ◌∙◌, append_assoc, arith}
+use Rattle.std.proofs.Common.{◌≡◌, ℕ, ◌+◌, ◌<◌, ◌≤◌, Bool, true, false, ◌&&◌, List, [], ◌∷◌, ◌++◌, map, reverse, Option, None, Some, Bor, Box, Global, refl, sym, ap, ◌∙◌, append_assoc, arith}
 use Rattle.std.specs.Prelude.{IfSome, option_map}
 use Rattle.std.proofs.lemmas.List.{reverse-append}
 use denote.Hole.Carrier.{out}
-use Rattle.template_tree.specs.Tree.{Expression, Arguments, no_arguments, filtered, attribute, call, variable, absent, given}
-use Rattle.template_tree.specs.View.{expression_of, chain_of}
+use Rattle.template_tree.specs.Tree.{Expression, Arguments, filtered, attribute, call, variable, absent, given}
+use Rattle.template_tree.specs.Kinds.{is_self_name, is_empty}
+use Rattle.template_tree.specs.View.{expression_of, arguments_in, chain_of}
 use Rattle.template_tree.specs.declared.span.Spanned.{Spanned}
 use Rattle.template_tree.specs.declared.calls.Call.{Call as CallNode}
 use Rattle.template_tree.specs.declared.expressions.Compare.{Compare, Compare' as compared, out-Compare}
 use Rattle.template_tree.specs.declared.expressions.GetAttr.{GetAttr as GetAttrNode}
 use Rattle.template_tree.specs.declared.expressions.Expr.{Expr, size-Expr, Var, GetAttr, Call, GetAttr', Compare'}
-use Rattle.template_compiler_expression_codegen.specs.Coded.{coded_spine, coded_left}
+use Rattle.template_walk.specs.Expressions.{attribute_called}
+use Rattle.template_compiler_expression_codegen.specs.Coded.{of_called, coded_spine, coded_left}
+use Rattle.template_compiler_expression_codegen.proofs.Trees.{call_is}
 
 -- the left part of a chain of comparisons
 pub chain_left : (c : Compare) → ◌≡◌ {A = Option Expression} (Some (expression_of (out-Compare c).expr)) (coded_left (chain_of c))
@@ -26,23 +29,51 @@ value_left (GetAttr' p expr name span) args no_name no_method =
 value_left (Compare' p (compared expr shape ops) span) args no_name no_method = refl
 value_left _ args no_name no_method = refl
 
+pub call_left : (e : Expr) (n : Box (Spanned CallNode) Global) (part : Expr) → e ≡ Call n → part ≡ n.value.node.expr
+    → coded_left (call (expression_of part) (arguments_in n.value.node.args.items)) ≡ coded_left (expression_of e)
+call_left e n part node read =
+    ap (λ (x : Expr). coded_left (call (expression_of x) (arguments_in n.value.node.args.items))) read ∙
+    ap (λ (t : Expression). coded_left t) (sym (call_is e n n.value.node node refl))
+
 pub called_left : (e : Expr) (n : Box (Spanned CallNode) Global) (part : Expr) → e ≡ Call n → part ≡ n.value.node.expr
     → ((n : _) → part ≡ Var n → ⊥) → ((n : Box (Spanned GetAttrNode) Global) → part ≡ GetAttr n → ⊥)
     → ◌≡◌ {A = Option Expression} (Some (expression_of part)) (coded_left (expression_of e))
 called_left e n part node read no_name no_method =
-    value_left part no_arguments no_name no_method ∙ ap (λ (x : Expr). coded_left (call (expression_of x) no_arguments)) read ∙
-    ap (λ (x : Expr). coded_left (expression_of x)) (sym node)
+    value_left part (arguments_in n.value.node.args.items) no_name no_method ∙ call_left e n part node read
+
+-- the object where a method is called; none where a block is
+abbrev attribute_left : Bool → Box (Spanned GetAttrNode) Global → Option Expression
+attribute_left b m =
+    of_called (attribute_called b m.value.node.name.now) None (Some (expression_of m.value.node.expr)) (Some (expression_of (GetAttr m)))
+
+pub method_left : (e : Expr) (m : Box (Spanned GetAttrNode) Global) (args : Arguments) → e ≡ GetAttr m
+    → (is_self_name (expression_of m.value.node.expr) && is_empty args) ≡ false
+    → ◌≡◌ {A = Option Expression} (Some (expression_of m.value.node.expr)) (coded_left (call (expression_of e) args))
+method_left e m args node no_block =
+    ap (λ (b : Bool). attribute_left b m) (sym no_block) ∙ ap (λ (x : Expr). coded_left (call (expression_of x) args)) (sym node)
+
+pub block_left : (e : Expr) (m : Box (Spanned GetAttrNode) Global) (args : Arguments) → e ≡ GetAttr m
+    → (is_self_name (expression_of m.value.node.expr) && is_empty args) ≡ true
+    → ◌≡◌ {A = Option Expression} None (coded_left (call (expression_of e) args))
+block_left e m args node is_block =
+    ap (λ (b : Bool). attribute_left b m) (sym is_block) ∙ ap (λ (x : Expr). coded_left (call (expression_of x) args)) (sym node)
 
 -- a left chain is the left part's and the expression
 abbrev pub along_left : Option Expression → List Expression
 along_left None = []
 along_left (Some l) = coded_spine l
 
+split_called : (b : Bool) (e t : Expression) (name : List ℕ) →
+    of_called (attribute_called b name) [] (coded_spine e) (coded_spine (attribute e name)) ++ t ∷ []
+    ≡ along_left (of_called (attribute_called b name) None (Some e) (Some (attribute e name))) ++ t ∷ []
+split_called true e t name = refl
+split_called false e t name = refl
+
 spine_split : (t : Expression) → coded_spine t ≡ along_left (coded_left t) ++ t ∷ []
 spine_split (filtered name absent args) = refl
 spine_split (filtered name (given e) args) = refl
 spine_split (call (variable name) args) = refl
-spine_split (call (attribute e name) args) = refl
+spine_split (call (attribute e name) args) = split_called (is_self_name e && is_empty args) e (call (attribute e name) args) name
 spine_split (call _ args) = refl
 spine_split _ = refl
 

@@ -1,13 +1,15 @@
 -- The same law along the left parts in the order of their code: a function whose answer at a tree is made of its answer at
 -- that part is the fold of that step over their spine.
-use Rattle.std.proofs.Common.{◌≡◌, ℕ, ◌≤◌, List, [], ◌∷◌, ◌++◌, length, map, take, Some, Bor, refl, sym, ◌∙◌, ap}
+use Rattle.std.proofs.Common.{◌≡◌, ℕ, ◌≤◌, Bool, true, false, ◌&&◌, List, [], ◌∷◌, ◌++◌, length, map, take, None, Some, Bor, refl, sym, ◌∙◌, ap}
 use Rattle.std.specs.List.{fold}
 use Rattle.std.proofs.lemmas.List.Sums.{fold_push}
 use Rattle.std.proofs.lemmas.List.Folds.{fold-map}
 use Rattle.std.proofs.lemmas.List.{take_all}
 use Rattle.template_tree.specs.Tree.{Expression, variable, constant, slice, unary, binary, chain, conditional, filtered, tested, attribute, item, call, list_literal, tuple_literal, map_literal, Optional, absent, given}
 use Rattle.template_tree_parts.specs.Spine.{optional, before}
-use Rattle.template_compiler_expression_codegen.specs.Coded.{coded_left, coded_spine, coded_before}
+use Rattle.template_tree.specs.Kinds.{is_self_name, is_empty}
+use Rattle.template_walk.specs.Expressions.{attribute_called}
+use Rattle.template_compiler_expression_codegen.specs.Coded.{of_called, coded_left, coded_spine, coded_before}
 use Rattle.template_tree.specs.View.{expression_of}
 use Rattle.template_tree.specs.declared.expressions.Expr.{Expr}
 
@@ -16,6 +18,13 @@ module _ {A : Type 0} (f : Expression → A) (own : A → Expression → A) (z :
   with_left : (l t : Expression) → coded_left t ≡ Some l → fold own z (coded_spine l) ≡ f l → fold own z (coded_spine l ++ t ∷ []) ≡ f t
   with_left l t left along =
       fold_push own z (coded_spine l) t ∙ ap (λ a. own a t) along ∙ ap (λ o. own (before f z o) t) (sym left) ∙ sym (step t)
+
+  -- an attribute that is called: a method has its object as left part, a block has none
+  with_called : (b : Bool) (name : List ℕ) (e t : Expression) → coded_left t ≡ of_called (attribute_called b name) None (Some e) (Some (attribute e name))
+      → fold own z (coded_spine e) ≡ f e
+      → fold own z (of_called (attribute_called b name) [] (coded_spine e) (coded_spine (attribute e name)) ++ t ∷ []) ≡ f t
+  with_called true name e t left along = ap (λ o. own (before f z o) t) (sym left) ∙ sym (step t)
+  with_called false name e t left along = with_left e t left along
 
   mutual
     walked_along : (t : Expression) → fold own z (coded_spine t) ≡ f t
@@ -29,7 +38,8 @@ module _ {A : Type 0} (f : Expression → A) (own : A → Expression → A) (z :
     walked_along (attribute e name) = with_left e (attribute e name) refl (walked_along e)
     walked_along (item e key) = with_left e (item e key) refl (walked_along e)
     walked_along (call (variable name) args) = sym (step (call (variable name) args))
-    walked_along (call (attribute e name) args) = with_left e (call (attribute e name) args) refl (walked_along e)
+    walked_along (call (attribute e name) args) =
+        with_called (is_self_name e && is_empty args) name e (call (attribute e name) args) refl (walked_along e)
     walked_along (call e args) = with_left e (call e args) refl (walked_along e)
     walked_along (variable name) = sym (step (variable name))
     walked_along (constant value) = sym (step (constant value))

@@ -1,20 +1,23 @@
 -- What a tree adds to its left part makes its constant and its code: one step of the walk along a left chain.
-use Rattle.std.proofs.Common.{◌≡◌, ℕ, ◌+◌, List, [], ◌∷◌, ◌++◌, length, Option, None, Some, refl, sym, ap, ◌∙◌, append-nil, append_assoc, add-zero, length-append}
+use Rattle.std.proofs.Common.{◌≡◌, ℕ, ◌+◌, Bool, true, false, ◌&&◌, List, [], ◌∷◌, ◌++◌, length, Option, None, Some, refl, sym, ap, ◌∙◌, append-nil, append_assoc, add-zero, length-append}
 use Rattle.std.specs.Prelude.{option_and_then}
 use Rattle.template_values_model.specs.Val.{Val, none}
 use Rattle.template_tree.specs.declared.operators.BinOpKind.{BinOpKind}
 use Rattle.template_tree.specs.declared.operators.BinOpKind.TheVariants.{ScAnd, ScOr}
-use Rattle.template_tree.specs.Tree.{Expression, variable, constant, unary, binary, chain, conditional, filtered, tested, attribute, item, call, list_literal, tuple_literal, map_literal, absent, given}
+use Rattle.template_tree.specs.Kinds.{is_self_name, is_empty}
+use Rattle.template_tree.specs.Tree.{Expression, Arguments, variable, constant, unary, binary, chain, conditional, filtered, tested, attribute, item, call, list_literal, tuple_literal, map_literal, absent, given}
 use Rattle.template_tree.specs.Tree as tree
 use Rattle.template_tree_parts.specs.Spine.{before}
-use Rattle.template_compiler_expression_codegen.specs.Coded.{coded_left}
+use Rattle.template_compiler_expression_codegen.specs.Coded.{of_called, coded_left}
 use Rattle.template_walk.specs.Constants.{constant_of, binary_constant, chain_constant}
+use Rattle.template_walk.specs.Expressions.{attribute_called}
 use Rattle.template_walk.specs.Runnable.{IsRunnable}
 use Rattle.template_walk.specs.Statements.{number_of}
 use Rattle.template_code.specs.Code.{Code, load_const, get_attr, get_item, slice, build_list, build_tuple, build_map, call_method, call_object}
-use Rattle.template_compiler_codegen.specs.Expressions.{Coded, one, then_code, loaded, unary_code, binary_code, expression_code, optional_code, expressions_code, entries_code, entry_count, codes_of, chain_code, filter_code, passed_code, argument_count}
+use Rattle.template_compiler_codegen.specs.Core.{no_ways, flat}
+use Rattle.template_compiler_codegen.specs.Expressions.{Coded, one, then_code, loaded, unary_code, binary_code, called_core, expression_core, positional_cores, keyword_cores, expression_code, optional_code, expressions_code, entries_code, entry_count, codes_of, chain_code, filter_code, passed_code, argument_count}
 use Rattle.template_compiler_emission.specs.Puts.{unless, held, behind}
-use Rattle.template_compiler_expression_codegen.specs.Own.{own_constant, own_code, operator_code, test_code}
+use Rattle.template_compiler_expression_codegen.specs.Own.{own_constant, own_code, operator_code, block_code, called_behind, test_code}
 
 loads_known : (o : Option Val) (code : Coded) (v : Val) → o ≡ Some v → loaded o code ≡ one (load_const v)
 loads_known o code v h = ap (λ (k : Option Val). loaded k code) h
@@ -79,6 +82,17 @@ along : (p : ℕ) (l : Expression) (o : Option Val) (rest : Coded) → (constant
 along p l o rest none_stays =
     behind_left (constant_of l) o (expression_code l) rest p (λ v e. ap (λ (f : Coded). f p) (constants_load l v e)) none_stays
 
+-- an attribute that is called: a method behind its object, or a block
+attribute_step : (p : ℕ) (b : Bool) (e : Expression) (name : List ℕ) (args : Arguments) →
+    let callee = attribute_called b name in
+    let left : Option Val × List Code = before (known p) no_left (of_called callee None (Some e) (Some (attribute e name))) in
+    ◌≡◌ {A = Option Val × List Code} (None, flat no_ways (called_core callee (expression_core (attribute e name)) (expression_core e) (positional_cores args) (keyword_cores args)) p)
+    (None, left.1 ++ called_behind callee left.0 args (p + length left.1))
+attribute_step p true e name args = at_first None (block_code name) (block_code name) p (λ q. refl)
+attribute_step p false e name args =
+    ap (λ (code : List Code). (None, code))
+    (along p e None (then_code (passed_code 1 args) (one (call_method name (argument_count 1 args)))) (λ h. refl))
+
 pub own_step : (p : ℕ) (e : Expression) → known p e ≡ add_own p (before (known p) no_left (coded_left e)) e
 own_step p (variable name) = refl
 own_step p (constant v) = refl
@@ -104,9 +118,7 @@ own_step p (filtered name (given e) args) = ap (λ (code : List Code). (None, co
 own_step p (tested name e args) = ap (λ (code : List Code). (None, code)) (along p e None (test_code name args) (λ h. refl))
 own_step p (call (variable name) args) =
     let e = call (variable name) args in at_first None (expression_code e) (expression_code e) p (λ q. refl)
-own_step p (call (attribute e name) args) =
-    ap (λ (code : List Code). (None, code))
-    (along p e None (then_code (passed_code 1 args) (one (call_method name (argument_count 1 args)))) (λ h. refl))
+own_step p (call (attribute e name) args) = attribute_step p (is_self_name e && is_empty args) e name args
 own_step p (call e args) =
     ap (λ (code : List Code). (None, code))
     (along p e None (then_code (passed_code 1 args) (one (call_object (argument_count 1 args)))) (λ h. refl))

@@ -2,21 +2,23 @@
 use Rattle.std.specs.Prelude.{List, [], ◌∷◌, ◌++◌, Option, None, Some}
 use Rattle.template_tree.specs.Tree.{Expression, variable, constant, slice, unary, binary, chain, conditional, filtered, tested, attribute, item, call, list_literal, tuple_literal, map_literal, Optional, absent, given}
 use Rattle.template_tree_parts.specs.Spine.{left_of}
+use Rattle.template_walk.specs.Expressions.{Callee, by_name, by_method, by_block, by_value, callee_of}
 
--- what is called: a name, an attribute of an object, or another value
-abbrev pub of_called : {A : Type 0} → Expression → A → A → A → A
-of_called (variable name) named object value = named
-of_called (attribute e name) named object value = object
-of_called _ named object value = value
+-- what is called: a name or a block, a method of an object, or another value
+abbrev pub of_called : {A : Type 0} → Callee → A → A → A → A
+of_called (by_name name) named object value = named
+of_called (by_block name) named object value = named
+of_called (by_method name) named object value = object
+of_called by_value named object value = value
 
 abbrev pub object_of : Expression → Option Expression
 object_of (attribute e name) = Some e
 object_of _ = None
 
--- the left part whose code stands first in the expression's; of a call it is none where a name is called, the object
--- where a method is, and else what is called
+-- the left part whose code stands first in the expression's; of a call it is none where a name or a block is called, the
+-- object where a method is, and else what is called
 abbrev pub coded_left : Expression → Option Expression
-coded_left (call e args) = of_called e None (object_of e) (Some e)
+coded_left (call e args) = of_called (callee_of e args) None (object_of e) (Some e)
 coded_left e = left_of e
 
 -- the expression, the left part whose code stands first in its own, that one's and so on, the last one first
@@ -29,7 +31,7 @@ abbrev mutual
   coded_spine (tested name e args) = coded_spine e ++ tested name e args ∷ []
   coded_spine (attribute e name) = coded_spine e ++ attribute e name ∷ []
   coded_spine (item e key) = coded_spine e ++ item e key ∷ []
-  coded_spine (call e args) = of_called e [] (coded_object e) (coded_spine e) ++ call e args ∷ []
+  coded_spine (call e args) = of_called (callee_of e args) [] (coded_object e) (coded_spine e) ++ call e args ∷ []
   coded_spine (variable name) = variable name ∷ []
   coded_spine (constant value) = constant value ∷ []
   coded_spine (unary op e) = unary op e ∷ []

@@ -5,11 +5,12 @@ use Rattle.template_tree.specs.declared.operators.BinOpKind.{BinOpKind}
 use Rattle.template_tree.specs.Tree.{Expression, Arguments, unary, binary, chain, attribute, item, call, filtered, tested, list_literal, tuple_literal, map_literal}
 use Rattle.template_tree.specs.Tree as tree
 use Rattle.template_walk.specs.Constants.{constant_of, chain_constant}
-use Rattle.template_walk.specs.Expressions.{Callee, by_name, by_method, by_value, callee_of}
+use Rattle.template_walk.specs.Expressions.{Callee, by_name, by_method, by_block, by_value, callee_of}
 use Rattle.template_walk.specs.Statements.{number_of}
 use Rattle.template_code.specs.Code.{get_attr, get_item, slice, build_map, build_list, build_tuple, operate, call_function, call_method, call_object, perform_test}
 use Rattle.template_compiler_folding.specs.Folding.{binary_folded}
-use Rattle.template_compiler_codegen.specs.Expressions.{Coded, one, then_code, skipped, unary_code, expression_code, optional_code, expressions_code, entries_code, codes_of, entry_count, chain_code, no_number, filter_code, passed_code, argument_count}
+use Rattle.template_compiler_codegen.specs.Core.{no_ways, flat}
+use Rattle.template_compiler_codegen.specs.Expressions.{Coded, one, then_code, skipped, unary_code, block_core, expression_code, optional_code, expressions_code, entries_code, codes_of, entry_count, chain_code, no_number, filter_code, passed_code, argument_count}
 use Rattle.template_compiler_emission.specs.Puts.{behind}
 use Rattle.template_compiler_emission.specs.Leaps.{leap_code, leap_of}
 use Rattle.template_compiler_emission.specs.declared.leaps.Leap.{Leap}
@@ -31,15 +32,20 @@ operator_with None op right = then_code right (one (operate op))
 abbrev pub operator_code : BinOpKind → Coded → Coded
 operator_code op right = operator_with (leap_of op) op right
 
--- a call: the left part is the object of a method, or what is called where it is no name
+-- a block's text
+abbrev pub block_code : List ℕ → Coded
+block_code name = flat no_ways (block_core name)
+
+-- a call: the left part is the object of a method, or what is called where it is no name and no block
 abbrev pub called_behind : Callee → Option Val → Arguments → Coded
 called_behind (by_name name) left args = then_code (passed_code 0 args) (one (call_function name (argument_count 0 args)))
 called_behind (by_method name) left args =
     behind left (then_code (passed_code 1 args) (one (call_method name (argument_count 1 args))))
+called_behind (by_block name) left args = block_code name
 called_behind by_value left args = behind left (then_code (passed_code 1 args) (one (call_object (argument_count 1 args))))
 
 abbrev pub call_code : Option Val → Expression → Arguments → Coded
-call_code left callee args = called_behind (callee_of callee) left args
+call_code left callee args = called_behind (callee_of callee args) left args
 
 -- a test, over the value on top
 abbrev pub test_code : List ℕ → Arguments → Coded

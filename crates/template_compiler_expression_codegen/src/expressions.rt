@@ -20,10 +20,10 @@ ghost use Rattle.template_compiler_expression_codegen.specs.Own.{own_constant, o
 ghost use Rattle.template_compiler_expression_codegen.specs.Passing.{keywords_code, PassesByPlace, PassesByName, ArePassedByPlace, ArePassedByName};
 
 use crate::chains::{Link, Linked, end_link, is_false, put_leap, tell_leaps};
-use crate::coded::{coded_left, coded_spine};
+use crate::coded::{coded_left, coded_spine, is_block};
 use crate::leaves::{
     compile_attribute, copied_name, first_from, hold, hold_literal, let_go, load_held, one_more,
-    put_keyword, put_literal, put_name, several_more, unless_refused,
+    put_block, put_keyword, put_literal, put_name, several_more, unless_refused,
 };
 use crate::operators::{Choice, end_choice, end_constant_unary, end_operator};
 use crate::stretches::{Stretches, put_list, put_map, put_merged, put_run, still_from};
@@ -474,7 +474,7 @@ fn compile_slice<'source>(
     push(code, Instruction::Slice, None)
 }
 
-// A call, of a name or behind its left part: of a method of that part, or of that part itself.
+// A call, of a name or a block, or behind its left part: of a method of that part, or of that part itself.
 #[cycle(expression)]
 #[inline(never)]
 pub(crate) fn compile_call<'source>(
@@ -499,9 +499,14 @@ pub(crate) fn compile_call<'source>(
             push(code, Instruction::CallFunction(name, count), told)
         }
         Expr::GetAttr(n) => {
+            let method = &n.node;
+            if is_block(call, &method.expr) {
+                let_go(left);
+                return put_block(code, method.name, from);
+            }
             load_held(code, left, from)?;
             let count = compile_arguments(alloc, code, 1, &call.args, None)?;
-            let name = CowStr::Borrowed(n.node.name);
+            let name = CowStr::Borrowed(method.name);
             push(code, Instruction::CallMethod(name, count), None)
         }
         _ => {

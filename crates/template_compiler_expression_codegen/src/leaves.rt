@@ -6,10 +6,11 @@ ghost use Rattle.template_code.specs.Code.{get_attr, load_const, lookup};
 ghost use Rattle.template_code.specs.Listing.{code_in, TakesNoMore};
 ghost use Rattle.template_compiler_codegen.specs.Expressions.{one};
 ghost use Rattle.template_compiler_emission.specs.Puts.{Puts, held, behind};
+ghost use Rattle.template_compiler_expression_codegen.specs.Own.{block_code};
 
 use std::alloc::Global;
 use std::borrow::CowStr;
-use template_code::{Instruction, Instructions};
+use template_code::{CaptureMode, Instruction, Instructions};
 use template_compiler_emission::{load, push};
 use template_tree::Span;
 use template_values_core::Value;
@@ -173,6 +174,21 @@ pub(crate) fn compile_attribute<'source>(
 {
     load_held(code, left, from)?;
     push(code, Instruction::GetAttr(CowStr::Borrowed(name)), None)
+}
+
+// A block's text.
+#[inline(never)]
+pub(crate) fn put_block<'source>(
+    code: &mut Instructions<'source>,
+    name: &'source str,
+    from: Option<&Span>,
+) -> Result<(), ErrorKind>
+    ensures put { OnOk result (Puts (block_code name.now) code.old code.new) }
+    ensures refused { IfErr result (λ kind. TakesNoMore (code_in code.new) (kind ∷ [])) }
+{
+    push(code, Instruction::BeginCapture(CaptureMode::Capture), from)?;
+    push(code, Instruction::CallBlock(CowStr::Borrowed(name)), None)?;
+    push(code, Instruction::EndCapture, None)
 }
 
 // One value more is passed. More than an instruction counts are refused as memory is; the grammar reads far fewer.

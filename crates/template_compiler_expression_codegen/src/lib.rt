@@ -10,5 +10,6 @@ mod operators;
 mod stretches;
 mod whole;
 
+pub use coded::has_no_arguments;
 pub use filters::compile_filters;
 pub use whole::{compile_call, compile_expr, fold_expr};

@@ -9,6 +9,7 @@ ghost use Rattle.template_compiler_emission.specs.Puts.{Puts, unless};
 ghost use Rattle.template_compiler_expression_codegen.specs.Calls.{call_of};
 ghost use Rattle.template_compiler_expression_codegen.specs.Coded.{coded_left};
 
+use crate::coded::is_block;
 use crate::expressions;
 use crate::leaves::first_from;
 use std::alloc::Global;
@@ -68,7 +69,7 @@ pub fn compile_call<'source>(
     }
 }
 
-// What a method is called of, or what is called where it is no name, and then the call.
+// What a method is called of, or what is called where it is no name and no block, and then the call.
 fn put_call<'source>(
     alloc: Global,
     code: &mut Instructions<'source>,
@@ -81,7 +82,13 @@ fn put_call<'source>(
 {
     match &call.expr {
         Expr::Var(_) => expressions::compile_call(alloc, code, &mut None, call, Some(span)),
-        Expr::GetAttr(method) => put_behind(alloc, code, &method.node.expr, call, span),
+        Expr::GetAttr(method) => {
+            let object = &method.node.expr;
+            if is_block(call, object) {
+                return expressions::compile_call(alloc, code, &mut None, call, Some(span));
+            }
+            put_behind(alloc, code, object, call, span)
+        }
         called => put_behind(alloc, code, called, call, span),
     }
 }

@@ -1,70 +1,39 @@
--- No instruction of generated code leans on the one before it.
-use Rattle.std.proofs.Common.{◌≡◌, ℕ, zero, suc, ◌+◌, Bool, true, false, List, [], ◌∷◌, ◌++◌, length, Option, None, Some, slice_get, refl}
+-- No instruction of the code of an expression, a target or what a loop goes over leans on the one before it.
+use Rattle.std.proofs.Common.{◌≡◌, ℕ, zero, suc, ◌+◌, Bool, true, ◌&&◌, if◌then◌else◌, List, [], ◌∷◌, Option, None, Some, refl}
+use Rattle.std.specs.Prelude.{not, is_some}
 use Rattle.template_values_model.specs.Val.{Val, silent_undefined, none}
 use Rattle.template_tree.specs.declared.operators.UnaryOpKind.{UnaryOpKind}
 use Rattle.template_tree.specs.declared.operators.UnaryOpKind.TheVariants.{Not, Neg}
-use Rattle.template_tree.specs.Tree.{Expression, Optional, Expressions, Links, Arguments, Assignments, Statement, Statements, variable, constant, unary, binary, chain, conditional, attribute, item, call, filtered, tested, list_literal, tuple_literal, map_literal, absent, given, no_expressions, expressions_more, no_links, links_more, no_arguments, arguments_more, positional, keyword, positional_spread, keyword_spread, no_assignments, assignments_more, raw, print, for_loop, if_condition, with_block, set, set_block, auto_escape, filter_block, continue_loop, break_loop, do_call, no_statements, statements_more}
+use Rattle.template_tree.specs.Tree.{Expression, Optional, Expressions, Links, Arguments, Assignments, variable, constant, unary, binary, chain, conditional, attribute, item, call, filtered, tested, list_literal, tuple_literal, map_literal, absent, given, no_expressions, expressions_more, no_links, links_more, no_arguments, arguments_more, positional, keyword, positional_spread, keyword_spread, no_assignments, assignments_more}
 use Rattle.template_tree.specs.Tree as tree
-use Rattle.template_walk.specs.Expressions.{Passing, alone, spreads, Callee, by_name, by_method, by_value, callee_of}
+use Rattle.template_walk.specs.Expressions.{Passing, alone, spreads, Callee, by_name, by_method, by_block, by_value, callee_of}
 use Rattle.template_code.specs.Code.{Code}
-use Rattle.template_code_shapes.specs.Effects.{leans}
-use Rattle.template_compiler_codegen.specs.Core.{Core, empty, straight, both, leaping, either, rounds, within, leave, sealed, loading, chosen, Ways, no_ways, own_ways, closing_with, flat}
-use Rattle.template_compiler_codegen.specs.Expressions.{unary_code, listed_core, mapped_core, stretches_core, entries_stretches_core, list_count, rest_count, keywords_core, keyword_count, passed_core, called_core, filters_core, object_core, positional_cores, keyword_cores, expression_core, optional_core, expressions_core, codes_of, entries_core, chain_core, linked_core}
-use Rattle.template_compiler_codegen.specs.Statements.{target_core, targets_core, assignments_core, iterable_core, statement_core, statements_core}
+use Rattle.template_code_shapes.specs.Effects.{aim_of, leans}
+use Rattle.template_compiler_codegen.specs.Core.{Core, empty, straight, both, leaping, either, rounds, within, leave, sealed, loading, chosen}
+use Rattle.template_compiler_codegen.specs.Expressions.{unary_code, listed_core, mapped_core, stretches_core, entries_stretches_core, rest_count, keywords_core, keyword_count, passed_core, called_core, filters_core, object_core, positional_cores, keyword_cores, expression_core, optional_core, expressions_core, codes_of, entries_core, chain_core, linked_core}
+use Rattle.template_compiler_codegen.specs.Statements.{target_core, targets_core, assignments_core, iterable_core}
 
-abbrev pub AreCalm : List Code → Type 0
-AreCalm [] = Unit {0}
-AreCalm (c ∷ code) = (leans (Some c) ≡ false) × AreCalm code
+-- an instruction that leads to the next one alone, and does not lean on the one before it
+abbrev pub is_steady : Code → Bool
+is_steady c = not (leans (Some c)) && not (is_some (aim_of c))
 
--- nowhere in the code
-abbrev pub IsCalm : List Code → Type 0
-IsCalm code = (q : ℕ) → leans (slice_get code q) ≡ false
+-- where an instruction leads that does not lean
+abbrev pub leads_of : Code → Option ℕ
+leads_of c = if leans (Some c) then None else aim_of c
 
-pub calm_everywhere : (code : List Code) → AreCalm code → IsCalm code
-calm_everywhere [] h q = refl
-calm_everywhere (c ∷ code) h zero = h.0
-calm_everywhere (c ∷ code) h (suc q) = calm_everywhere code h.1 q
-
-calm_both : (code more : List Code) → AreCalm code → AreCalm more → AreCalm (code ++ more)
-calm_both [] more h k = k
-calm_both (c ∷ code) more h k = (h.0, calm_both code more h.1 k)
-
--- a core has no such instruction
+-- the instructions of a core are such ones, or lead where they lead without leaning
 abbrev pub IsCalmCore : Core → Type 0
 IsCalmCore empty = Unit {0}
-IsCalmCore (straight c) = leans (Some c) ≡ false
+IsCalmCore (straight c) = is_steady c ≡ true
 IsCalmCore (both a b) = IsCalmCore a × IsCalmCore b
-IsCalmCore (leaping leap c) = ((to : ℕ) → leans (Some (leap to)) ≡ false) × IsCalmCore c
+IsCalmCore (leaping leap c) = ((to : ℕ) → leads_of (leap to) ≡ Some to) × IsCalmCore c
 IsCalmCore (either a b) = IsCalmCore a × IsCalmCore b
 IsCalmCore (rounds target body) = IsCalmCore target × IsCalmCore body
-IsCalmCore (within close c) = (leans (Some close) ≡ false) × IsCalmCore c
+IsCalmCore (within close c) = (is_steady close ≡ true) × IsCalmCore c
 IsCalmCore (leave stays) = Unit {0}
 IsCalmCore (sealed c) = IsCalmCore c
 IsCalmCore (loading o c) = IsCalmCore c
 IsCalmCore (chosen holds a b) = IsCalmCore a × IsCalmCore b
-
-pub flat_calm : (c : Core) (ways : Ways) → IsCalmCore c → AreCalm ways.closings → (place : ℕ) → AreCalm (flat ways c place)
-flat_calm empty ways h k place = tt
-flat_calm (straight c) ways h k place = (h, tt)
-flat_calm (both a b) ways h k place = calm_both (flat ways a place) (flat ways b (place + length (flat ways a place))) (flat_calm a ways h.0 k place) (flat_calm b ways h.1 k (place + length (flat ways a place)))
-flat_calm (leaping leap c) ways h k place = (h.0 (suc place + length (flat ways c (suc place))), flat_calm c ways h.1 k (suc place))
-flat_calm (either a b) ways h k place =
-    let begins = suc (suc place + length (flat ways a (suc place))) in
-    (refl, calm_both (flat ways a (suc place)) (_ ∷ flat ways b begins) (flat_calm a ways h.0 k (suc place)) (refl, flat_calm b ways h.1 k begins))
-flat_calm (rounds target body) ways h k place =
-    let stored = flat no_ways target (suc place) in
-    let begins = suc place + length stored in
-    let ends_at = suc (begins + length (flat (own_ways 0 0) body begins)) in
-    let round = flat (own_ways ends_at place) body begins in
-    (refl, calm_both stored (round ++ (_ ∷ [])) (flat_calm target no_ways h.0 tt (suc place)) (calm_both round (_ ∷ []) (flat_calm body (own_ways ends_at place) h.1 tt begins) (refl, tt)))
-flat_calm (within close c) ways h k place = flat_calm c (closing_with close ways) h.1 (h.0, k) place
-flat_calm (leave true) ways h k place = calm_both ways.closings (_ ∷ []) k (refl, tt)
-flat_calm (leave false) ways h k place = calm_both ways.closings (_ ∷ []) k (refl, tt)
-flat_calm (sealed c) ways h k place = flat_calm c no_ways h tt place
-flat_calm (loading (Some v) c) ways h k place = (refl, tt)
-flat_calm (loading None c) ways h k place = flat_calm c no_ways h tt place
-flat_calm (chosen true a b) ways h k place = flat_calm a ways h.0 k place
-flat_calm (chosen false a b) ways h k place = flat_calm b ways h.1 k place
 
 abbrev EachCalm : List Core → Type 0
 EachCalm [] = Unit {0}
@@ -110,9 +79,10 @@ called_calm : (callee : Callee) (whole object : Core) (args : List (Passing Core
     → IsCalmCore (called_core callee whole object args named)
 called_calm (by_name name) whole object args named f g h k = (passed_calm 0 args named h k, refl)
 called_calm (by_method name) whole object args named f g h k = (g, (passed_calm 1 args named h k, refl))
+called_calm (by_block name) whole object args named f g h k = (refl, (refl, refl))
 called_calm by_value whole object args named f g h k = (f, (passed_calm 1 args named h k, refl))
 
-unary_calm : (op : UnaryOpKind) → leans (Some (unary_code op)) ≡ false
+unary_calm : (op : UnaryOpKind) → is_steady (unary_code op) ≡ true
 unary_calm Not = refl
 unary_calm Neg = refl
 
@@ -131,7 +101,7 @@ mutual
   expression_calm (tuple_literal es) = (expressions_calm es, refl)
   expression_calm (map_literal ks vs) = (entries_calm ks (codes_of vs) (each_calm vs), refl)
   expression_calm (call callee args) =
-      called_calm (callee_of callee) (expression_core callee) (object_core callee) (positional_cores args) (keyword_cores args)
+      called_calm (callee_of callee args) (expression_core callee) (object_core callee) (positional_cores args) (keyword_cores args)
       (expression_calm callee) (object_calm callee) (positional_calm args) (keyword_calm args)
   expression_calm (filtered name (given e) args) = (expression_calm e, (passed_calm 1 (positional_cores args) (keyword_cores args) (positional_calm args) (keyword_calm args), refl))
   expression_calm (tested name e args) = (expression_calm e, (passed_calm 1 (positional_cores args) (keyword_cores args) (positional_calm args) (keyword_calm args), refl))
@@ -157,7 +127,7 @@ mutual
   optional_calm missing absent = refl
   optional_calm missing (given e) = expression_calm e
 
-  expressions_calm : (es : Expressions) → IsCalmCore (expressions_core es)
+  pub expressions_calm : (es : Expressions) → IsCalmCore (expressions_core es)
   expressions_calm no_expressions = tt
   expressions_calm (expressions_more e es) = (expression_calm e, expressions_calm es)
 
@@ -178,14 +148,14 @@ mutual
   linked_calm no_links = tt
   linked_calm (links_more op e links) = ((λ to. refl), ((expression_calm e, refl), linked_calm links))
 
-filters_calm : (e : Expression) → IsCalmCore (filters_core e)
+pub filters_calm : (e : Expression) → IsCalmCore (filters_core e)
 filters_calm (filtered name absent args) = (passed_calm 1 (positional_cores args) (keyword_cores args) (positional_calm args) (keyword_calm args), refl)
 filters_calm (filtered name (given e) args) =
     (filters_calm e, (passed_calm 1 (positional_cores args) (keyword_cores args) (positional_calm args) (keyword_calm args), refl))
 filters_calm _ = tt
 
 mutual
-  target_calm : (e : Expression) → IsCalmCore (target_core e)
+  pub target_calm : (e : Expression) → IsCalmCore (target_core e)
   target_calm (variable name) = refl
   target_calm (attribute e name) = (expression_calm e, refl)
   target_calm (list_literal targets) = (refl, targets_calm targets)
@@ -195,36 +165,11 @@ mutual
   targets_calm no_expressions = tt
   targets_calm (expressions_more e es) = (target_calm e, targets_calm es)
 
-assignments_calm : (a : Assignments) → IsCalmCore (assignments_core a)
+pub assignments_calm : (a : Assignments) → IsCalmCore (assignments_core a)
 assignments_calm no_assignments = tt
 assignments_calm (assignments_more target e more) = (expression_calm e, (target_calm target, assignments_calm more))
 
-iterable_calm : (target e : Expression) (condition : Optional) → IsCalmCore (iterable_core target e condition)
+pub iterable_calm : (target e : Expression) (condition : Optional) → IsCalmCore (iterable_core target e condition)
 iterable_calm target e absent = expression_calm e
 iterable_calm target e (given condition) =
     (refl, (expression_calm e, (refl, (((refl, target_calm target), (expression_calm condition, ((refl, (refl, refl)), refl))), (refl, refl)))))
-
-mutual
-  statement_calm : (st : Statement) → IsCalmCore (statement_core st)
-  statement_calm (raw text) = refl
-  statement_calm (print e) = (expression_calm e, refl)
-  statement_calm (for_loop target e condition false body otherwise) =
-      (iterable_calm target e condition, (refl, ((target_calm target, statements_calm body), ((refl, (refl, ((λ to. refl), statements_calm otherwise))), refl))))
-  statement_calm (if_condition e body otherwise) =
-      (expression_calm e, ((statements_calm body, statements_calm otherwise), ((λ to. refl), statements_calm body)))
-  statement_calm (with_block assignments body) = (refl, (assignments_calm assignments, ((refl, statements_calm body), refl)))
-  statement_calm (set target e) = (expression_calm e, target_calm target)
-  statement_calm (set_block target absent body) = (refl, ((refl, (refl, statements_calm body)), (refl, target_calm target)))
-  statement_calm (set_block target (given filters) body) =
-      (refl, ((refl, (refl, statements_calm body)), (refl, (filters_calm filters, target_calm target))))
-  statement_calm (filter_block filters body) = (refl, ((refl, (refl, statements_calm body)), (refl, (filters_calm filters, refl))))
-  statement_calm (auto_escape e body) = (expression_calm e, (refl, ((refl, statements_calm body), refl)))
-  statement_calm (tree.include e ignore_missing) = (expression_calm e, refl)
-  statement_calm (do_call callee args) = (expression_calm (call callee args), refl)
-  statement_calm continue_loop = tt
-  statement_calm break_loop = tt
-  statement_calm _ = tt
-
-  pub statements_calm : (sts : Statements) → IsCalmCore (statements_core sts)
-  statements_calm no_statements = tt
-  statements_calm (statements_more st sts) = (statement_calm st, statements_calm sts)

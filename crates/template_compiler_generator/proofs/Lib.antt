@@ -2,11 +2,14 @@ pub mod Building
 pub mod Texts
 pub mod Segments
 pub mod Calm
+pub mod Aims
 pub mod Plain
 pub mod Moving
 pub mod Rounds
 pub mod Keeping
+pub mod Importing
 pub mod Running
 pub mod Whole
 pub mod Pieces
+mod Numbers
 mod Accepted

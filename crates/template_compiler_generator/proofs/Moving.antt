@@ -1,6 +1,6 @@
 -- The code of expressions, targets and assignments: how many values it takes, and how many it leaves, over any shape.
 use Rattle.std.proofs.Common.{◌≡◌, ℕ, zero, suc, ◌+◌, ◌*◌, ◌<◌, ◌≤◌, Bool, true, false, ◌||◌, List, [], ◌∷◌, ◌++◌, length, Option, None, Some, slice_get, refl, sym, ap, subst, ◌∙◌, length-append, arith}
-use Rattle.std.specs.Prelude.{option_and_then, if◌then◌else◌}
+use Rattle.std.specs.Prelude.{option_and_then, option_map, if◌then◌else◌}
 use Rattle.template_values_model.specs.Val.{Val, silent_undefined, none, text}
 use Rattle.template_tree.specs.declared.operators.UnaryOpKind.{UnaryOpKind}
 use Rattle.template_tree.specs.declared.operators.UnaryOpKind.TheVariants.{Not, Neg}
@@ -10,11 +10,11 @@ use Rattle.template_tree.specs.declared.operators.CompareOpKind.{CompareOpKind}
 use Rattle.template_tree.specs.Tree.{Expression, Optional, Expressions, Links, Arguments, Assignments, variable, constant, unary, binary, chain, conditional, attribute, item, call, filtered, tested, list_literal, tuple_literal, map_literal, absent, given as is_given, no_expressions, expressions_more, no_links, links_more, no_arguments, arguments_more, positional, keyword, positional_spread, keyword_spread, no_assignments, assignments_more}
 use Rattle.template_tree.specs.Tree as tree
 use Rattle.template_walk.specs.Constants.{constant_of}
-use Rattle.template_walk.specs.Expressions.{Passing, alone, spreads, has_spread, Callee, by_name, by_method, by_value, callee_of}
+use Rattle.template_walk.specs.Expressions.{Passing, alone, spreads, has_spread, Callee, by_name, by_method, by_block, by_value, callee_of}
 use Rattle.template_walk.specs.Statements.{number_of}
 use Rattle.template_walk.specs.Runnable.{IsRunnable, IsRunnableIfGiven, AreRunnable, AreRunnableArguments, IsRunnableChain, AreRunnableLinks, AreFilters, IsTarget, AreTargets, AreAssignments}
-use Rattle.template_code.specs.Code.{Code, store_local, lookup, load_const, get_attr, set_attr, get_item, slice, build_map, build_kwargs, merge_kwargs, call_function, call_method, call_object, apply_filter, perform_test, build_list, build_tuple, unpack_list, unpack_lists, operate, compare_and_preserve, swap, discard_top, jump, jump_if_false, jump_if_false_or_pop, jump_if_true_or_pop}
-use Rattle.template_code_shapes.specs.Shapes.{Shape, floor_of, single_form, counted_form, taken, handed, given, topped}
+use Rattle.template_code.specs.Code.{Code, store_local, lookup, load_const, get_attr, set_attr, get_item, slice, build_map, build_kwargs, merge_kwargs, call_function, call_method, call_object, call_block, begin_capture, end_capture, apply_filter, perform_test, build_list, build_tuple, unpack_list, unpack_lists, operate, compare_and_preserve, swap, discard_top, jump, jump_if_false, jump_if_false_or_pop, jump_if_true_or_pop}
+use Rattle.template_code_shapes.specs.Shapes.{Shape, floor_of, single_form, counted_form, handed, given, topped, with_capture}
 use Rattle.template_code_shapes.specs.Effects.{Effect, falling, made, jumping, effect_of}
 use Rattle.template_compiler_codegen.specs.Core.{Core, no_ways, flat}
 use Rattle.template_compiler_codegen.specs.Expressions.{Coded, then_code, one, nothing, dropped, loaded, skipped, either_code, unary_code, binary_code, listed_core, mapped_core, at_most_one, stretches_core, entries_stretches_core, list_count, rest_count, merged_core, merged_count, map_count, keywords_core, keyword_count, run_core, passed_core, passed_count, called_core, no_number, object_core, positional_cores, keyword_cores, expression_core, entry_count, expression_code, optional_code, expressions_code, codes_of, entries_code, chain_code, linked_code, filter_code, filters_code, passed_code, argument_count}
@@ -22,8 +22,8 @@ use Rattle.template_compiler_codegen.specs.Statements.{target_code, targets_code
 use Rattle.template_compiler_codegen.proofs.Standing.{StandsAt, behind_one, instruction_at, behind_then, stands_first, stands_second, stands_either, behind_either}
 use Rattle.template_compiler_codegen.proofs.Expressions.{behind_single, behind_skipped}
 use Rattle.template_compiler_codegen.proofs.Passing.{no_lists}
-use Rattle.template_compiler_generator.proofs.Segments.{Flows, Free, Lands, Goes, goes_to, goes_out_as, goes_nowhere, goes_on, goes_then, goes_dead, goes_with, gate, gate_is, flows_any, flows_left, flows_right, lands_at}
-use Rattle.template_compiler_generator.proofs.Plain.{ground, IsPlain, taken_plain, traded_plain, lowered_plain, given_more, jumps_forward}
+use Rattle.template_compiler_generator.proofs.Segments.{Flows, Free, Lands, Goes, goes_to, goes_out_as, goes_nowhere, goes_on, goes_then, goes_dead, goes_with, gate, flows_left, flows_right, lands_at}
+use Rattle.template_compiler_generator.proofs.Plain.{ground, IsPlain, taken_plain, traded_plain, lowered_plain, given_more, capture_plain, jumps_forward}
 
 some_is : {A : Type 0} (x y : A) → Some x ≡ Some y → x ≡ y
 some_is x y e = cc
@@ -88,7 +88,7 @@ moves_loaded (Some v) f x = moves_one (load_const v) 0 1 (λ code place s plain.
 moves_loaded None f x = x
 
 -- code that is leapt over with a value on top
-moves_skipped : (leap : ℕ → Code) (f : Coded) (n : ℕ) → ((code : List Code) (place to : ℕ) (s : Shape) → IsPlain code s → place < to → to ≤ length code
+moves_skipped : (leap : ℕ → Code) (f : Coded) (n : ℕ) → ((code : List Code) (place to : ℕ) (s : Shape) → IsPlain code s → slice_get code place ≡ Some (leap to) → place < to → to ≤ length code
     → effect_of code place (leap to) (given 1 s) ≡ Some (record { falls = Some s; jumps = Some (to, given 1 s); enters = None })) → Moves f n (suc n) → Moves (skipped leap f) (suc n) (suc n)
 moves_skipped leap f n is x code place s plain h =
     let behind = suc place + length (f (suc place)) in
@@ -97,22 +97,23 @@ moves_skipped leap f n is x code place s plain h =
     let e : Effect = record { falls = Some (given n s); jumps = Some (behind, given (suc n) s); enters = None } in
     goes_to code place behind (place + length (skipped leap f place)) (given (suc n) s) (Some (given (suc n) s)) Free same
     (goes_then code place (suc place) behind (given (suc n) s) (given n s) (Some (given n s)) (Some (given (suc n) s)) (Lands e) Free Free
-    (goes_on code place (leap behind) (given (suc n) s) e (instruction_at code place (leap behind) (f (suc place)) h) (is code place behind (given n s) plain (omega arith) within) refl)
+    (goes_on code place (leap behind) (given (suc n) s) e (instruction_at code place (leap behind) (f (suc place)) h)
+    (is code place behind (given n s) plain (instruction_at code place (leap behind) (f (suc place)) h) (omega arith) within) refl)
     (x code (suc place) s plain (behind_one code place (leap behind) (f (suc place)) h))
     (λ u g. some_is (given n s) u g)
     (λ table stands flows needs. (lands_at (Some (given n s)) behind (given (suc n) s) table (flows (given (suc n) s) refl), tt)))
 
-leaps_false : (code : List Code) (place to : ℕ) (s : Shape) → IsPlain code s → place < to → to ≤ length code → effect_of code place (jump_if_false_or_pop to) (given 1 s) ≡ Some (record { falls = Some s; jumps = Some (to, given 1 s); enters = None })
-leaps_false code place to s plain less within =
-    ap (option_and_then (λ below. jumping code place (Some below) to (given 1 s))) (taken_plain 1 s plain.0) ∙ jumps_forward code place (Some s) to (given 1 s) plain.1 less within
+leaps_false : (code : List Code) (place to : ℕ) (s : Shape) → IsPlain code s → slice_get code place ≡ Some (jump_if_false_or_pop to) → place < to → to ≤ length code → effect_of code place (jump_if_false_or_pop to) (given 1 s) ≡ Some (record { falls = Some s; jumps = Some (to, given 1 s); enters = None })
+leaps_false code place to s plain at less within =
+    ap (option_and_then (λ below. jumping code place (Some below) to (given 1 s))) (taken_plain 1 s plain.0) ∙ jumps_forward code place (Some s) to (given 1 s) plain.1 (jump_if_false_or_pop to) at refl less within
 
-leaps_true : (code : List Code) (place to : ℕ) (s : Shape) → IsPlain code s → place < to → to ≤ length code → effect_of code place (jump_if_true_or_pop to) (given 1 s) ≡ Some (record { falls = Some s; jumps = Some (to, given 1 s); enters = None })
-leaps_true code place to s plain less within =
-    ap (option_and_then (λ below. jumping code place (Some below) to (given 1 s))) (taken_plain 1 s plain.0) ∙ jumps_forward code place (Some s) to (given 1 s) plain.1 less within
+leaps_true : (code : List Code) (place to : ℕ) (s : Shape) → IsPlain code s → slice_get code place ≡ Some (jump_if_true_or_pop to) → place < to → to ≤ length code → effect_of code place (jump_if_true_or_pop to) (given 1 s) ≡ Some (record { falls = Some s; jumps = Some (to, given 1 s); enters = None })
+leaps_true code place to s plain at less within =
+    ap (option_and_then (λ below. jumping code place (Some below) to (given 1 s))) (taken_plain 1 s plain.0) ∙ jumps_forward code place (Some s) to (given 1 s) plain.1 (jump_if_true_or_pop to) at refl less within
 
-pub tests_on : (code : List Code) (place to : ℕ) (s : Shape) → IsPlain code s → place < to → to ≤ length code → effect_of code place (jump_if_false to) (given 1 s) ≡ Some (record { falls = Some s; jumps = Some (to, s); enters = None })
-tests_on code place to s plain less within =
-    ap (option_and_then (λ below. jumping code place (Some below) to below)) (taken_plain 1 s plain.0) ∙ jumps_forward code place (Some s) to s plain.1 less within
+pub tests_on : (code : List Code) (place to : ℕ) (s : Shape) → IsPlain code s → slice_get code place ≡ Some (jump_if_false to) → place < to → to ≤ length code → effect_of code place (jump_if_false to) (given 1 s) ≡ Some (record { falls = Some s; jumps = Some (to, s); enters = None })
+tests_on code place to s plain at less within =
+    ap (option_and_then (λ below. jumping code place (Some below) to below)) (taken_plain 1 s plain.0) ∙ jumps_forward code place (Some s) to s plain.1 (jump_if_false to) at refl less within
 
 -- two segments of which a value chooses one: the first leads past the second
 module _ (code : List Code) (place : ℕ) (first second : Coded) (s t : Shape) (N : (ℕ → Option Shape) → Type 0) where
@@ -133,7 +134,7 @@ module _ (code : List Code) (place : ℕ) (first second : Coded) (s t : Shape) (
       let parts = stands_either code place first second h in
       let e : Effect = record { falls = Some s; jumps = Some (begins_at, s); enters = None } in
       goes_then code place (suc place) leap_at (given 1 s) s (Some s) (gate x t) (Lands e) N (First x)
-      (goes_on code place (jump_if_false begins_at) (given 1 s) e (instruction_at code place (jump_if_false begins_at) parts.test parts.tests) (tests_on code place begins_at s plain (omega arith) (omega arith)) refl)
+      (goes_on code place (jump_if_false begins_at) (given 1 s) e (instruction_at code place (jump_if_false begins_at) parts.test parts.tests) (tests_on code place begins_at s plain (instruction_at code place (jump_if_false begins_at) parts.test parts.tests) (omega arith) (omega arith)) refl)
       f (λ u g. some_is s u g) (λ table stands flows needs. (lands_at (Some s) begins_at s table needs.0, needs.1))
 
   led_past : (x : Bool) → IsPlain code s → behind_at ≤ length code → StandsAt code place (either_code first second place) → Goes code place leap_at (given 1 s) (gate x t) (First x) → Goes code place begins_at (given 1 s) None (First x)
@@ -142,7 +143,7 @@ module _ (code : List Code) (place : ℕ) (first second : Coded) (s t : Shape) (
       let parts = stands_either code place first second h in
       let e : Effect = record { falls = None; jumps = Some (behind_at, t); enters = None } in
       goes_then code place leap_at begins_at (given 1 s) t (Some t) None (First true) (Lands e) (First true)
-      f (goes_on code leap_at (jump behind_at) t e (instruction_at code leap_at (jump behind_at) parts.rest parts.leaps) (jumps_forward code leap_at None behind_at t plain.1 (omega arith) within) refl)
+      f (goes_on code leap_at (jump behind_at) t e (instruction_at code leap_at (jump behind_at) parts.rest parts.leaps) (jumps_forward code leap_at None behind_at t plain.1 (jump behind_at) (instruction_at code leap_at (jump behind_at) parts.rest parts.leaps) refl (omega arith) within) refl)
       (λ u g. some_is t u g) (λ table stands flows needs. (needs, lands_at None behind_at t table (needs.2 t refl)))
 
   pub goes_either : (x y : Bool) → IsPlain code s → StandsAt code place (either_code first second place) → Goes code (suc place) leap_at s (gate x t) N → Goes code begins_at behind_at s (gate y t) N
@@ -194,11 +195,11 @@ two_more : (n : ℕ) → n * 2 + 2 ≡ suc n * 2
 two_more n = omega arith
 
 -- numbers that are told in another way
-moves_as : (f : Coded) (m n k l : ℕ) → m ≡ n → k ≡ l → Moves f m k → Moves f n l
+pub moves_as : (f : Coded) (m n k l : ℕ) → m ≡ n → k ≡ l → Moves f m k → Moves f n l
 moves_as f m n k l e d x = let P : ℕ → Type 0 = λ i. Moves f i l in let Q : ℕ → Type 0 = λ i. Moves f m i in subst P e (subst Q d x)
 
 -- over so many values that are left as they are
-over_below : (f : Coded) (m k j : ℕ) → Moves f m k → Moves f (m + j) (k + j)
+pub over_below : (f : Coded) (m k j : ℕ) → Moves f m k → Moves f (m + j) (k + j)
 over_below f m k j x code place s plain h =
     let behind = place + length (f place) in
     let P : Shape → Type 0 = λ t. Goes code place behind t (Some (given (k + j) s)) Free in
@@ -337,6 +338,23 @@ applied_moves front args named each others c is code place s plain h =
     (goes_single code mid c (with_handed count s) (given 1 s) Free (stands_second code place passed (one c) h)
     (is code mid (with_handed count s) ∙ ap (made single_form) (handed_plain count s plain.0)))
 
+-- a block's text
+block_moves : (name : List ℕ) → Moves (then_code (one (begin_capture true)) (then_code (one (call_block name)) (one end_capture))) 0 1
+block_moves name code place s plain h =
+    let first = one (begin_capture true) in
+    let second = one (call_block name) in
+    let last = one end_capture in
+    let s1 = with_capture s in
+    let mid = place + length (first place) in
+    let last_at = mid + length (second mid) in
+    let behind = stands_second code place first (then_code second last) h in
+    goes_both code place first (then_code second last) s s1 (given 1 s)
+    (goes_single code place (begin_capture true) s s1 Free (stands_first code place first (then_code second last) h) refl)
+    (goes_both code mid second last s1 s1 (given 1 s)
+    (goes_single code mid (call_block name) s1 s1 Free (stands_first code mid second last behind) refl)
+    (goes_single code last_at end_capture s1 (given 1 s) Free (stands_second code mid second last behind)
+    (ap (option_map (λ below. falling (given 1 below))) (capture_plain s plain.0))))
+
 called_moves : (callee : Callee) (whole object : Core) (args : List (Passing Core Core)) (named : List (Passing (List ℕ × Core) Core)) → Moves (flat no_ways whole) 0 1
     → ((name : List ℕ) → callee ≡ by_method name → Moves (flat no_ways object) 0 1) → EachPassed args → EachNamed named
     → Moves (flat no_ways (called_core callee whole object args named)) 0 1
@@ -345,6 +363,7 @@ called_moves (by_name name) whole object args named f g each others =
 called_moves (by_method name) whole object args named f g each others =
     let c = call_method name (passed_count 1 args named) in
     moves_then (flat no_ways object) (then_code (flat no_ways (passed_core 1 args named)) (one c)) 0 1 1 (g name refl) (applied_moves 1 args named each others c (λ code place s. refl))
+called_moves (by_block name) whole object args named f g each others = block_moves name
 called_moves by_value whole object args named f g each others =
     let c = call_object (passed_count 1 args named) in
     moves_then (flat no_ways whole) (then_code (flat no_ways (passed_core 1 args named)) (one c)) 0 1 1 f (applied_moves 1 args named each others c (λ code place s. refl))
@@ -390,8 +409,8 @@ mutual
       (moves_then (entries_code ks (codes_of vs)) (one (build_map count)) 0 (count * 2) 1 (entries_move ks (codes_of vs) r.0 (each_moves vs r.1))
       (moves_one (build_map count) (count * 2) 1 (λ code place s plain. traded_plain (count * 2) 1 s plain.0)))
   expression_moves (call callee args) r =
-      called_moves (callee_of callee) (expression_core callee) (object_core callee) (positional_cores args) (keyword_cores args) (expression_moves callee r.0)
-      (λ name is. object_moves callee r.0 name is) (positional_move args r.2) (keyword_move args r.2)
+      called_moves (callee_of callee args) (expression_core callee) (object_core callee) (positional_cores args) (keyword_cores args) (expression_moves callee r.0)
+      (λ name is. object_moves callee args r.0 name is) (positional_move args r.2) (keyword_move args r.2)
   expression_moves (filtered name (is_given e) args) r =
       moves_then (expression_code e) (filter_code name args) 0 1 1 (expression_moves e r.0)
       (applied_moves 1 (positional_cores args) (keyword_cores args) (positional_move args r.1) (keyword_move args r.1) (apply_filter name (argument_count 1 args) no_number) (λ code place s. refl))
@@ -402,10 +421,10 @@ mutual
   expression_moves _ r = absurd r
 
   -- the object of a method
-  object_moves : (e : Expression) → IsRunnable e → (name : List ℕ) → callee_of e ≡ by_method name → Moves (flat no_ways (object_core e)) 0 1
-  object_moves (attribute e name) r other is = expression_moves e r
-  object_moves (variable name) r other is = absurd cc
-  object_moves _ r other is = absurd cc
+  object_moves : (e : Expression) (args : Arguments) → IsRunnable e → (name : List ℕ) → callee_of e args ≡ by_method name → Moves (flat no_ways (object_core e)) 0 1
+  object_moves (attribute e name) args r other is = expression_moves e r
+  object_moves (variable name) args r other is = absurd cc
+  object_moves _ args r other is = absurd cc
 
   positional_move : (args : Arguments) → AreRunnableArguments args → EachPassed (positional_cores args)
   positional_move no_arguments r = tt
@@ -425,7 +444,7 @@ mutual
   optional_moves absent missing r = moves_one (load_const missing) 0 1 (λ code place s plain. refl)
   optional_moves (is_given e) missing r = expression_moves e r
 
-  all_move : (es : Expressions) → AreRunnable es → Moves (expressions_code es) 0 (number_of es)
+  pub all_move : (es : Expressions) → AreRunnable es → Moves (expressions_code es) 0 (number_of es)
   all_move no_expressions r = moves_nothing 0
   all_move (expressions_more e es) r =
       let later : Moves (expressions_code es) 1 (suc (number_of es)) = (let P : ℕ → Type 0 = λ n. Moves (expressions_code es) 1 n in

@@ -36,7 +36,7 @@ module _ (code : List Code) (place push ends_at jump_at : ℕ) (s : Shape) where
   goes_asked plain loop home asks within last h falls round =
       let low = round.ordered in
       let N = Returns ends_at place s in
-      let is : effect_of code place (iterate ends_at) s ≡ Some asking = ap (λ b. cond b (Some asking) None) (iterates code place ends_at push s plain.1 loop home (omega arith) within) in
+      let is : effect_of code place (iterate ends_at) s ≡ Some asking = ap (λ b. cond b (Some asking) None) (iterates code place ends_at push s plain.1 asks loop home (omega arith) within) in
       let opening : Goes code place jump_at s (gate falls s) N =
       goes_then code place (suc place) jump_at s (given 1 s) (Some (given 1 s)) (gate falls s) (Lands asking) N N (goes_on code place (iterate ends_at) s asking asks is refl) round
       (λ u e. some_is (given 1 s) u e) (λ table stands flows needs. (lands_at (Some (given 1 s)) ends_at s table needs.0, needs)) in

@@ -1,23 +1,26 @@
 -- The code of statements: it keeps the shape, or leaves a loop with what the loop began with.
-use Rattle.std.proofs.Common.{◌≡◌, ℕ, zero, suc, ◌+◌, ◌<◌, ◌≤◌, Bool, true, false, ◌||◌, List, [], ◌∷◌, ◌++◌, length, Option, None, Some, slice_get, refl, sym, ap, ◌∙◌, length-append, arith}
-use Rattle.std.specs.Prelude.{IsTrue, option_map, option_and_then, is_some}
-use Rattle.template_tree.specs.Tree.{Expression, Statement, Statements, Assignments, call, absent, given as is_given, raw, print, for_loop, if_condition, with_block, set, set_block, auto_escape, filter_block, continue_loop, break_loop, do_call, no_statements, statements_more}
+use Rattle.std.proofs.Common.{◌≡◌, ℕ, suc, ◌+◌, ◌<◌, ◌≤◌, Bool, true, false, ◌||◌, List, [], ◌∷◌, ◌++◌, length, Option, None, Some, slice_get, refl, sym, ap, ◌∙◌, length-append, arith}
+use Rattle.std.specs.Prelude.{IsTrue, option_map}
+use Rattle.template_tree.specs.Tree.{Expression, Statement, Statements, Assignments, call, absent, given as is_given, raw, print, for_loop, if_condition, with_block, set, set_block, auto_escape, filter_block, block, from_import, extends, continue_loop, break_loop, do_call, no_statements, statements_more}
 use Rattle.template_tree.specs.Tree as tree
+use Rattle.template_walk.specs.Statements.{Printed, prints_value, prints_block, prints_super, printed_of}
 use Rattle.template_walk.specs.Runnable.{IsRunnable, IsTarget, AreAssignments, IsRunnableStatement, AreRunnableStatements}
-use Rattle.template_code.specs.Code.{Code, emit_raw, emit, jump, jump_if_false, push_with, pop_frame, push_loop, iterate, push_did_not_iterate, pop_loop_frame, push_auto_escape, pop_auto_escape, begin_capture, end_capture, discard_top, include}
+use Rattle.template_code.specs.Code.{Code, emit_raw, emit, jump, jump_if_false, push_with, pop_frame, push_loop, iterate, push_did_not_iterate, pop_loop_frame, push_auto_escape, pop_auto_escape, begin_capture, end_capture, discard_top, fast_super, call_block, load_blocks, include}
 use Rattle.template_code_shapes.specs.declared.outline.Opened.TheVariants.{With as with_frame, Loop as loop_frame}
-use Rattle.template_code_shapes.specs.Shapes.{Shape, floor_of, taken, given, opened, with_escape, with_capture, innermost_loop}
+use Rattle.template_code_shapes.specs.Shapes.{Shape, floor_of, given, opened, with_escape, with_capture, innermost_loop}
 use Rattle.template_code_shapes.specs.Effects.{Effect, falling, jumping, effect_of}
-use Rattle.template_compiler_codegen.specs.Expressions.{Coded, then_code, one, nothing, skipped, either_code, expression_code, filters_code}
-use Rattle.template_compiler_codegen.specs.Statements.{Ways, own_ways, closing_with, target_code, assignments_code, loop_flags, rounds_code, iterable_code, loop_end_code, branches_code, left_by, statement_code, statements_code}
+use Rattle.template_compiler_codegen.specs.Expressions.{Coded, then_code, one, nothing, skipped, either_code, expression_core, expression_code, filters_code}
+use Rattle.template_compiler_codegen.specs.Core.{flat}
+use Rattle.template_compiler_codegen.specs.Statements.{Ways, own_ways, closing_with, target_code, assignments_code, loop_flags, rounds_code, iterable_code, loop_end_code, branches_code, left_by, printed_core, statement_code, statements_code}
 use Rattle.template_compiler_codegen.proofs.Standing.{StandsAt, behind_one, instruction_at, behind_then, stands_first, stands_second, first_part, last_part, stands_either, behind_either}
 use Rattle.template_compiler_codegen.proofs.Expressions.{behind_single, behind_skipped}
 use Rattle.template_compiler_codegen.proofs.Lengths.{long_statements}
-use Rattle.template_compiler_generator.proofs.Segments.{Flows, Free, Lands, Goes, goes_to, goes_out_as, goes_nowhere, goes_on, goes_then, goes_dead, goes_with, gate, gate_is, flows_any, lands_at}
+use Rattle.template_compiler_generator.proofs.Segments.{Free, Lands, Goes, goes_to, goes_on, goes_then, goes_dead, goes_with, gate, flows_any, lands_at}
 use Rattle.template_compiler_generator.proofs.Plain.{ground, IsPlain, taken_plain, traded_plain, escape_plain, capture_plain, jumps_forward, jumps_back}
 use Rattle.template_compiler_generator.proofs.Moving.{Moves, stands_within, goes_single, goes_both, moves_one, moves_nothing, tests_on, goes_either, moves_then, expression_moves, filters_move, target_moves, assignments_move}
 use Rattle.template_compiler_generator.proofs.Rounds.{Returns, goes_asked, pushes}
 use Rattle.template_compiler_generator.proofs.Keeping.{iterable_moves}
+use Rattle.template_compiler_generator.proofs.Importing.{import_moves, from_import_moves}
 
 some_is : {A : Type 0} (x y : A) → Some x ≡ Some y → x ≡ y
 some_is x y e = cc
@@ -99,12 +102,12 @@ runs_with looping ways m k f g x y code place s base plain h inside =
 
 -- the way out of a loop
 goes_out : (closings : List Code) (code : List Code) (place to : ℕ) (s base : Shape) → Closes closings s base → StandsAt code place (closings ++ (jump to ∷ []))
-    → ((at : ℕ) → place ≤ at → at < place + length (closings ++ (jump to ∷ [])) → jumping code at None to base ≡ Some (record { falls = None; jumps = Some (to, base); enters = None }))
+    → ((at : ℕ) → place ≤ at → at < place + length (closings ++ (jump to ∷ [])) → slice_get code at ≡ Some (jump to) → jumping code at None to base ≡ Some (record { falls = None; jumps = Some (to, base); enters = None }))
     → Goes code place (place + length (closings ++ (jump to ∷ []))) s None (λ table. table to ≡ Some base)
 goes_out [] code place to s base closes h may =
     let e : Effect = record { falls = None; jumps = Some (to, base); enters = None } in
     let same : suc place ≡ place + length (jump to ∷ []) = omega arith in
-    let is : jumping code place None to s ≡ Some e = ap (jumping code place None to) closes ∙ may place (omega arith) (omega arith) in
+    let is : jumping code place None to s ≡ Some e = ap (jumping code place None to) closes ∙ may place (omega arith) (omega arith) (instruction_at code place (jump to) [] h) in
     goes_to code place (suc place) (place + length (jump to ∷ [])) s None (λ table. table to ≡ Some base) same
     (goes_with code place (suc place) s None None (Lands e) (λ table. table to ≡ Some base) (goes_on code place (jump to) s e (instruction_at code place (jump to) [] h) is refl) (λ table flows. flows)
     (λ table stands flows needs. lands_at None to base table needs))
@@ -115,7 +118,7 @@ goes_out (c ∷ closings) code place to s base closes h may =
     goes_to code place (suc place + length rest) (place + length (c ∷ rest)) s None (λ table. table to ≡ Some base) same
     (goes_then code place (suc place) (suc place + length rest) s t (Some t) None (Lands (falling t)) (λ table. table to ≡ Some base) (λ table. table to ≡ Some base)
     (goes_on code place c s (falling t) (instruction_at code place c rest h) (closes.1 code place) refl)
-    (goes_out closings code (suc place) to t base closes.2 (behind_one code place c rest h) (λ at low high. may at (omega arith) (omega arith)))
+    (goes_out closings code (suc place) to t base closes.2 (behind_one code place c rest h) (λ at low high there. may at (omega arith) (omega arith) there))
     (λ u e. some_is t u e) (λ table stands flows needs. ((λ q u e. absurd cc), needs)))
 
 runs_break : (ways : Ways) (looping : Bool) → IsTrue looping → Runs looping ways 0 (left_by ways.closings ways.break_to)
@@ -124,7 +127,7 @@ runs_break ways looping is code place s base plain h inside =
     let past = i.past in (
       false,
       goes_with code place (place + length (left_by ways.closings ways.break_to place)) s None None (λ table. table ways.break_to ≡ Some base) (Outs looping ways base)
-          (goes_out ways.closings code place ways.break_to s base i.closes h (λ at low high. jumps_forward code at None ways.break_to base plain.1 (omega arith) i.within))
+          (goes_out ways.closings code place ways.break_to s base i.closes h (λ at low high there. jumps_forward code at None ways.break_to base plain.1 (jump ways.break_to) there refl (omega arith) i.within))
           (λ table flows. flows) (λ table stands flows needs. (needs is).0),
     )
 
@@ -136,7 +139,7 @@ runs_continue ways looping is code place s base plain h inside =
       false,
       goes_with code place (place + length (left_by ways.closings ways.continue_to place)) s None None (λ table. table ways.continue_to ≡ Some base) (Outs looping ways base)
           (goes_out ways.closings code place ways.continue_to s base i.closes h
-          (λ at low high. jumps_back code at ways.continue_to i.push ways.break_to base (omega arith) i.loop i.home i.asks (omega arith)))
+          (λ at low high there. jumps_back code at ways.continue_to i.push ways.break_to base (omega arith) i.loop i.home i.asks (omega arith)))
           (λ table flows. flows) (λ table stands flows needs. (needs is).1),
     )
 
@@ -187,7 +190,7 @@ runs_skipped looping ways f x code place s base plain h inside =
     (λ t. inside_part code ways s base place (place + length (skipped jump_if_false f place)) (suc place) behind (omega arith) (omega arith) (inside t)) in
     goes_to code place behind (place + length (skipped jump_if_false f place)) (given 1 s) (Some s) (Outs looping ways base) same
     (goes_then code place (suc place) behind (given 1 s) s (Some s) (Some s) (Lands e) (Outs looping ways base) (Outs looping ways base)
-    (goes_on code place (jump_if_false behind) (given 1 s) e (instruction_at code place (jump_if_false behind) (f (suc place)) h) (tests_on code place behind s plain (omega arith) within) refl)
+    (goes_on code place (jump_if_false behind) (given 1 s) e (instruction_at code place (jump_if_false behind) (f (suc place)) h) (tests_on code place behind s plain (instruction_at code place (jump_if_false behind) (f (suc place)) h) (omega arith) within) refl)
     (goes_with code (suc place) behind s (gate inner.0 s) (Some s) (Outs looping ways base) (Outs looping ways base) inner.1 (λ table flows. flows_any inner.0 s table behind flows) (λ table stands flows needs. needs))
     (λ u g. some_is s u g) (λ table stands flows needs. (lands_at (Some s) behind s table (flows s refl), needs)))
 
@@ -404,11 +407,21 @@ runs_captured looping ways body taking takes x code place s base plain h inside 
       within = i.within;
     }
 
+-- an instruction that neither takes nor gives
+runs_still : (looping : Bool) (ways : Ways) (c : Code) → ((code : List Code) (place : ℕ) (s : Shape) → effect_of code place c s ≡ Some (falling s)) → Runs looping ways 0 (one c)
+runs_still looping ways c is = runs_moves looping ways 0 (one c) (moves_one c 0 0 (λ code place s plain. is code place s))
+
+-- what a print writes
+runs_printed : (looping : Bool) (ways : Ways) (printed : Printed) (e : Expression) → IsRunnable e → Runs looping ways 0 (flat ways (printed_core printed (expression_core e)))
+runs_printed looping ways prints_value e r =
+    runs_with looping ways 0 1 (expression_code e) (one emit) (expression_moves e r) (runs_moves looping ways 1 (one emit) (moves_one emit 1 0 (λ code place s plain. traded_plain 1 0 s plain.0)))
+runs_printed looping ways (prints_block name) e r = runs_still looping ways (call_block name) (λ code place s. refl)
+runs_printed looping ways prints_super e r = runs_still looping ways fast_super (λ code place s. refl)
+
 mutual
   pub statement_runs : (looping : Bool) (st : Statement) → IsRunnableStatement looping st → (ways : Ways) → Runs looping ways 0 (statement_code ways st)
-  statement_runs looping (raw text) r ways = runs_moves looping ways 0 (one (emit_raw text)) (moves_one (emit_raw text) 0 0 (λ code place s plain. refl))
-  statement_runs looping (print e) r ways =
-      runs_with looping ways 0 1 (expression_code e) (one emit) (expression_moves e r) (runs_moves looping ways 1 (one emit) (moves_one emit 1 0 (λ code place s plain. traded_plain 1 0 s plain.0)))
+  statement_runs looping (raw text) r ways = runs_still looping ways (emit_raw text) (λ code place s. refl)
+  statement_runs looping (print e) r ways = runs_printed looping ways (printed_of e) e r
   statement_runs looping (for_loop target e condition false body otherwise) r ways =
       runs_with looping ways 0 1 (iterable_code target e condition) (then_code (one (push_loop loop_flags)) (then_code (rounds_code (target_code target) (bodied body)) (loop_end_code otherwise (statements_code ways otherwise))))
       (iterable_moves target e condition r.0 r.1 r.2)
@@ -434,6 +447,12 @@ mutual
   statement_runs looping (auto_escape e body) r ways =
       runs_with looping ways 0 1 (expression_code e) (then_code (one push_auto_escape) (then_code (statements_code (closing_with pop_auto_escape ways) body) (one pop_auto_escape))) (expression_moves e r.0)
       (runs_escaped looping ways (statements_code (closing_with pop_auto_escape ways) body) (statements_run looping body r.1 (closing_with pop_auto_escape ways)))
+  statement_runs looping (block name required body) r ways = runs_still looping ways (call_block name) (λ code place s. refl)
+  statement_runs looping (tree.import e target) r ways = runs_moves looping ways 0 (statement_code ways (tree.import e target)) (import_moves e target r.0 r.1)
+  statement_runs looping (from_import e names) r ways = runs_moves looping ways 0 (statement_code ways (from_import e names)) (from_import_moves e names r.0 r.1)
+  statement_runs looping (extends e) r ways =
+      runs_with looping ways 0 1 (expression_code e) (one load_blocks) (expression_moves e r)
+      (runs_moves looping ways 1 (one load_blocks) (moves_one load_blocks 1 0 (λ code place s plain. traded_plain 1 0 s plain.0)))
   statement_runs looping (tree.include e ignore_missing) r ways =
       runs_with looping ways 0 1 (expression_code e) (one (include ignore_missing)) (expression_moves e r)
       (runs_moves looping ways 1 (one (include ignore_missing)) (moves_one (include ignore_missing) 1 0 (λ code place s plain. traded_plain 1 0 s plain.0)))

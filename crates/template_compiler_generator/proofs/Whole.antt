@@ -1,20 +1,17 @@
 -- Whole code has certificates.
-use Rattle.std.proofs.Common.{◌≡◌, ℕ, ◌+◌, ◌<◌, Bool, true, false, cond, List, [], length, Option, None, Some, slice_get, refl, sym, ap, ◌∙◌, append-nil, arith}
-use Rattle.std.specs.Prelude.{IsTrue, IsSomeAnd, nat_lt}
+use Rattle.std.proofs.Common.{◌≡◌, ℕ, ◌+◌, false, cond, List, [], length, Option, Some, refl, sym, ap, ◌∙◌, append-nil, arith}
+use Rattle.std.specs.Prelude.{nat_lt}
 use Rattle.std.proofs.lemmas.Bool.{lt-ltb, le-ltb}
 use Rattle.std.proofs.lemmas.Option.{slice_get_within}
-use Rattle.template_tree.specs.Tree.{Statements, Expression}
-use Rattle.template_walk.specs.Runnable.{IsRunnable, IsRunnableTemplate}
 use Rattle.template_code.specs.Code.{Code}
 use Rattle.template_code_shapes.specs.declared.StreamKind.{StreamKind}
 use Rattle.template_code_shapes.specs.declared.StreamKind.TheVariants.{Template, Expression as ExpressionStream}
 use Rattle.template_code_shapes.specs.Shapes.{Shape, start, given}
 use Rattle.template_code_shapes.specs.Streams.{end_of, IsCertificate}
-use Rattle.template_compiler_codegen.specs.Expressions.{expression_core, expression_code}
-use Rattle.template_compiler_codegen.specs.Statements.{no_ways, statements_core, statements_code, template_code, standalone_code}
+use Rattle.template_compiler_codegen.specs.Statements.{no_ways, template_code, standalone_code}
 use Rattle.template_compiler_codegen.proofs.Standing.{StandsAt}
 use Rattle.template_compiler_generator.specs.Certificates.{TemplatesAreCertified, ExpressionsAreCertified}
-use Rattle.template_compiler_generator.proofs.Calm.{calm_everywhere, flat_calm, expression_calm, statements_calm}
+use Rattle.template_compiler_generator.proofs.Aims.{template_calm, expression_calm_whole}
 use Rattle.template_compiler_generator.proofs.Segments.{Agrees, Flows, Free, Goes, goes_to, gate, gate_is}
 use Rattle.template_compiler_generator.proofs.Moving.{expression_moves}
 use Rattle.template_compiler_generator.proofs.Running.{Outs, statements_run}
@@ -45,8 +42,7 @@ pub templates_certified : TemplatesAreCertified
 templates_certified tree r =
     let code = template_code tree in
     let same : 0 + length code ≡ length code = omega arith in
-    let calm = calm_everywhere code (flat_calm (statements_core tree) no_ways (statements_calm tree) tt 0) in
-    let g = statements_run false tree r no_ways code 0 start start (refl, calm) (stands_whole code) (λ t. absurd cc) in
+    let g = statements_run false tree r no_ways code 0 start start (refl, template_calm tree) (stands_whole code) (λ t. absurd cc) in
     certified Template code (gate g.0 start) (free code (gate g.0 start) (goes_to code 0 (0 + length code) (length code) start (gate g.0 start) (Outs false no_ways start) same g.1)) (λ s e. sym (gate_is g.0 start s e))
   where
     free : (code : List Code) (exit : Option Shape) → Goes code 0 (length code) start exit (Outs false no_ways start) → Goes code 0 (length code) start exit Free
@@ -61,8 +57,7 @@ pub expressions_certified : ExpressionsAreCertified
 expressions_certified e r =
     let code = standalone_code e in
     let same : 0 + length code ≡ length code = omega arith in
-    let calm = calm_everywhere code (flat_calm (expression_core e) no_ways (expression_calm e) tt 0) in
-    let g = expression_moves e r code 0 start (refl, calm) (stands_whole code) in
+    let g = expression_moves e r code 0 start (refl, expression_calm_whole e) (stands_whole code) in
     certified ExpressionStream code (Some (given 1 start)) (goes_to code 0 (0 + length code) (length code) start (Some (given 1 start)) Free same g) (λ s h. some_is s h)
   where
     some_is : (s : Shape) → Some (given 1 start) ≡ Some s → s ≡ given 1 start

@@ -11,6 +11,7 @@ ghost use Rattle.template_compiler_codegen.specs.Expressions.{expression_code};
 ghost use Rattle.template_compiler_codegen.specs.Statements.{no_ways, statements_code, target_code};
 ghost use Rattle.template_compiler_statement_codegen.specs.Listed.{IsRunnableTree, body_in};
 ghost use Rattle.template_compiler_emission.specs.Puts.{NoRoom};
+ghost use Rattle.template_compiler_numbers.specs.Numbers.{numbered_in};
 ghost use Rattle.template_compiler_generator.specs.Drafts.{Generates, IsTooLong, MarksBehind, is_branch, is_choice, is_loop, jumps_of, leap_of, loop_flags, next_jump, raw_length, span_on, with_block, with_blocks, with_choice, with_choice_end, with_chosen, with_code, with_code_from, with_else, with_end, with_if, with_jump, with_line, with_loop, with_loop_end, with_marked, with_span, with_told, without_span};
 ghost use Rattle.template_compiler_generator.specs.View.{draft_of, open_of, refused_of};
 
@@ -19,6 +20,7 @@ use std::alloc::Global;
 use template_code::{Instruction, Instructions, LOOP_FLAG_RECURSIVE, LOOP_FLAG_WITH_LOOP_VAR};
 use template_compiler_emission::Leap;
 use template_compiler_expression_codegen::compile_expr;
+use template_compiler_numbers::number_names;
 use template_compiler_statement_codegen::{compile_assignment, compile_template};
 use template_tree::{Expr, Span};
 use template_tree_statements::Stmt;
@@ -510,23 +512,26 @@ impl<'source> CodeGenerator<'source> {
         self.blocks.is_empty()
     }
 
-    /// The instructions, where no block is open.
+    /// The instructions, where no block is open. Their filters and tests have their numbers, whatever numbers they were
+    /// added with. Takes a pass over the instructions, and at each filter and each test at most 50 comparisons of names.
     ///
     /// # Errors
     ///
-    /// The kind of the refusal that the generator met.
+    /// The kind of the refusal that the generator met, and [`ErrorKind::OutOfMemory`].
     pub fn finish(self) -> Result<Instructions<'source>, Error>
         requires { (draft_of self).blocks ≡ [] }
         ensures name { IfOk result (λ i. name_in i ≡ (draft_of self.entry).name) }
         ensures source { IfOk result (λ i. source_in i ≡ (draft_of self.entry).source) }
-        ensures code { IfOk result (λ i. code_in i ≡ (draft_of self.entry).code) }
+        ensures code { IfOk result (λ i. code_in i ≡ numbered_in (draft_of self.entry).code) }
         ensures places { IfOk result (λ i. places_in i ≡ (draft_of self.entry).marks) }
-        ensures refused { MatchOption (refused_of self.entry) (IsOk result) (λ kind. result ≡ Err (kind ∷ [])) }
+        ensures refused { MatchOption (refused_of self.entry) (IfErr result NoMemory) (λ kind. result ≡ Err (kind ∷ [])) }
     {
         if let Some(kind) = self.refused {
             return Err(Error::new(kind));
         }
-        Ok(self.code)
+        let mut code = self.code;
+        number_names(self.alloc, &mut code)?;
+        Ok(code)
     }
 }
 

@@ -7,6 +7,7 @@ ghost use Rattle.template_code_shapes.specs.Streams.{IsGood};
 ghost use Rattle.template_code_shapes.specs.declared.StreamKind.{StreamKind};
 ghost use Rattle.template_compiler_codegen.specs.Statements.{standalone_code, template_code};
 ghost use Rattle.template_compiler_emission.specs.Puts.{NoRoom};
+ghost use Rattle.template_compiler_numbers.specs.Numbers.{numbered_in};
 ghost use Rattle.template_compiler_statement_codegen.specs.Listed.{IsRunnableTree, body_in};
 ghost use Rattle.template_compiler_generator.specs.Acceptance.{ExpressionsAreAccepted, TemplatesAreAccepted};
 ghost use Rattle.template_tree_statements.specs.View.{statement_of};
@@ -23,8 +24,8 @@ use template_tree::Expr;
 use template_tree_statements::Stmt;
 use template_values_errors::Error;
 
-/// Whatever draft is generated for a template, onto one without code, is a good stream of a template. The function does
-/// nothing: it stands for the law in its contract.
+/// Whatever draft is generated for a template, onto one without code, is a good stream of a template with its numbers. The
+/// function does nothing: it stands for the law in its contract.
 pub fn templates_are_accepted()
     ensures { TemplatesAreAccepted }
 {
@@ -71,7 +72,7 @@ pub fn verified_template<'source>(
     tree: &Stmt<'source>,
 ) -> Result<Checked<'source>, Error>
     requires { IsRunnableTree (statement_of tree.now) }
-    ensures code { IfOk result (λ checked. code_in (stream_in checked) ≡ template_code (body_in (statement_of tree.now))) }
+    ensures code { IfOk result (λ checked. code_in (stream_in checked) ≡ numbered_in (template_code (body_in (statement_of tree.now)))) }
     ensures kind { IfOk result (λ checked. kind_in checked ≡ StreamKind.Template) }
     ensures refused { IfErr result NoRoom }
 {
@@ -95,7 +96,7 @@ pub fn verified_expression<'source>(
     expr: &Expr<'source>,
 ) -> Result<Checked<'source>, Error>
     requires { IsRunnable (expression_of expr.now) }
-    ensures code { IfOk result (λ checked. code_in (stream_in checked) ≡ standalone_code (expression_of expr.now)) }
+    ensures code { IfOk result (λ checked. code_in (stream_in checked) ≡ numbered_in (standalone_code (expression_of expr.now))) }
     ensures refused { IfErr result NoRoom }
 {
     expressions_are_accepted();

@@ -1,12 +1,13 @@
 -- A statement runs if its parts do.
-use Rattle.std.proofs.Common.{◌≡◌, ℕ, ◌≤◌, ◌<◌, Bool, true, false, ◌&&◌, List, [], ◌∷◌, length, get_or, Option, None, Some, Box, Global, refl, sym, ap, subst, ◌∙◌, arith, rules}
+use Rattle.std.proofs.Common.{◌≡◌, ℕ, ◌≤◌, ◌<◌, Bool, true, false, ◌&&◌, List, [], ◌∷◌, length, get_or, Box, Global, refl, sym, ap, subst, ◌∙◌, arith, rules}
 use Rattle.std.specs.Bool.{Decides}
 use Rattle.std.proofs.lemmas.Bool.Decides.{Decides-at}
-use Rattle.template_tree.specs.Tree.{Statement, set_block, filter_block}
+use Rattle.template_tree.specs.Tree.{Statement, set_block, filter_block, block}
 use Rattle.template_tree.specs.View.{expression_of, optional_in}
 use Rattle.template_tree_statements.specs.View.{assignments_in, statement_of}
 use Rattle.template_tree.specs.declared.span.Spanned.{Spanned}
 use Rattle.template_tree_statements.specs.declared.statements.AutoEscape.{AutoEscape as AutoEscapeNode}
+use Rattle.template_tree_statements.specs.declared.statements.Block.{Block as BlockNode}
 use Rattle.template_tree_statements.specs.declared.statements.CallBlock.{CallBlock, CallBlock' as called}
 use Rattle.template_tree_statements.specs.declared.statements.FilterBlock.{FilterBlock as FilterBlockNode}
 use Rattle.template_tree_statements.specs.declared.statements.ForLoop.{ForLoop as ForLoopNode}
@@ -14,7 +15,7 @@ use Rattle.template_tree_statements.specs.declared.statements.IfCond.{IfCond as 
 use Rattle.template_tree_statements.specs.declared.statements.SetBlock.{SetBlock as SetBlockNode}
 use Rattle.template_tree_statements.specs.declared.statements.Template.{Template as TemplateNode}
 use Rattle.template_tree_statements.specs.declared.statements.WithBlock.{WithBlock as WithBlockNode}
-use Rattle.template_tree_statements.specs.declared.statements.Stmt.{Stmt, size-Stmt, Template, FilterBlock, ForLoop, IfCond, WithBlock, SetBlock, AutoEscape, CallBlock as calls, the_lemmas}
+use Rattle.template_tree_statements.specs.declared.statements.Stmt.{Stmt, size-Stmt, Template, Block, FilterBlock, ForLoop, IfCond, WithBlock, SetBlock, AutoEscape, CallBlock as calls, the_lemmas}
 use Rattle.template_tree_parts.specs.Listed.{statements_in}
 use Rattle.template_tree_parts.proofs.Trees.{for_tree, if_tree, with_tree, escape_tree, whole_tree}
 use Rattle.template_compiler_runnable.specs.Running.{runs, runs_if_given, filters_run, filters_run_if_given, is_target, assignments_run, statement_runs, statements_run}
@@ -49,6 +50,15 @@ pub filter_block_runs : (looping : Bool) (s : Stmt) (n : Box (Spanned FilterBloc
     ≡ (filters_run (expression_of n.value.node.filter) && statements_run looping (statements_in n.value.node.body.items))
 filter_block_runs looping s n node =
     ap (λ (x : Stmt). statement_runs looping (statement_of x)) node ∙ ap (λ (t : Statement). statement_runs looping t) (filter_block_tree n)
+
+block_tree : (n : Box (Spanned BlockNode) Global) → statement_of (Block n)
+    ≡ block n.value.node.name.now n.value.node.required (statements_in n.value.node.body.items)
+block_tree n = search (rules, the_lemmas, statements_row)
+
+pub block_runs : (looping : Bool) (s : Stmt) (n : Box (Spanned BlockNode) Global) → s ≡ Block n → statement_runs looping (statement_of s)
+    ≡ statements_run false (statements_in n.value.node.body.items)
+block_runs looping s n node =
+    ap (λ (x : Stmt). statement_runs looping (statement_of x)) node ∙ ap (λ (t : Statement). statement_runs looping t) (block_tree n)
 
 pub if_runs : (looping : Bool) (s : Stmt) (n : Box (Spanned IfCondNode) Global) → s ≡ IfCond n → statement_runs looping (statement_of s)
     ≡ (runs (expression_of n.value.node.expr) && (statements_run looping (statements_in n.value.node.true_body.items)

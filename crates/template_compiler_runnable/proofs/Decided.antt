@@ -3,9 +3,10 @@ use Rattle.std.proofs.Common.{◌≡◌, Bool, true, false, ◌&&◌, refl}
 use Rattle.std.specs.Prelude.{not}
 use Rattle.std.specs.Bool.{Decides}
 use Rattle.std.proofs.lemmas.Bool.Decides.{Decides-and}
-use Rattle.template_tree.specs.Tree.{Expression, Optional, Expressions, Links, Arguments, Argument, variable, constant, slice, unary, binary, chain, conditional, filtered, tested, attribute, item, call, list_literal, tuple_literal, map_literal, absent, given, no_expressions, expressions_more, no_links, links_more, no_arguments, arguments_more, positional, keyword, positional_spread, keyword_spread, Statement, Statements, Assignments, template, raw, print, for_loop, if_condition, with_block, set, set_block, auto_escape, filter_block, block, import, from_import, extends, include, macro, call_block, continue_loop, break_loop, do_call, no_statements, statements_more, no_assignments, assignments_more}
-use Rattle.template_walk.specs.Runnable.{is_kept_back, is_loop_called, IsRunnable, IsRunnableIfGiven, AreRunnable, AreRunnableArguments, IsRunnableChain, AreRunnableLinks, AreFilters, IsTarget, AreTargets, AreAssignments, IsRunnableStatement, AreRunnableStatements}
-use Rattle.template_compiler_runnable.specs.Running.{runs, runs_if_given, all_run, chain_runs, links_run, arguments_run, filters_run, is_target, are_targets, assignments_run, statement_runs, statements_run}
+use Rattle.template_tree.specs.Tree.{Expression, Optional, Expressions, Links, Arguments, variable, constant, slice, unary, binary, chain, conditional, filtered, tested, attribute, item, call, list_literal, tuple_literal, map_literal, absent, given, no_expressions, expressions_more, no_links, links_more, no_arguments, arguments_more, positional, keyword, positional_spread, keyword_spread, Statement, Statements, Assignments, template, raw, print, for_loop, if_condition, with_block, set, set_block, auto_escape, filter_block, block, import, from_import, extends, include, macro, call_block, continue_loop, break_loop, do_call, no_statements, statements_more, no_assignments, assignments_more, Imports, no_imports, imports_more}
+use Rattle.template_walk.specs.Runnable.{is_kept_back, is_loop_called, IsRunnable, IsRunnableIfGiven, AreRunnable, AreRunnableArguments, IsRunnableChain, AreRunnableLinks, AreFilters, IsTarget, AreTargets, AreAssignments, AreImports, IsRunnableStatement, AreRunnableStatements}
+use Rattle.template_walk.specs.Statements.{stored_as}
+use Rattle.template_compiler_runnable.specs.Running.{runs, runs_if_given, all_run, chain_runs, links_run, arguments_run, filters_run, is_target, are_targets, assignments_run, imports_run, statement_runs, statements_run}
 
 yes : Decides true (Unit {0})
 yes = (λ h. tt, λ h. refl)
@@ -131,6 +132,11 @@ Decides-assignments_run no_assignments = yes
 Decides-assignments_run (assignments_more target e more) =
     three (is_target target) (runs e) (assignments_run more) (Decides-is_target target) (Decides-runs e) (Decides-assignments_run more)
 
+Decides-imports_run : (names : Imports) → Decides (imports_run names) (AreImports names)
+Decides-imports_run no_imports = yes
+Decides-imports_run (imports_more e alias more) =
+    three (runs e) (is_target (stored_as e alias)) (imports_run more) (Decides-runs e) (Decides-is_target (stored_as e alias)) (Decides-imports_run more)
+
 mutual
   Decides-statement_runs : (looping : Bool) (s : Statement) → Decides (statement_runs looping s) (IsRunnableStatement looping s)
   Decides-statement_runs looping (raw text) = yes
@@ -159,10 +165,10 @@ mutual
       (Decides-filters_run filters) (Decides-is_target target) (Decides-statements_run looping body)
   Decides-statement_runs looping (filter_block filters body) =
       both (filters_run filters) (statements_run looping body) (Decides-filters_run filters) (Decides-statements_run looping body)
-  Decides-statement_runs looping (block id required body) = no
-  Decides-statement_runs looping (import e target) = no
-  Decides-statement_runs looping (from_import e names) = no
-  Decides-statement_runs looping (extends e) = no
+  Decides-statement_runs looping (block id required body) = Decides-statements_run false body
+  Decides-statement_runs looping (import e target) = both (runs e) (is_target target) (Decides-runs e) (Decides-is_target target)
+  Decides-statement_runs looping (from_import e names) = both (runs e) (imports_run names) (Decides-runs e) (Decides-imports_run names)
+  Decides-statement_runs looping (extends e) = Decides-runs e
   Decides-statement_runs looping (macro id arguments defaults body) = no
   Decides-statement_runs looping (call_block callee passed arguments defaults body) = no
   Decides-statement_runs looping (do_call callee args) = Decides-runs (call callee args)

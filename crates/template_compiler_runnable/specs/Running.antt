@@ -1,7 +1,8 @@
 -- Whether a tree is runnable, as tests.
 use Rattle.std.specs.Prelude.{Bool, true, false, not, ◌&&◌}
-use Rattle.template_tree.specs.Tree.{Expression, Optional, Expressions, Links, Arguments, Argument, variable, constant, slice, unary, binary, chain, conditional, attribute, item, call, filtered, tested, list_literal, tuple_literal, map_literal, absent, given, no_expressions, expressions_more, no_links, links_more, no_arguments, arguments_more, positional, keyword, positional_spread, keyword_spread, Statement, Statements, Assignments, raw, print, for_loop, if_condition, with_block, set, set_block, auto_escape, filter_block, include, continue_loop, break_loop, do_call, no_statements, statements_more, no_assignments, assignments_more}
+use Rattle.template_tree.specs.Tree.{Expression, Optional, Expressions, Links, Arguments, Argument, variable, constant, slice, unary, binary, chain, conditional, attribute, item, call, filtered, tested, list_literal, tuple_literal, map_literal, absent, given, no_expressions, expressions_more, no_links, links_more, no_arguments, arguments_more, positional, keyword, positional_spread, keyword_spread, Statement, Statements, Assignments, Imports, raw, print, for_loop, if_condition, with_block, set, set_block, auto_escape, filter_block, block, import, from_import, extends, include, continue_loop, break_loop, do_call, no_statements, statements_more, no_assignments, assignments_more, no_imports, imports_more}
 use Rattle.template_walk.specs.Runnable.{is_kept_back, is_loop_called}
+use Rattle.template_walk.specs.Statements.{stored_as}
 
 abbrev mutual
   pub runs : Expression → Bool
@@ -82,6 +83,11 @@ abbrev pub assignments_run : Assignments → Bool
 assignments_run no_assignments = true
 assignments_run (assignments_more target e more) = is_target target && (runs e && assignments_run more)
 
+-- each name runs, and has a target where it is stored
+abbrev pub imports_run : Imports → Bool
+imports_run no_imports = true
+imports_run (imports_more e alias more) = runs e && (is_target (stored_as e alias) && imports_run more)
+
 abbrev mutual
   -- in a loop, or not
   pub statement_runs : Bool → Statement → Bool
@@ -97,6 +103,10 @@ abbrev mutual
       filters_run_if_given filters && (is_target target && statements_run looping body)
   statement_runs looping (auto_escape e body) = runs e && statements_run looping body
   statement_runs looping (filter_block filters body) = filters_run filters && statements_run looping body
+  statement_runs looping (block name required body) = statements_run false body
+  statement_runs looping (import e target) = runs e && is_target target
+  statement_runs looping (from_import e names) = runs e && imports_run names
+  statement_runs looping (extends e) = runs e
   statement_runs looping (include e ignore_missing) = runs e
   statement_runs looping (do_call callee args) = runs (call callee args)
   statement_runs looping continue_loop = looping

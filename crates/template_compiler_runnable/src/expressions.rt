@@ -14,11 +14,11 @@ pub fn is_runnable_expr(expr: &Expr<'_>) -> bool
     expression_runs(expr)
 }
 
-// Whether the engine gives the name, in places, a value that is not there yet.
+// Whether the engine gives the name, in macros, a value that is not there yet.
 fn is_kept_back(name: &str) -> bool
     ensures { result ≡ is_kept_back name.now }
 {
-    name == "caller" || name == "self" || name == "super"
+    name == "caller"
 }
 
 // Whether what is called is a loop, by its name.

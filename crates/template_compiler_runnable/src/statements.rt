@@ -7,7 +7,7 @@ ghost use Rattle.template_compiler_runnable.specs.Runs.{RunsWhole};
 
 use crate::expressions::{call_runs, operand_runs, optional_runs};
 use crate::filters::{filters_run, optional_filters_run};
-use crate::targets::{assignments_run, is_target};
+use crate::targets::{assignments_run, imports_run, is_target};
 use template_tree_statements::Stmt;
 
 /// Whether a template's tree is one whose constructs all have a walk. Takes linear time.
@@ -154,14 +154,14 @@ fn parts_run(looping: bool, statement: &Stmt<'_>) -> bool
             }
             statements_run(looping, &n.node.body)
         }
+        Stmt::Block(n) => statements_run(false, &n.node.body),
+        Stmt::Import(n) => operand_runs(&n.node.expr) && is_target(&n.node.name),
+        Stmt::FromImport(n) => operand_runs(&n.node.expr) && imports_run(&n.node.names),
+        Stmt::Extends(n) => operand_runs(&n.node.name),
         Stmt::Include(n) => operand_runs(&n.node.name),
         Stmt::Continue(_) => looping,
         Stmt::Break(_) => looping,
         Stmt::Template(_) => false,
-        Stmt::Block(_) => false,
-        Stmt::Import(_) => false,
-        Stmt::FromImport(_) => false,
-        Stmt::Extends(_) => false,
         Stmt::Macro(_) => false,
         Stmt::CallBlock(_) => false,
         Stmt::Do(n) => call_runs(&n.node.call.node),

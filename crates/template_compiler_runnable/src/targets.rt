@@ -1,8 +1,9 @@
 //! Targets, and what is stored in them.
 ghost use Rattle.std.specs.Prelude.{◌≡◌};
-ghost use Rattle.template_tree.specs.View.{expression_of, expressions_in};
-ghost use Rattle.template_tree_statements.specs.View.{assignments_in};
-ghost use Rattle.template_compiler_runnable.specs.Running.{is_target, are_targets, assignments_run};
+ghost use Rattle.template_tree.specs.View.{expression_of, expressions_in, optional_in};
+ghost use Rattle.template_tree_statements.specs.View.{assignments_in, imports_in};
+ghost use Rattle.template_walk.specs.Statements.{stored_as};
+ghost use Rattle.template_compiler_runnable.specs.Running.{is_target, are_targets, assignments_run, imports_run};
 
 use crate::expressions::{expression_runs, operand_runs};
 use template_tree::Expr;
@@ -53,4 +54,26 @@ pub(crate) fn assignments_run(assignments: &[(Expr<'_>, Expr<'_>)]) -> bool
         }
     }
     true
+}
+
+// Whether all are names that run, each with a target where it is stored.
+pub(crate) fn imports_run(names: &[(Expr<'_>, Option<Expr<'_>>)]) -> bool
+    ensures { result ≡ imports_run (imports_in names.now) }
+{
+    for name in names {
+        if !expression_runs(&name.0) || !is_stored(&name.0, &name.1) {
+            return false;
+        }
+    }
+    true
+}
+
+// Whether an imported name has a target where it is stored: itself, or its alias.
+fn is_stored(name: &Expr<'_>, alias: &Option<Expr<'_>>) -> bool
+    ensures { result ≡ is_target (stored_as (expression_of name.now) (optional_in alias.now)) }
+{
+    match alias {
+        Some(alias) => is_target(alias),
+        None => is_target(name),
+    }
 }

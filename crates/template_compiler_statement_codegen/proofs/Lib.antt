@@ -3,6 +3,8 @@ pub mod Bodies
 pub mod Closings
 pub mod Elifs
 pub mod Filtering
+pub mod Importing
+pub mod Writing
 pub mod Keeping
 pub mod Looping
 pub mod Lowering

@@ -4,3 +4,5 @@ pub mod Breaks
 pub mod Laws
 pub mod Refusals
 pub mod Filtered
+pub mod Printing
+pub mod Imports

@@ -5,7 +5,7 @@ ghost use Rattle.template_tree.specs.Tree.{auto_escape, filter_block, for_loop, 
 ghost use Rattle.template_tree_statements.specs.View.{statement_of, assignments_in};
 ghost use Rattle.template_tree.specs.View.{expression_of, optional_in};
 ghost use Rattle.template_walk.specs.Runnable.{IsRunnable, IsRunnableIfGiven, AreFilters, IsTarget, AreAssignments, IsRunnableStatement, AreRunnableStatements};
-ghost use Rattle.template_code.specs.Code.{discard_top, emit, emit_raw, include};
+ghost use Rattle.template_code.specs.Code.{call_block, discard_top, emit, emit_raw, include, load_blocks};
 ghost use Rattle.template_code.specs.Listing.{code_in, TakesNoMore};
 ghost use Rattle.template_compiler_codegen.specs.Expressions.{then_code, one, expression_code, filters_code};
 ghost use Rattle.template_compiler_codegen.specs.Statements.{loop_end_code, no_ways, own_ways, rounds_code, statements_code, target_code};
@@ -18,7 +18,9 @@ ghost use Rattle.template_compiler_statement_codegen.specs.Listed.{IsRunnableTre
 ghost use Rattle.template_compiler_statement_codegen.specs.Refusals.{Refuses};
 ghost use Rattle.template_compiler_statement_codegen.specs.Rounds.{Lowers, LowersBody, LowersStatement, LowersBranch, LowersChain, capturing, closed_code, closed_places, closing_code, places_in, ways_of};
 
+use crate::imports::{compile_from_import, compile_import};
 use crate::iterables::compile_iterable;
+use crate::prints::compile_print;
 use crate::puts::{append, compile_call, compile_expr, compile_filters, put, reserve};
 use crate::rounds::{Closing, Round, put_break, put_continue};
 use crate::targets::{store, store_all};
@@ -46,15 +48,32 @@ pub fn compile_template<'source>(
     ensures put { OnOk result (Puts (statements_code no_ways (body_in (statement_of tree.now))) code.old code.new) }
     ensures refused { IfErr result (TakesNoMore (code_in code.new)) }
 {
+    compile_statements(alloc, code, children(tree))
+}
+
+/// The same of the statements of a stream: of a whole template, or of a block's body.
+///
+/// # Errors
+///
+/// Those of [`Instructions::add`].
+pub fn compile_statements<'source>(
+    alloc: Global,
+    code: &mut Instructions<'source>,
+    body: &[Stmt<'source>],
+) -> Result<(), Error>
+    requires { AreRunnableStatements false (statements_in body.now) }
+    ensures put { OnOk result (Puts (statements_code no_ways (statements_in body.now)) code.old code.new) }
+    ensures refused { IfErr result (TakesNoMore (code_in code.new)) }
+{
     let mut round = Round::new(alloc, 0);
-    match compile_body(alloc, code, &mut round, children(tree)) {
+    match compile_body(alloc, code, &mut round, body) {
         Ok(()) => Ok(()),
         Err(kind) => Err(Error::new(kind)),
     }
 }
 
-// The statements of a whole template.
-fn children<'ast, 'source>(tree: &'ast Stmt<'source>) -> &'ast [Stmt<'source>]
+/// The statements of a whole template.
+pub fn children<'ast, 'source>(tree: &'ast Stmt<'source>) -> &'ast [Stmt<'source>]
     requires { IsRunnableTree (statement_of tree.now) }
     ensures { statements_in result.now ≡ body_in (statement_of tree.now) }
 {
@@ -137,6 +156,10 @@ fn compile_any<'source>(
         Stmt::EmitExpr(n) => compile_print(alloc, code, &n.node.expr),
         Stmt::Set(n) => compile_set(alloc, code, &n.node.target, &n.node.expr),
         Stmt::Include(n) => compile_include(alloc, code, &n.node.name, n.node.ignore_missing),
+        Stmt::Block(n) => compile_block(code, n.node.name, &n.span),
+        Stmt::Import(n) => compile_import(alloc, code, &n.node.expr, &n.node.name, &n.span),
+        Stmt::FromImport(n) => compile_from_import(alloc, code, &n.node, &n.span),
+        Stmt::Extends(n) => compile_extends(alloc, code, &n.node.name),
         Stmt::Do(n) => compile_do(alloc, code, &n.node.call),
         Stmt::IfCond(n) => compile_condition(alloc, code, round, n),
         Stmt::ForLoop(n) => compile_loop(alloc, code, round, &n.node, &n.span),
@@ -172,10 +195,6 @@ fn compile_any<'source>(
         Stmt::Continue(n) => put_continue(code, &*round, &n.span),
         Stmt::Break(n) => put_break(code, round, &n.span),
         Stmt::Template(_) => unreachable!(),
-        Stmt::Block(_) => unreachable!(),
-        Stmt::Import(_) => unreachable!(),
-        Stmt::FromImport(_) => unreachable!(),
-        Stmt::Extends(_) => unreachable!(),
         Stmt::Macro(_) => unreachable!(),
         Stmt::CallBlock(_) => unreachable!(),
     }
@@ -211,21 +230,6 @@ fn compile_text_apart<'source>(
     compile_text(code, text, *span)
 }
 
-// A value that is printed.
-#[inline(never)]
-fn compile_print<'source>(
-    alloc: Global,
-    code: &mut Instructions<'source>,
-    expr: &Expr<'source>,
-) -> Result<(), ErrorKind>
-    requires { IsRunnable (expression_of expr.now) }
-    ensures put { OnOk result (Puts (then_code (expression_code (expression_of expr.now)) (one emit)) code.old code.new) }
-    ensures refused { IfErr result (Refuses (code_in code.new)) }
-{
-    compile_expr(alloc, code, expr)?;
-    put(code, Instruction::Emit, None)
-}
-
 // A value that is stored in a target.
 #[inline(never)]
 fn compile_set<'source>(
@@ -259,6 +263,36 @@ fn compile_include<'source>(
 {
     compile_expr(alloc, code, name)?;
     put(code, Instruction::Include(ignore_missing), None)
+}
+
+// A block, which runs here. Its body is a stream of its own.
+#[inline(never)]
+fn compile_block<'source>(
+    code: &mut Instructions<'source>,
+    name: &'source str,
+    span: &Span,
+) -> Result<(), ErrorKind>
+    ensures put { OnOk result (Puts (one (call_block name.now)) code.old code.new) }
+    ensures refused { IfErr result (Refuses (code_in code.new)) }
+{
+    let name = CowStr::Borrowed(name);
+    put(code, Instruction::CallBlock(name), Some(*span))
+}
+
+// The template that this one extends.
+#[inline(never)]
+fn compile_extends<'source>(
+    alloc: Global,
+    code: &mut Instructions<'source>,
+    name: &Expr<'source>,
+) -> Result<(), ErrorKind>
+    requires { IsRunnable (expression_of name.now) }
+    ensures put { OnOk result
+        (Puts (then_code (expression_code (expression_of name.now)) (one load_blocks)) code.old code.new) }
+    ensures refused { IfErr result (Refuses (code_in code.new)) }
+{
+    compile_expr(alloc, code, name)?;
+    put(code, Instruction::LoadBlocks, None)
 }
 
 // A call whose value is dropped.

@@ -1,9 +1,10 @@
-use Rattle.std.proofs.Common.{◌≡◌, ℕ, ◌+◌, ◌<◌, ◌++◌, List, length, take, drop, false, Option, None, Some, ap, sym, subst, ◌∙◌, arith, refl}
+use Rattle.std.proofs.Common.{◌≡◌, ℕ, ◌+◌, ◌<◌, ◌++◌, ◌&&◌, List, length, take, drop, true, false, Option, None, Some, ap, sym, subst, ◌∙◌, arith, refl}
 use Rattle.std.proofs.lemmas.Result.{IfOk-at_ok, on_ok_weaker}
 use Rattle.std.specs.Prelude.{IfOk, OnOk, option_and_then}
 use Rattle.template_values_model.specs.Val.{Val}
 use Rattle.std.specs.Cow.{cow_str_bytes}
 use Rattle.template_tree.specs.Tree.{Expression, Links, call, chain, filtered, tested, links_more, list_literal, map_literal, tuple_literal}
+use Rattle.template_tree.specs.Kinds.{is_self_name, is_empty}
 use Rattle.template_tree.specs.View.{arguments_in, expression_of, expressions_in, links_in, optional_in}
 use Rattle.template_tree.specs.declared.calls.Call.{Call as CallNode}
 use Rattle.template_tree.specs.declared.calls.CallArg.{CallArg}
@@ -28,10 +29,10 @@ use Rattle.template_compiler_emission.specs.declared.leaps.Leap.TheVariants.{Alw
 use Rattle.template_compiler_emission.specs.Puts.{Puts, behind, unless}
 use Rattle.template_compiler_emission.proofs.Putting.{same_then, puts_then, puts_either, puts_skipped}
 use Rattle.template_compiler_expression_codegen.specs.Chains.{constant_behind, is_false, leaps_in, left_behind, linked_to}
-use Rattle.template_compiler_expression_codegen.specs.Own.{call_code, test_code}
+use Rattle.template_compiler_expression_codegen.specs.Own.{block_code, call_code, test_code}
 use Rattle.template_compiler_expression_codegen.specs.declared.stretches.Stretches.{Stretches}
 use Rattle.template_compiler_expression_codegen.proofs.Along.{alone_put, left_runnable, part_put, nothing_there, runnable_at, depth_at, one_node, so_far}
-use Rattle.template_compiler_expression_codegen.proofs.Arguments.{argument_runnable, filter_arguments, keyword_runnable, keyword_spread_runnable, keywords_counted, none_put, one_by_name, one_by_place, passed_counted, passes_value, puts_filter, puts_function, puts_keywords, puts_method, puts_passed, puts_test, puts_value, spread_runnable, value_runnable}
+use Rattle.template_compiler_expression_codegen.proofs.Arguments.{argument_runnable, filter_arguments, keyword_runnable, keyword_spread_runnable, keywords_counted, none_put, one_by_name, one_by_place, passed_counted, passes_value, puts_block, puts_filter, puts_function, puts_keywords, puts_method, puts_passed, puts_test, puts_value, spread_runnable, value_runnable}
 use Rattle.template_compiler_expression_codegen.proofs.Ends.{choice_behind_none, ends_choice, ends_operator, ends_unary, puts_over}
 use Rattle.template_compiler_expression_codegen.proofs.Items.{item_runnable, number_is, puts_item}
 use Rattle.template_compiler_expression_codegen.proofs.Linked.{behind_none, link_goes, link_known, link_more, link_runnable, links_at, place_more}
@@ -579,7 +580,7 @@ compile_call-compile_arguments-requires t c =
 
 pub compile_call-compile_arguments-requires-in-GetAttr : goal.compile_call-compile_arguments-requires-in-GetAttr
 compile_call-compile_arguments-requires-in-GetAttr t c =
-    let read = c.deref-in-GetAttr.ensures.value in
+    let read = c.deref-in-GetAttr-2.ensures.value in
     let same = ap (λ (xs : List CallArg). arguments_deep xs) read in
     (omega (arith, same, c.decreases), subst (λ (xs : List CallArg). AreRunnableArguments (arguments_in xs)) (sym read) c.requires)
 
@@ -606,13 +607,29 @@ compile_call-returns-in_ok-count-in-GetAttr-clause-put t c =
     let e = c.args.call.now.expr in
     let n = c.in-GetAttr.n in
     let count = c.in_ok-count-in-GetAttr.count in
-    let args = arguments_in c.deref-in-GetAttr.result.now in
-    let named = ap (λ (g : Spanned GetAttrNode). call_method g.node.name.now count) c.deref-in-GetAttr-2.ensures in
-    subst (λ (xs : List CallArg). OnOk c.push-in-GetAttr.result (Puts (call_code v (expression_of e) (arguments_in xs)) c.args.code.now c.push-in-GetAttr.new.code))
-    c.deref-in-GetAttr.ensures.value
+    let read = c.deref-in-GetAttr-2.ensures.value in
+    let args = arguments_in c.deref-in-GetAttr-2.result.now in
+    let named = ap (λ (g : Spanned GetAttrNode). call_method g.node.name.now count) c.deref-in-GetAttr.ensures in
+    let other : (is_self_name (expression_of n.value.node.expr) && is_empty (arguments_in c.args.call.now.args.items)) ≡ false =
+    ap (λ (g : Spanned GetAttrNode). is_self_name (expression_of g.node.expr) && is_empty (arguments_in c.args.call.now.args.items)) (sym c.deref-in-GetAttr.ensures) ∙
+    sym c.is_block.ensures ∙ c.if-is_block.false in
+    let no_block : (is_self_name (expression_of n.value.node.expr) && is_empty args) ≡ false =
+    subst (λ (xs : List CallArg). (is_self_name (expression_of n.value.node.expr) && is_empty (arguments_in xs)) ≡ false) (sym read) other in
+    subst (λ (xs : List CallArg). OnOk c.push-in-GetAttr.result (Puts (call_code v (expression_of e) (arguments_in xs)) c.args.code.now c.push-in-GetAttr.new.code)) read
     (on_ok_weaker c.push-in-GetAttr.result (λ last.
-    puts_method v e n args count c.in-GetAttr.is c.in_ok-count-in-GetAttr.ensures.count c.in_ok-load_held-in-GetAttr.ensures.put
+    puts_method v e n args count c.in-GetAttr.is no_block c.in_ok-count-in-GetAttr.ensures.count c.in_ok-load_held-in-GetAttr.ensures.put
     c.in_ok-count-in-GetAttr.ensures.put (puts_as named last)) c.push-in-GetAttr.ensures.put)
+
+pub compile_call-returns-then-is_block-clause-put : goal.compile_call-returns-then-is_block-clause-put
+compile_call-returns-then-is_block-clause-put t c =
+    let n = c.in-GetAttr.n in
+    let args = arguments_in c.args.call.now.args.items in
+    let block : (is_self_name (expression_of n.value.node.expr) && is_empty args) ≡ true =
+    ap (λ (g : Spanned GetAttrNode). is_self_name (expression_of g.node.expr) && is_empty args) (sym c.deref-in-GetAttr.ensures) ∙
+    sym c.is_block.ensures ∙ c.if-is_block.true in
+    on_ok_weaker c.put_block.result (λ put.
+    puts_block c.args.left.now c.args.call.now.expr n args c.in-GetAttr.is block
+    (subst (λ (g : Spanned GetAttrNode). Puts (block_code g.node.name.now) c.args.code.now c.put_block.new.code) c.deref-in-GetAttr.ensures put)) c.put_block.ensures.put
 
 pub compile_call-returns-in_ok-count-in_default-clause-put : goal.compile_call-returns-in_ok-count-in_default-clause-put
 compile_call-returns-in_ok-count-in_default-clause-put t c =

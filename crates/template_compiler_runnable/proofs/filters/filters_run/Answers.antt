@@ -1,4 +1,4 @@
-use Rattle.std.proofs.Common.{◌≡◌, Option, None, Some, sym, ap, ◌∙◌, List as Items}
+use Rattle.std.proofs.Common.{sym, ap, ◌∙◌, List as Items}
 use Rattle.template_tree.specs.View.{arguments_in, expression_of}
 use Rattle.template_tree.specs.declared.calls.CallArg.{CallArg}
 use Rattle.template_tree.specs.declared.expressions.Expr.{Expr}

@@ -1,7 +1,8 @@
-use Rattle.std.proofs.Common.{◌≡◌, ◌≤◌, length, get_or, vec_len, true, List, sym, ap, ◌∙◌, arith}
+use Rattle.std.proofs.Common.{◌≡◌, ◌≤◌, length, get_or, vec_len, true, false, List, sym, ap, ◌∙◌, arith}
 use Rattle.template_tree.specs.View.{expression_of, optional_in}
 use Rattle.template_tree_statements.specs.View.{assignments_in, statement_of}
 use Rattle.template_tree_statements.specs.declared.statements.AutoEscape.{AutoEscape as AutoEscapeNode}
+use Rattle.template_tree_statements.specs.declared.statements.Block.{Block as BlockNode}
 use Rattle.template_tree_statements.specs.declared.statements.FilterBlock.{FilterBlock as FilterBlockNode}
 use Rattle.template_tree_statements.specs.declared.statements.ForLoop.{ForLoop as ForLoopNode}
 use Rattle.template_tree_statements.specs.declared.statements.IfCond.{IfCond as IfCondNode}
@@ -12,7 +13,7 @@ use Rattle.template_tree.specs.declared.span.Spanned.{Spanned}
 use Rattle.template_tree_parts.specs.Listed.{statements_in}
 use Rattle.template_compiler_runnable.specs.Running.{runs, runs_if_given, filters_run, filters_run_if_given, is_target, assignments_run, statement_runs, statements_run}
 use Rattle.template_compiler_runnable.proofs.Parts.{first_fails, then}
-use Rattle.template_compiler_runnable.proofs.Bodies.{for_runs, if_runs, with_runs, set_block_runs, filter_block_runs, escape_runs, no_call, only_runs, else_smaller}
+use Rattle.template_compiler_runnable.proofs.Bodies.{for_runs, if_runs, with_runs, set_block_runs, filter_block_runs, block_runs, escape_runs, no_call, only_runs, else_smaller}
 use Rattle.template_compiler_runnable.proofs.statements.+statement.Goals as goal
 
 pub parts_run-returns-then-not-operand_runs : goal.parts_run-returns-then-not-operand_runs
@@ -156,16 +157,10 @@ pub parts_run-returns-in-Template : goal.parts_run-returns-in-Template
 parts_run-returns-in-Template t c = ap (λ (x : Stmt). statement_runs c.args.looping (statement_of x)) (sym c.in-Template.is)
 
 pub parts_run-returns-in-Block : goal.parts_run-returns-in-Block
-parts_run-returns-in-Block t c = ap (λ (x : Stmt). statement_runs c.args.looping (statement_of x)) (sym c.in-Block.is)
-
-pub parts_run-returns-in-Import : goal.parts_run-returns-in-Import
-parts_run-returns-in-Import t c = ap (λ (x : Stmt). statement_runs c.args.looping (statement_of x)) (sym c.in-Import.is)
-
-pub parts_run-returns-in-FromImport : goal.parts_run-returns-in-FromImport
-parts_run-returns-in-FromImport t c = ap (λ (x : Stmt). statement_runs c.args.looping (statement_of x)) (sym c.in-FromImport.is)
-
-pub parts_run-returns-in-Extends : goal.parts_run-returns-in-Extends
-parts_run-returns-in-Extends t c = ap (λ (x : Stmt). statement_runs c.args.looping (statement_of x)) (sym c.in-Extends.is)
+parts_run-returns-in-Block t c =
+    c.statements_run-in-Block.ensures ∙ ap (λ (ss : List Stmt). statements_run false (statements_in ss))
+    (c.deref-in-Block-2.ensures.value ∙ ap (λ (b : Spanned BlockNode). b.node.body.items) c.deref-in-Block.ensures) ∙
+    sym (block_runs c.args.looping c.args.statement.now c.in-Block.n c.in-Block.is)
 
 pub parts_run-returns-in-Macro : goal.parts_run-returns-in-Macro
 parts_run-returns-in-Macro t c = ap (λ (x : Stmt). statement_runs c.args.looping (statement_of x)) (sym c.in-Macro.is)

@@ -1,4 +1,4 @@
-use Rattle.std.proofs.Common.{◌≡◌, ℕ, ◌<◌, List, [], ◌∷◌, ◌++◌, length, get_or, vec_len, true, false, ap, sym, subst, ◌∙◌, arith, refl}
+use Rattle.std.proofs.Common.{◌≡◌, ℕ, ◌<◌, List, [], ◌∷◌, ◌++◌, length, get_or, vec_len, true, ap, sym, subst, ◌∙◌, arith, refl}
 use Rattle.std.proofs.lemmas.Result.{on_ok_weaker}
 use Rattle.template_tree_statements.specs.View.{assignments_in, statement_of}
 use Rattle.template_tree.specs.Tree.{Statement, auto_escape, filter_block, with_block}
@@ -30,6 +30,7 @@ use Rattle.template_compiler_statement_codegen.proofs.Filtering.{lowers_filter_b
 use Rattle.template_compiler_statement_codegen.proofs.Looping.{ends_alone, ends_otherwise, puts_rounds}
 use Rattle.template_compiler_statement_codegen.proofs.Lowering.{lowers_behind, remains_told}
 use Rattle.template_compiler_statement_codegen.proofs.Nodes.{call_no_statement, condition_is, condition_within, elif_smaller, elif_tree, escape_deep, escape_is, filter_block_deep, filter_block_is, loop_deep, loop_is, loop_of, loop_other_deep, set_block_deep, set_block_is, set_block_runs, with_deep, with_is}
+use Rattle.template_compiler_statement_codegen.proofs.Writing.{lowers_printed}
 use Rattle.template_compiler_statement_codegen.proofs.statements.+statement.Goals as goal
 
 pub compile_body-compile_statement-requires : goal.compile_body-compile_statement-requires
@@ -333,20 +334,12 @@ compile_loop-returns-clause-lowered t c = rw (sym c.deref.ensures.value, sym c.d
     lowers_behind c.in_ok-compile_iterable.ensures.put
     (lowers_behind c.in_ok-put.ensures.put (lowers_behind c.in_ok-compile_rounds.ensures.put last))) c.compile_loop_end.ensures.lowered)
 
+pub compile_any-returns-in-EmitExpr-clause-lowered : goal.compile_any-returns-in-EmitExpr-clause-lowered
+compile_any-returns-in-EmitExpr-clause-lowered t c =
+    rw c.in-EmitExpr.is (on_ok_weaker c.compile_print.result (λ put. lowers_printed (expression_of c.in-EmitExpr.n.node.expr) c.args.round.now put) c.compile_print.ensures.put)
+
 pub compile_any-unreachable-requires : goal.compile_any-unreachable-requires
 compile_any-unreachable-requires t c = subst (λ (s : Stmt). IsRunnableStatement true (statement_of s)) c.in-Template.is c.requires
-
-pub compile_any-unreachable-requires-in-Block : goal.compile_any-unreachable-requires-in-Block
-compile_any-unreachable-requires-in-Block t c = subst (λ (s : Stmt). IsRunnableStatement true (statement_of s)) c.in-Block.is c.requires
-
-pub compile_any-unreachable-requires-in-Import : goal.compile_any-unreachable-requires-in-Import
-compile_any-unreachable-requires-in-Import t c = subst (λ (s : Stmt). IsRunnableStatement true (statement_of s)) c.in-Import.is c.requires
-
-pub compile_any-unreachable-requires-in-FromImport : goal.compile_any-unreachable-requires-in-FromImport
-compile_any-unreachable-requires-in-FromImport t c = subst (λ (s : Stmt). IsRunnableStatement true (statement_of s)) c.in-FromImport.is c.requires
-
-pub compile_any-unreachable-requires-in-Extends : goal.compile_any-unreachable-requires-in-Extends
-compile_any-unreachable-requires-in-Extends t c = subst (λ (s : Stmt). IsRunnableStatement true (statement_of s)) c.in-Extends.is c.requires
 
 pub compile_any-unreachable-requires-in-Macro : goal.compile_any-unreachable-requires-in-Macro
 compile_any-unreachable-requires-in-Macro t c = subst (λ (s : Stmt). IsRunnableStatement true (statement_of s)) c.in-Macro.is c.requires

@@ -7,4 +7,4 @@ pub invariant_of-result : goal.invariant_of-result
 unfolding tree_in
 invariant_of-result c =
     let kept = c.self.invariant in
-    (record { usable = kept.0.usable; fits = kept.0.fits; has_tree = kept.0.has_tree; is_escape = refl }, kept.1)
+    (record { usable = kept.0.usable; fits = kept.0.fits; has_tree = kept.0.has_tree; is_escape = refl }, kept.1, kept.2)

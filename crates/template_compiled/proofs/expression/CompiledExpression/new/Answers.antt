@@ -2,6 +2,7 @@ use Rattle.std.proofs.Common.{◌≡◌, true, List, ◌++◌, length, ap, ◌�
 use Rattle.template_tree.specs.View.{expression_of}
 use Rattle.template_code.specs.Code.{Code}
 use Rattle.template_compiler_codegen.specs.Expressions.{expression_code}
+use Rattle.template_compiler_numbers.specs.Numbers.{numbered_in}
 use Rattle.template_compiled.proofs.Alone.{kept_alone}
 use Rattle.template_compiled.proofs.expression.CompiledExpression.new.Goals as goal
 
@@ -11,9 +12,10 @@ invariant_of-result c =
     let runs : c.is_runnable_expr.result ≡ true = search rules in
     let put = c.in_ok-put_expr.ensures.put in
     let shrunk = c.shrink_to_fit.ensures in
-    kept_alone c.args.source.now _ _ e (shrunk.same.source ∙ put.same.source ∙ c.new-instructions.ensures.source) c.in_ok-tree.ensures.too_large
+    kept_alone c.args.source.now _ _ e (shrunk.same.source ∙ c.number_names.ensures.same.source ∙ put.same.source ∙ c.new-instructions.ensures.source) c.in_ok-tree.ensures.too_large
     c.in_ok-tree.ensures.found (c.is_runnable_expr.ensures.0 runs)
-    (shrunk.code ∙ put.code ∙ ap (λ (l : List Code). l ++ expression_code e (length l)) c.new-instructions.ensures.empty)
+    (shrunk.code ∙ c.in_ok-number_names.ensures.numbered
+    ∙ ap numbered_in (put.code ∙ ap (λ (l : List Code). l ++ expression_code e (length l)) c.new-instructions.ensures.empty))
 
 pub returns-clause-faithful : goal.returns-clause-faithful
 returns-clause-faithful c =
@@ -21,6 +23,7 @@ returns-clause-faithful c =
     let runs : c.is_runnable_expr.result ≡ true = search rules in
     let put = c.in_ok-put_expr.ensures.put in
     let shrunk = c.shrink_to_fit.ensures in
-    (kept_alone c.args.source.now _ _ e (shrunk.same.source ∙ put.same.source ∙ c.new-instructions.ensures.source) c.in_ok-tree.ensures.too_large
+    (kept_alone c.args.source.now _ _ e (shrunk.same.source ∙ c.number_names.ensures.same.source ∙ put.same.source ∙ c.new-instructions.ensures.source) c.in_ok-tree.ensures.too_large
     c.in_ok-tree.ensures.found (c.is_runnable_expr.ensures.0 runs)
-    (shrunk.code ∙ put.code ∙ ap (λ (l : List Code). l ++ expression_code e (length l)) c.new-instructions.ensures.empty)).0
+    (shrunk.code ∙ c.in_ok-number_names.ensures.numbered
+    ∙ ap numbered_in (put.code ∙ ap (λ (l : List Code). l ++ expression_code e (length l)) c.new-instructions.ensures.empty))).0

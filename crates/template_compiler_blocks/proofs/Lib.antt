@@ -1,0 +1,4 @@
+mod Deep
+pub mod Lists
+pub mod Runnable
+mod Taking

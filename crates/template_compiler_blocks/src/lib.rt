@@ -1,0 +1,6 @@
+//! The blocks of a template.
+#![tactic(auto)]
+
+mod nodes;
+
+pub use nodes::blocks;

@@ -1,0 +1,3 @@
+mod Deep
+mod Taking
+mod Telling
