@@ -8,3 +8,4 @@ pub mod Capturing
 pub mod Nesting
 pub mod Including
 pub mod Refusing
+pub mod Planning

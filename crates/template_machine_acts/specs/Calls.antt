@@ -1,8 +1,9 @@
 -- What calls, filters and tests come to, and the keyword arguments that are built for them.
-use Rattle.std.specs.Prelude.{◌≡◌, ℕ, ◌*◌, List, [], Option, Some}
+use Rattle.std.specs.Prelude.{◌≡◌, ℕ, ◌*◌, false, List, [], Option, Some}
 use Rattle.template_values_errors.specs.declared.ErrorKind.{ErrorKind}
 use Rattle.template_values_model.specs.Val.{Val}
 use Rattle.template_walk.specs.Containers.{kwargs_made}
+use Rattle.template_walk.specs.Statements.{is_super_name}
 use Rattle.template_process.specs.Process.{Counts, fails, value}
 use Rattle.template_process.specs.Trace.{Reply}
 use Rattle.template_code.specs.Code.{Operand, Code, build_kwargs, merge_kwargs, apply_filter, perform_test, call_function, call_method, call_object}
@@ -37,10 +38,10 @@ pub record IsCalled (s : Programs) (before : Counts) (c : Code) (x : Spot World)
   pub faults : (kinds : List ErrorKind) (after : World) → reply ≡ told after (fails kinds)
       → FaultsWith (answer s) before c x kinds x.left x.taken
 
--- Calls with values, so many or those of a counted run.
+-- Calls with values, so many or those of a counted run; of names other than `super`.
 abbrev pub CallFunctionActs : Type 0
 CallFunctionActs = (s : Programs) (before : Counts) (x : Spot World) (name : List ℕ) (count : Option ℕ) (vs : List Val) (below : List Operand)
-    → handed count x.operands ≡ Some (vs, below)
+    → handed count x.operands ≡ Some (vs, below) → is_super_name name ≡ false
     → IsCalled s before (call_function name count) x below (call_reply s.around x.world (name_called x.world.globals (looked_up name x.world) vs))
 
 abbrev pub CallMethodActs : Type 0

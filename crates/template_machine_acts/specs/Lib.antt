@@ -9,3 +9,4 @@ pub mod Captures
 pub mod Nested
 pub mod Includes
 pub mod Refusals
+pub mod Blocks

@@ -2,13 +2,14 @@
 #![tactic(auto)]
 
 ghost use Rattle.template_machine_acts.specs.Answers.{AddCountedActs, ConstantActs, DiscardActs, DoubleActs, JumpActs, LookupActs, SwapActs, SwapCountedActs, UndefinedActs};
+ghost use Rattle.template_machine_acts.specs.Blocks.{CallBlockAsks, DoneActs, FastSuperAsks, IncludeAsks, LoadBlocksAsks, PlannedActs, PlannedFaults, SuperAsks, SuperPlanned, ValueActs};
 ghost use Rattle.template_machine_acts.specs.Calls.{ApplyFilterActs, BuildKwargsActs, CallFunctionActs, CallMethodActs, CallObjectActs, MergeKwargsActs, PerformTestActs};
 ghost use Rattle.template_machine_acts.specs.Captures.{BeginCaptureActs, EndCaptureActs, PrintCaptures, WriteCaptures};
 ghost use Rattle.template_machine_acts.specs.Events.{BreaksAstray, EventsAct, EventsFault, PassesActs, StuckAstray};
 ghost use Rattle.template_machine_acts.specs.Includes.{IncludeActs, IncludeFaults, IncludeRunsOut, IncludeStrays, IncludeWants};
 ghost use Rattle.template_machine_acts.specs.Nested.{NestedActs, NestedFaults, NestedRunsOut, NestedStrays, NestedWants};
 ghost use Rattle.template_machine_acts.specs.Refusals.{ChoiceRefused, IncludeRefused, MissingActs, RoomRefused};
-ghost use Rattle.template_machine_acts.specs.Scopes.{CloseEscapeActs, CloseFrameActs, CloseLoopActs, DidNotIterateActs, NextItemActs, NoItemActs, OpenEscapeActs, OpenFrameActs, OpenLoopActs, SetAttributeActs, StoreActs};
+ghost use Rattle.template_machine_acts.specs.Scopes.{CloseEscapeActs, CloseFrameActs, CloseLoopActs, DidNotIterateActs, ExportActs, NextItemActs, NoItemActs, OpenEscapeActs, OpenFrameActs, OpenLoopActs, SetAttributeActs, StoreActs};
 ghost use Rattle.template_machine_acts.specs.Values.{BuildListActs, BuildMapActs, BuildTupleActs, CompareActs, GetAttributeActs, GetItemActs, InvertActs, JumpIfFalseActs, JumpIfFalseOrPopActs, JumpIfTrueOrPopActs, NegateActs, OperateActs, SliceActs, UnpackActs, UnpackListsActs};
 ghost use Rattle.template_machine_acts.specs.Writings.{PrintActs, PrintFaults, WriteActs};
 
@@ -78,9 +79,10 @@ pub fn truths_act()
     ensures jump_if_true_or_pop { JumpIfTrueOrPopActs }
 {}
 
-/// A store changes the innermost frame; frames open where there is room, and close.
+/// A store changes the innermost frame, and what it holds becomes a module; frames open where there is room, and close.
 pub fn frames_act()
     ensures store { StoreActs }
+    ensures exported { ExportActs }
     ensures opened { OpenFrameActs }
     ensures closed { CloseFrameActs }
 {}
@@ -147,4 +149,23 @@ pub fn includes_refuse()
     ensures choice { ChoiceRefused }
     ensures missing { MissingActs }
     ensures room { RoomRefused }
+{}
+
+/// What the instructions ask that run a block or another template, or load the blocks of the template that is extended; and what is
+/// planned for `super` by its name.
+pub fn blocks_ask()
+    ensures call { CallBlockAsks }
+    ensures fast_super { FastSuperAsks }
+    ensures super_named { SuperAsks }
+    ensures load { LoadBlocksAsks }
+    ensures includes { IncludeAsks }
+    ensures planned { SuperPlanned }
+{}
+
+/// What is planned to be done at once, or refused, is so; and a run within that comes to its end is done, or gives its value.
+pub fn plans_act()
+    ensures acts { PlannedActs }
+    ensures faults { PlannedFaults }
+    ensures ends { DoneActs }
+    ensures gives { ValueActs }
 {}

@@ -96,7 +96,7 @@ none_further a reply flag left w asked before none =
 
 -- nothing but temps is other, and then again
 pub only_temps_on : (u v w : World) → OnlyTemps u v → OnlyTemps v w → OnlyTemps u w
-only_temps_on u v w first second = second ∙ ap (λ (x : World). record x { temps = w.temps }) first
+only_temps_on u v w first second = second ∙ ap (λ (x : World). record x { temps = w.temps; held = w.held }) first
 
 -- a reply by another name
 pub replied_as : {X : Type 0} (on : X → World → Reply World) (reply same : Reply World) (result : Result X (List ErrorKind)) (after : World)

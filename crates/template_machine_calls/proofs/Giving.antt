@@ -1,18 +1,24 @@
 -- Instructions that call give the value of the call, or fail as it does.
-use Rattle.std.proofs.Common.{◌≡◌, ◌⊎◌, inl, inr, ℕ, suc, List, [], ◌∷◌, Option, Some, Result, OnOk, IfErr, IsErrAnd, refl, sym, ap, ◌∙◌, subst}
+use Rattle.std.proofs.Common.{◌≡◌, ◌⊎◌, inl, inr, ℕ, suc, false, if◌then◌else◌, List, [], ◌∷◌, Option, Some, Result, OnOk, IfErr, IsErrAnd, refl, sym, ap, ◌∙◌, subst}
 use Rattle.std.proofs.KnownBytes.{Appends-nil}
 use Rattle.template_values_errors.specs.declared.ErrorKind.{ErrorKind}
 use Rattle.template_values_errors.specs.declared.ErrorKind.TheVariants.{WriteFailure}
 use Rattle.template_values_errors.specs.Memory.{NoMemory}
 use Rattle.template_values_model.specs.Val.{Val}
-use Rattle.template_process.specs.Process.{Counts, Ask, fails, value, on_value, asks, over}
+use Rattle.template_process.specs.Process.{Counts, Ask, call_function, fails, value, on_value, asks, over}
 use Rattle.template_process.specs.Trace.{Reply, run, replied}
 use Rattle.template_code.specs.Code.{Operand, single, Code}
 use Rattle.template_code.specs.Steps.{deed, giving, handed}
+use Rattle.template_walk.specs.Statements.{is_super_name}
+use Rattle.template_machine_meaning.specs.Blocks.{super_called}
+use Rattle.template_machine_meaning.specs.Calls.{call_reply}
+use Rattle.template_machine_meaning.specs.Functions.{name_called}
 use Rattle.template_machine_meaning.specs.Keeps.{IsMeant, IsFault, IsMeantEnd}
+use Rattle.template_machine_meaning.specs.Plans as plans
+use Rattle.template_machine_meaning.specs.Plans.{settled}
 use Rattle.template_machine_meaning.specs.Replies.{told, changed}
-use Rattle.template_machine_meaning.specs.Surroundings.{Programs, answer}
-use Rattle.template_machine_meaning.specs.World.{World}
+use Rattle.template_machine_meaning.specs.Surroundings.{Programs, answer, runners}
+use Rattle.template_machine_meaning.specs.World.{World, looked_up}
 use Rattle.template_machine_meaning.proofs.RunsKept.{runs_keep}
 use Rattle.template_machine_going.specs.Acts.{Next, Acts}
 use Rattle.template_machine_going.specs.Outcomes.{FaultsWith, faulting}
@@ -26,6 +32,13 @@ use Rattle.template_machine_steps.proofs.Stepping.{handed_on, pushed_out, want_o
 fault_spares : (kinds : List ErrorKind) → IsFault kinds → SparesSink kinds
 fault_spares [] meant = absurd meant
 fault_spares (kind ∷ kinds) meant = λ is. let first : kind ≡ WriteFailure = cc in subst IsMeant first meant.0
+
+-- every run keeps that its faults are meant
+pub reply_spares : (s : Programs) (e : Ask) (w : World) (reply : Reply World) → ((n : ℕ) → answer s n w e ≡ reply) → (kinds : List ErrorKind) (after : World)
+    → reply ≡ told after (fails kinds) → SparesSink kinds
+reply_spares s e w reply replies kinds after is =
+    fault_spares kinds
+    (subst (λ (r : Reply World). IsMeantEnd (replied (λ a t. run (answer s 0) (over []) t) r).end) (replies 0 ∙ is) (runs_keep s 0 (asks e (λ a. over [])) w).end)
 
 module _ (s : Programs) (c : Code) (e : Ask) (operands : List Operand) (w : World) (below : List Operand)
     (asking : (next : Next) (before : Counts) (place : ℕ) → deed next before c place operands ≡ giving next place below e)
@@ -43,12 +56,6 @@ module _ (s : Programs) (c : Code) (e : Ask) (operands : List Operand) (w : Worl
       events_fault World (answer s) before c e (λ next. on_value (λ u. next (suc place) (single u ∷ below))) kinds [] 0 after left taken
       (spot place operands w left taken) (λ next. asking next before place) (λ n le. replies n ∙ is) (paid_nothing left) (Appends-nil taken)
 
-  -- every run keeps that its faults are meant
-  spares : (kinds : List ErrorKind) (after : World) → reply ≡ told after (fails kinds) → SparesSink kinds
-  spares kinds after is =
-      fault_spares kinds
-      (subst (λ (r : Reply World). IsMeantEnd (replied (λ a t. run (answer s 0) (over []) t) r).end) (replies 0 ∙ is) (runs_keep s 0 (asks e (λ a. over [])) w).end)
-
   -- the value of the call goes on top
   pub given : {X : Type 0} (result : Result X (List ErrorKind)) (later : List Operand) (v : Val) (after : World) → reply ≡ changed after (value v)
       → OnOk result (later ≡ single v ∷ below) → IfErr result NoMemory → Performs s c operands w result later after
@@ -59,7 +66,7 @@ module _ (s : Programs) (c : Code) (e : Ask) (operands : List Operand) (w : Worl
       → NoMemory kinds ⊎ (reply ≡ told after (fails kinds)) → IsErrAnd result (λ ks. ks ≡ kinds) → Performs s c operands w result later after
   failed result later after kinds (inl why) is = want_out s c operands w result suc later after kinds why is
   failed result later after kinds (inr fault) is =
-      handed_on s c operands w result suc later after kinds (spares kinds after fault)
+      handed_on s c operands w result suc later after kinds (reply_spares s e w reply replies kinds after fault)
       (λ place left taken before to others v. faulting (failing kinds after fault before place left taken)) is
 
 -- operands that were taken by another name of the count
@@ -74,3 +81,9 @@ handed_with count operands below vs us at is = at ∙ ap (λ xs. Some (xs, below
 pub refused_as : (count same : Option ℕ) (operands : List Operand) (kinds : List ErrorKind) → count ≡ same
     → RefusesHanded count operands kinds → RefusesHanded same operands kinds
 refused_as count same operands kinds is why = subst (λ n. RefusesHanded n operands kinds) is why
+
+-- a name that is not `super` is called
+pub called : (s : Programs) (name : List ℕ) (w : World) (vs : List Val) → is_super_name name ≡ false → (n : ℕ)
+    → answer s n w (call_function name vs) ≡ call_reply s.around w (name_called w.globals (looked_up name w) vs)
+called s name w vs other n =
+    ap (λ b. settled (runners s n) w (if b then super_called s.around w vs else plans.replies (call_reply s.around w (name_called w.globals (looked_up name w) vs)))) other

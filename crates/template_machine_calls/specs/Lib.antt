@@ -1,3 +1,4 @@
+pub mod Formatted
 pub mod Hosted
 pub mod Left
 -- what contracts here cite of crates below

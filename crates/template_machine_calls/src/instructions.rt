@@ -1,6 +1,7 @@
 //! The instructions that call.
-ghost use Rattle.std.specs.Prelude.{◌≡◌, ℕ};
+ghost use Rattle.std.specs.Prelude.{◌≡◌, ℕ, false};
 ghost use Rattle.template_code.specs.Code.{apply_filter, call_function, call_method, call_object, perform_test};
+ghost use Rattle.template_walk.specs.Statements.{is_super_name};
 ghost use Rattle.template_machine_meaning.specs.Surroundings.{Programs};
 ghost use Rattle.template_machine_operands.specs.Operands.{operands_in};
 ghost use Rattle.template_machine_steps.specs.Performs.{Performs};
@@ -15,8 +16,8 @@ use template_machine_state::State;
 use template_values_core::Value;
 use template_values_errors::Error;
 
-/// Takes so many values, or a counted run where the count is left out, and calls what a name stands for with them. As dear as
-/// [`State::looked_up`] and the call.
+/// Takes so many values, or a counted run where the count is left out, and calls what a name stands for with them; the name is not
+/// `super`, which the machine calls by itself. As dear as [`State::looked_up`] and the call.
 ///
 /// # Errors
 ///
@@ -40,6 +41,7 @@ pub fn call_function<H: Callbacks>(
     state: &mut State<'_>,
     operands: &mut Operands,
 ) -> Result<(), Error>
+    requires { is_super_name name.now ≡ false }
     ensures { (program : Programs) →
         Performs (hosted rules.entry (H.callables host.now) program) (call_function name.now count) (operands_in operands.old) state.old
         result (operands_in operands.new) state.new }

@@ -1,14 +1,17 @@
-//! What calls come to where a user's own answers them, and the instructions that call.
+//! What calls come to where a user's own answers them, and the instructions that call; and values that are printed as a user's own
+//! says.
 #![tactic(auto)]
 
 mod asking;
 mod calls;
 mod chain;
+mod formatted;
 mod heard;
 mod instructions;
 mod outcome;
 mod rules;
 
 pub use calls::{call_filter, call_test};
+pub use formatted::{emit_formatted, format_value};
 pub use instructions::{apply_filter, call_function, call_method, call_object, perform_test};
 pub use rules::Rules;

@@ -4,3 +4,5 @@ pub mod Innermost
 pub mod Knowing
 pub mod Behind
 pub mod Places
+pub mod Outermost
+mod Public

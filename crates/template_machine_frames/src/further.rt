@@ -1,7 +1,9 @@
 //! The locals of a frame beyond its first few.
-ghost use Rattle.std.specs.Prelude.{◌≡◌, ℕ, List, ◌||◌, [], is_some, IfErr, OnOk, OnErr, option_copied};
+ghost use Rattle.std.specs.Prelude.{◌≡◌, ℕ, List, ◌++◌, ◌||◌, [], is_some, IfErr, OnOk, OnErr, option_copied};
 ghost use Rattle.std.specs.BTreeSet.{contains_text};
 ghost use Rattle.template_values_errors.specs.Memory.{NoMemory};
+ghost use Rattle.template_values_core.specs.Shape.{pairs_in};
+ghost use Rattle.template_machine_meaning.specs.Modules.{public_locals};
 ghost use Rattle.template_machine_meaning.specs.World.{local_at, put_local};
 ghost use Rattle.template_machine_frames.specs.Names.{exports_of};
 
@@ -9,7 +11,7 @@ use crate::indexed::Indexed;
 use std::alloc::Global;
 use std::collections::BTreeSet;
 use std::marker::Model;
-use template_values_core::Value;
+use template_values_core::{Entry, Value};
 use template_values_errors::Error;
 
 /// Names with their values, which take memory only where there is a name: most frames have none of them.
@@ -102,6 +104,17 @@ impl<'env> Further<'env> {
     {
         match &self.indexed {
             Some(indexed) => indexed.add_exports(alloc, names),
+            None => Ok(()),
+        }
+    }
+
+    // Adds the names that do not begin with `_`, as texts, each with its value.
+    pub(crate) fn add_public(&self, alloc: Global, entries: &mut Vec<Entry>) -> Result<(), Error>
+        ensures added { OnOk result (pairs_in entries.new.items ≡ pairs_in entries.old.items ++ public_locals self.now) }
+        ensures refused { IfErr result NoMemory }
+    {
+        match &self.indexed {
+            Some(indexed) => indexed.add_public(alloc, entries),
             None => Ok(()),
         }
     }

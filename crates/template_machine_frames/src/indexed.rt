@@ -1,15 +1,17 @@
 //! Many locals, found by their order.
-ghost use Rattle.std.specs.Prelude.{◌≡◌, ℕ, List, ◌||◌, [], None, is_some, IfErr, OnOk, OnErr, option_copied};
+ghost use Rattle.std.specs.Prelude.{◌≡◌, ℕ, List, ◌++◌, ◌||◌, [], None, is_some, IfErr, OnOk, OnErr, option_copied};
 ghost use Rattle.std.specs.BTreeSet.{contains_text};
 ghost use Rattle.template_values_errors.specs.Memory.{NoMemory};
+ghost use Rattle.template_values_core.specs.Shape.{pairs_in};
+ghost use Rattle.template_machine_meaning.specs.Modules.{public_locals};
 ghost use Rattle.template_machine_meaning.specs.World.{local_at, put_local};
 ghost use Rattle.template_machine_frames.specs.Names.{exports_of};
 
-use crate::local::{Local, add_exports, add_names};
+use crate::local::{Local, add_exports, add_names, add_public};
 use std::alloc::Global;
 use std::collections::{BTreeMap, BTreeSet};
 use std::marker::Model;
-use template_values_core::Value;
+use template_values_core::{Entry, Value};
 use template_values_errors::Error;
 
 /// Names with their values, in the order in which they were stored first; and beside them, where each name stands, by which it
@@ -120,5 +122,13 @@ impl<'env> Indexed<'env> {
         ensures refused { IfErr result NoMemory }
     {
         add_exports(alloc, names, self.locals.as_slice())
+    }
+
+    // Adds the names that do not begin with `_`, as texts, each with its value.
+    pub(crate) fn add_public(&self, alloc: Global, entries: &mut Vec<Entry>) -> Result<(), Error>
+        ensures added { OnOk result (pairs_in entries.new.items ≡ pairs_in entries.old.items ++ public_locals self.now) }
+        ensures refused { IfErr result NoMemory }
+    {
+        add_public(alloc, entries, self.locals.as_slice())
     }
 }

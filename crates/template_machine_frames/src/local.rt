@@ -1,8 +1,11 @@
 //! A local, and lists of locals.
-ghost use Rattle.std.specs.Prelude.{◌≡◌, ℕ, List, ◌||◌, ◌-◌, length, take, is_some, IfErr, OnOk, option_copied};
+ghost use Rattle.std.specs.Prelude.{◌≡◌, ℕ, List, ◌∷◌, [], ◌++◌, ◌||◌, ◌-◌, length, take, is_some, IfErr, IfOk, OnOk, option_copied};
 ghost use Rattle.std.specs.BTreeSet.{contains_text};
 ghost use Rattle.std.specs.List.{find, position};
 ghost use Rattle.template_values_errors.specs.Memory.{NoMemory};
+ghost use Rattle.template_values_core.specs.Shape.{pairs_in};
+ghost use Rattle.template_values_model.specs.Val.{text};
+ghost use Rattle.template_machine_meaning.specs.Modules.{public_locals};
 ghost use Rattle.template_machine_meaning.specs.World.{local_at};
 ghost use Rattle.template_machine_frames.specs.Locals.{is_named, locals_of};
 ghost use Rattle.template_machine_frames.specs.Names.{exports_of};
@@ -10,7 +13,7 @@ ghost use Rattle.template_machine_frames.specs.Names.{exports_of};
 use crate::names::{add_name, is_private};
 use std::alloc::Global;
 use std::collections::BTreeSet;
-use template_values_core::{Value, is_same};
+use template_values_core::{Entry, Value, is_same};
 use template_values_errors::Error;
 
 /// A name with its value.
@@ -96,4 +99,43 @@ pub(crate) fn add_exports(
         }
     }
     Ok(())
+}
+
+// Adds the names that do not begin with `_`, as texts, each with its value.
+pub(crate) fn add_public(
+    alloc: Global,
+    entries: &mut Vec<Entry>,
+    locals: &[Local<'_>],
+) -> Result<(), Error>
+    ensures added { OnOk result (pairs_in entries.new.items ≡ pairs_in entries.old.items ++ public_locals (locals_of locals.now)) }
+    ensures refused { IfErr result NoMemory }
+{
+    for local in locals {
+        add_if_public(alloc, entries, local)?;
+    }
+    Ok(())
+}
+
+// The same of one local.
+fn add_if_public(alloc: Global, entries: &mut Vec<Entry>, local: &Local<'_>) -> Result<(), Error>
+    ensures added { OnOk result (pairs_in entries.new.items ≡ pairs_in entries.old.items ++ public_locals (locals_of (local.now ∷ []))) }
+    ensures refused { IfErr result NoMemory }
+{
+    if is_private(local.name) {
+        return Ok(());
+    }
+    entries.push(public_entry(alloc, local)?)?;
+    Ok(())
+}
+
+// The name as a text, with the value.
+fn public_entry(alloc: Global, local: &Local<'_>) -> Result<Entry, Error>
+    ensures key { IfOk result (λ entry. entry.key ≡ text local.now.name.now) }
+    ensures value { IfOk result (λ entry. entry.value ≡ local.now.value) }
+    ensures refused { IfErr result NoMemory }
+{
+    Ok(Entry {
+        key: Value::from_text(String::from_str(alloc, local.name)?)?,
+        value: local.value.copy()?,
+    })
 }

@@ -1,17 +1,19 @@
 //! The locals of a frame.
-ghost use Rattle.std.specs.Prelude.{◌≡◌, ◌==◌, ℕ, List, ◌||◌, [], length, is_some, IfErr, OnOk, OnErr, option_copied};
+ghost use Rattle.std.specs.Prelude.{◌≡◌, ◌==◌, ℕ, List, ◌++◌, ◌||◌, [], length, is_some, IfErr, OnOk, OnErr, option_copied};
 ghost use Rattle.std.specs.BTreeSet.{contains_text};
 ghost use Rattle.template_values_errors.specs.Memory.{NoMemory};
+ghost use Rattle.template_values_core.specs.Shape.{pairs_in};
+ghost use Rattle.template_machine_meaning.specs.Modules.{public_locals};
 ghost use Rattle.template_machine_meaning.specs.World.{local_at, put_local};
 ghost use Rattle.template_machine_frames.specs.Names.{exports_of};
 
 use crate::further::Further;
 use crate::growth::push_growing;
-use crate::local::{Local, add_exports, add_names, drop_last, find, position};
+use crate::local::{Local, add_exports, add_names, add_public, drop_last, find, position};
 use std::alloc::Global;
 use std::collections::BTreeSet;
 use std::marker::Model;
-use template_values_core::Value;
+use template_values_core::{Entry, Value};
 use template_values_errors::{Error, ErrorKind};
 
 // So many names are looked through one by one, or more where memory was given for more.
@@ -118,6 +120,15 @@ impl<'env> Locals<'env> {
     {
         add_exports(alloc, names, self.few.as_slice())?;
         self.further.add_exports(alloc, names)
+    }
+
+    // Adds the names that do not begin with `_`, as texts, each with its value.
+    pub(crate) fn add_public(&self, alloc: Global, entries: &mut Vec<Entry>) -> Result<(), Error>
+        ensures added { OnOk result (pairs_in entries.new.items ≡ pairs_in entries.old.items ++ public_locals self.now) }
+        ensures refused { IfErr result NoMemory }
+    {
+        add_public(alloc, entries, self.few.as_slice())?;
+        self.further.add_public(alloc, entries)
     }
 
     // Whether there are no names.

@@ -1,4 +1,4 @@
-pub mod Included
 pub mod Trackers
+pub mod Wrapped
 -- what contracts here cite of the crates below
 pub use Rattle.template_machine_going.specs.Paying

@@ -1,7 +1,13 @@
 pub mod Advancing
-pub mod Standing
-pub mod Within
-pub mod Choosing
+pub mod Streams
+pub mod Restarts
+pub mod Wrapping
+pub mod Doing
+mod Finding
+mod Within
+mod Followed
+mod Entered
+mod Choosing
 pub mod Failing
 pub mod Stretching
 mod Onward

@@ -1,11 +1,12 @@
 //! The instructions that call.
-ghost use Rattle.std.specs.Prelude.{◌≡◌, true};
+ghost use Rattle.std.specs.Prelude.{◌≡◌};
 ghost use Rattle.template_code.specs.View.{code_of};
 ghost use Rattle.template_machine_calls.specs.Hosted.{hosted};
 ghost use Rattle.template_machine_meaning.specs.Surroundings.{Programs};
 ghost use Rattle.template_machine_operands.specs.Operands.{operands_in};
 ghost use Rattle.template_machine_steps.specs.Performs.{Performs};
-ghost use Rattle.template_machine_loop.specs.Programs.{is_call};
+ghost use Rattle.template_machine_loop.specs.Programs.{task_of};
+ghost use Rattle.template_machine_loop.specs.declared.tasks.Task.TheVariants.{Calls};
 
 use std::alloc::Global;
 use template_callables::Callbacks;
@@ -16,20 +17,6 @@ use template_machine_calls::{
 use template_machine_operands::Operands;
 use template_machine_state::State;
 use template_values_errors::{Error, ErrorKind};
-
-// Whether an instruction calls: a name, a method, a value, a filter or a test.
-pub(crate) fn is_call(instruction: &Instruction<'_>) -> bool
-    ensures { result ≡ is_call (code_of instruction.now) }
-{
-    match instruction {
-        Instruction::ApplyFilter(_, _, _)
-        | Instruction::PerformTest(_, _, _)
-        | Instruction::CallFunction(_, _)
-        | Instruction::CallMethod(_, _)
-        | Instruction::CallObject(_) => true,
-        _ => false,
-    }
-}
 
 // Does what an instruction does that calls, once it is paid. It stands alone, so that others have nothing of it.
 //
@@ -46,7 +33,7 @@ pub(crate) fn call<H: Callbacks>(
     operands: &mut Operands,
     state: &mut State<'_>,
 ) -> Result<(), Error>
-    requires { is_call (code_of instruction.now) ≡ true }
+    requires { task_of (code_of instruction.now) ≡ Calls }
     ensures { (program : Programs) →
         Performs (hosted rules.entry (H.callables host.now) program) (code_of instruction.now) (operands_in operands.old) state.old
         result (operands_in operands.new) state.new }

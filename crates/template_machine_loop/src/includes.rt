@@ -1,42 +1,141 @@
-//! What an include chooses.
-ghost use Rattle.std.specs.Prelude.{◌≡◌, ◌∷◌, [], ◌⊎◌, Ok, Err, IfOk, IfErr, option_map};
-ghost use Rattle.template_code.specs.View.{code_of};
+//! Includes.
+ghost use Rattle.std.specs.Prelude.{◌≡◌, ◌⊎◌, Ok, Err, Some, IfOk, IfErr, IfSome, option_map};
 ghost use Rattle.template_values_errors.specs.Memory.{NoMemory};
+ghost use Rattle.template_process.specs.Process.{done};
+ghost use Rattle.template_machine_meaning.specs.Includes.{first_standing, include_levels, include_plan, include_within};
+ghost use Rattle.template_machine_meaning.specs.Plans.{room_for};
 ghost use Rattle.template_machine_meaning.specs.Records.{known_of};
-ghost use Rattle.template_machine_operations.specs.Answers.{answered};
-ghost use Rattle.template_machine_loop.specs.Programs.{standing_of, first_of, chosen_by, chosen, include_in};
+ghost use Rattle.template_machine_operations.specs.Outcomes.{TellsFailures};
+ghost use Rattle.template_machine_loop.specs.Found.{FindsTemplateOrNone, IsRefused, found_of};
+ghost use Rattle.template_machine_loop.specs.Plans.{DoesPlan};
+ghost use Rattle.template_machine_loop.specs.Programs.{programs_under, standing_of};
 
-use crate::templates::{Compiled, Templates};
+use crate::templates::{Compiled, Program, Templates};
+use crate::whole::run_whole;
 use std::alloc::Global;
-use template_code::Instruction;
+use template_machine_fuel::wrapped;
 use template_machine_items::Items;
 use template_machine_operations::choices_in;
+use template_machine_output::Sink;
 use template_machine_state::State;
 use template_values_core::Value;
 use template_values_errors::{Error, ErrorKind};
 
-// Whether a missing template is ignored, where the instruction includes one.
-pub(crate) fn include_in(instruction: &Instruction<'_>) -> Option<bool>
-    ensures { result ≡ include_in (code_of instruction.now) }
+// So many levels deeper an included template runs.
+const INCLUDE_LEVELS: usize = 10;
+
+/// Runs the first of the templates that a value names that stands, in the frames of the run, with blocks of its own.
+///
+/// # Errors
+///
+/// `InvalidOperation` at a value that names no templates, at a choice that is reached and is no text, and where there is no room;
+/// `TemplateNotFound` where no choice stands, of those that there are, unless missing ones are ignored; the fault of a name's join;
+/// that of its run, behind a `BadInclude`; and `OutOfMemory`, `WriteFailure` and `BadStream` as for
+/// [`run_to_end`](crate::run_to_end).
+#[cycle(running)]
+pub(crate) fn include<'env, T: Templates, S: Sink>(
+    alloc: Global,
+    program: Program<'env, '_, T>,
+    ignore_missing: bool,
+    value: Value,
+    state: &mut State<'env>,
+    left: &mut Option<u64>,
+    scratch: &mut String,
+    sink: &mut S,
+) -> Result<(), Error>
+    ensures plan { let templates = program.entry.templates.now in let root = option_map standing_of program.entry.root in
+        let s = programs_under (T.standing templates) (T.joins templates) (T.callables templates) root program.entry.rules in
+        DoesPlan (λ u. done) s (include_plan (known_of state.old) s.around state.old ignore_missing value)
+        state.old left.old (S.taken sink.old) result state.new left.new (S.taken sink.new) }
+    ensures failures { TellsFailures result (S.failures sink.old) (S.failures sink.new) }
 {
-    match instruction {
-        Instruction::Include(ignore_missing) => Some(*ignore_missing),
-        _ => None,
+    let choice = chosen(alloc, program, ignore_missing, value, state)?;
+    match choice {
+        Some(found) => run_included(alloc, program, found, state, left, scratch, sink),
+        None => Ok(()),
     }
+}
+
+// Runs an included template, where there is room for it.
+#[cycle(running)]
+fn run_included<'env, T: Templates, S: Sink>(
+    alloc: Global,
+    program: Program<'env, '_, T>,
+    found: Compiled<'env>,
+    state: &mut State<'env>,
+    left: &mut Option<u64>,
+    scratch: &mut String,
+    sink: &mut S,
+) -> Result<(), Error>
+    requires { T.standing program.templates.now found.name.now ≡ Some (standing_of found) }
+    ensures plan { let templates = program.entry.templates.now in let root = option_map standing_of program.entry.root in
+        let s = programs_under (T.standing templates) (T.joins templates) (T.callables templates) root program.entry.rules in
+        DoesPlan (λ u. done) s (room_for s.around.limit include_levels state.old (include_within state.old (found_of (standing_of found.entry))))
+        state.old left.old (S.taken sink.old) result state.new left.new (S.taken sink.new) }
+    ensures failures { TellsFailures result (S.failures sink.old) (S.failures sink.new) }
+{
+    if !state.has_room(program.rules.limit, INCLUDE_LEVELS) {
+        return Err(Error::new(ErrorKind::InvalidOperation));
+    }
+    let caller = state.enter_include(alloc, found.name, found.escape, found.blocks)?;
+    let ran = run_whole(alloc, program, found.code, state, left, scratch, sink);
+    state.leave_include(caller);
+    match ran {
+        Ok(()) => Ok(()),
+        Err(error) => Err(wrapped(alloc, ErrorKind::BadInclude, error)),
+    }
+}
+
+// The first of the templates that a value names that stands; none where nothing is to be done.
+//
+// # Errors
+//
+// As `include` has them before it runs a template.
+fn chosen<'env, T: Templates>(
+    alloc: Global,
+    program: Program<'env, '_, T>,
+    ignore_missing: bool,
+    value: Value,
+    state: &State<'env>,
+) -> Result<Option<Compiled<'env>>, Error>
+    ensures found { let templates = program.entry.templates.now in let root = option_map standing_of program.entry.root in
+        let s = programs_under (T.standing templates) (T.joins templates) (T.callables templates) root program.entry.rules in
+        IfOk result (λ found. FindsTemplateOrNone s (T.standing templates) state.now ignore_missing value (option_map standing_of found)) }
+    ensures refused { let templates = program.entry.templates.now in let root = option_map standing_of program.entry.root in
+        let s = programs_under (T.standing templates) (T.joins templates) (T.callables templates) root program.entry.rules in
+        IfErr result (λ kinds. NoMemory kinds ⊎ IsRefused s (include_plan (known_of state.now) s.around state.now ignore_missing value) state.now kinds) }
+{
+    let choices = choices_in(alloc, value, state)?;
+    let first = first_standing(program, state.here_name(program.rules.name), &choices)?;
+    if let Some(found) = first {
+        return Ok(Some(found));
+    }
+    if ignore_missing {
+        return Ok(None);
+    }
+    if choices.is_empty() {
+        return Ok(None);
+    }
+    Err(Error::new(ErrorKind::TemplateNotFound))
 }
 
 // The first of the choices that stands; none where no choice does.
 //
 // # Errors
 //
-// `InvalidOperation` at a choice that is no text.
+// `InvalidOperation` at a choice that is no text; the fault of a name's join; and `OutOfMemory`.
 fn first_standing<'env, T: Templates>(
-    templates: &'env T,
+    program: Program<'env, '_, T>,
+    here: &str,
     choices: &Items,
 ) -> Result<Option<Compiled<'env>>, Error>
-    ensures found { IfOk result (λ found. first_of (T.standing templates.now) choices.now ≡ Ok (option_map standing_of found)) }
-    ensures refused { IfErr result (λ kinds. first_of (T.standing templates.now) choices.now ≡ Err ErrorKind.InvalidOperation) }
-    ensures kinds { IfErr result (λ kinds. kinds ≡ ErrorKind.InvalidOperation ∷ []) }
+    ensures found { let templates = program.entry.templates.now in let root = option_map standing_of program.entry.root in
+        let s = programs_under (T.standing templates) (T.joins templates) (T.callables templates) root program.entry.rules in
+        IfOk result (λ found. first_standing s.around here.now choices.now ≡ Ok (option_map (λ c. found_of (standing_of c)) found)) }
+    ensures stands { IfOk result (λ found. IfSome found (λ c. T.standing program.entry.templates.now c.name.now ≡ Some (standing_of c))) }
+    ensures refused { let templates = program.entry.templates.now in let root = option_map standing_of program.entry.root in
+        let s = programs_under (T.standing templates) (T.joins templates) (T.callables templates) root program.entry.rules in
+        IfErr result (λ kinds. NoMemory kinds ⊎ (first_standing s.around here.now choices.now ≡ Err kinds)) }
 {
     for place in 0..choices.len() {
         let Some(choice) = choices.get(place) else {
@@ -45,52 +144,11 @@ fn first_standing<'env, T: Templates>(
         let Some(name) = choice.as_str() else {
             return Err(Error::new(ErrorKind::InvalidOperation));
         };
-        if let Some(found) = templates.get(name) {
+        let joined = program.templates.join(name, here)?;
+        let meant = joined.as_str();
+        if let Some(found) = program.templates.get(meant) {
             return Ok(Some(found));
         }
     }
     Ok(None)
-}
-
-// The first of the choices that stands; none where no choice does, and that is ignored.
-//
-// # Errors
-//
-// As `first_standing`; and `TemplateNotFound` where no choice stands, of those that there are.
-fn chosen_among<'env, T: Templates>(
-    templates: &'env T,
-    ignore_missing: bool,
-    choices: &Items,
-) -> Result<Option<Compiled<'env>>, Error>
-    ensures found { let chosen = chosen_by ignore_missing choices.now (first_of (T.standing templates.now) choices.now) in
-        IfOk result (λ found. chosen ≡ Ok (option_map standing_of found)) }
-    ensures refused { let chosen = chosen_by ignore_missing choices.now (first_of (T.standing templates.now) choices.now) in
-        IfErr result (λ kinds. answered chosen ≡ Err kinds) }
-{
-    match first_standing(templates, choices)? {
-        Some(found) => Ok(Some(found)),
-        None if ignore_missing || choices.is_empty() => Ok(None),
-        None => Err(Error::new(ErrorKind::TemplateNotFound)),
-    }
-}
-
-// The first of the templates that a value names that stands; none where none does, and that is ignored.
-//
-// # Errors
-//
-// As `chosen_among`; `InvalidOperation` at a value that names no templates; and `OutOfMemory`.
-pub(crate) fn chosen<'env, T: Templates>(
-    alloc: Global,
-    templates: &'env T,
-    ignore_missing: bool,
-    value: Value,
-    state: &State<'_>,
-) -> Result<Option<Compiled<'env>>, Error>
-    ensures found { let choice = chosen (T.standing templates.now) (known_of state.now) ignore_missing value in
-        IfOk result (λ found. choice ≡ Ok (option_map standing_of found)) }
-    ensures refused { let choice = chosen (T.standing templates.now) (known_of state.now) ignore_missing value in
-        IfErr result (λ kinds. NoMemory kinds ⊎ (answered choice ≡ Err kinds)) }
-{
-    let choices = choices_in(alloc, value, state)?;
-    chosen_among(templates, ignore_missing, &choices)
 }

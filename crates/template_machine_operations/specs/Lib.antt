@@ -1,5 +1,6 @@
 pub mod Answers
 pub mod Called
 pub mod Entries
+pub mod Modules
 pub mod Outcomes
 pub mod Texts

@@ -1,5 +1,5 @@
 //! How the values' events of a running template are answered: operators, parts of values, containers, calls, spreads,
-//! truth, loops' items, printed texts and escapes, under what may be done with undefined values.
+//! truth, loops' items, modules, printed texts and escapes, under what may be done with undefined values.
 #![tactic(auto)]
 
 mod called;
@@ -9,6 +9,7 @@ mod dict;
 mod escapes;
 mod functions;
 mod methods;
+mod modules;
 mod namespaces;
 mod operators;
 mod parts;
@@ -22,8 +23,9 @@ pub use calls::{call_named, call_value};
 pub use containers::{build_kwargs, build_list, build_map, build_tuple};
 pub use escapes::escape_named;
 pub use methods::call_method;
+pub use modules::module_from;
 pub use operators::{compare, invert, negate, operate, truth_of};
 pub use parts::{get_attribute, get_item, get_slice};
-pub use printing::{print, write};
+pub use printing::{make_text, print, write};
 pub use sequence::{choices_in, iterate, unpack};
 pub use spreads::{merge_kwargs, spread};

@@ -151,8 +151,12 @@ fn safe_text(value: &Value) -> Option<&str>
     }
 }
 
-/// Makes the text of a value under an escape in `scratch`.
-fn make_text<R: Records>(
+/// Makes the text of a value under an escape in `scratch`, which loses what it holds and keeps its room.
+///
+/// # Errors
+///
+/// What [`escape_to`] refuses the value with; `scratch` is then empty.
+pub fn make_text<R: Records>(
     value: &Value,
     escape: AutoEscape,
     records: &R,

@@ -21,15 +21,15 @@ pub fn push_with(alloc: Global, limit: usize, state: &mut State<'_>) -> Result<(
     state.open_frame(alloc, limit)
 }
 
-/// Closes the innermost frame.
+/// Closes the innermost frame, where that is none of a caller's.
 ///
 /// # Errors
 ///
-/// [`ErrorKind::BadStream`] where there is none, which no verified code meets.
+/// [`ErrorKind::BadStream`] where there is no such frame, which no verified code meets.
 pub fn pop_frame(state: &mut State<'_>) -> Result<(), Error>
     ensures { (s : Programs) (operands : List Operand) → Performs s pop_frame operands state.old result operands state.new }
 {
-    if !state.has_frame() {
+    if !state.has_own_frame() {
         return Err(Error::new(ErrorKind::BadStream));
     }
     state.close_frame();

@@ -1,4 +1,4 @@
-//! What a machine does at each instruction but an include, a call and a return.
+//! What a machine does at each instruction but a call, a return, and those that run a template or a block or load blocks.
 #![tactic(auto)]
 
 mod asides;
@@ -7,6 +7,7 @@ mod attributes;
 mod bounds;
 mod captures;
 mod escapes;
+mod exports;
 mod frames;
 mod loops;
 mod names;
@@ -21,6 +22,7 @@ pub use attributes::set_attr;
 pub use bounds::Bounds;
 pub use captures::{begin_capture, end_capture};
 pub use escapes::{pop_auto_escape, push_auto_escape};
+pub use exports::export_locals;
 pub use frames::{pop_frame, push_with};
 pub use loops::{iterate, iterate_at_once, pop_loop_frame, push_did_not_iterate, push_loop};
 pub use names::{

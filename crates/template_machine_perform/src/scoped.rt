@@ -9,8 +9,9 @@ ghost use Rattle.template_machine_perform.specs.Performs.{IsQuiet};
 use crate::bounds::Bounds;
 use crate::operands::{perform_on_operands, straight};
 use crate::{
-    begin_capture, end_capture, iterate, lookup, pop_auto_escape, pop_frame, pop_loop_frame,
-    push_auto_escape, push_did_not_iterate, push_loop, push_with, set_attr, store_local,
+    begin_capture, end_capture, export_locals, iterate, lookup, pop_auto_escape, pop_frame,
+    pop_loop_frame, push_auto_escape, push_did_not_iterate, push_loop, push_with, set_attr,
+    store_local,
 };
 use std::alloc::Global;
 use template_code::Instruction;
@@ -50,6 +51,7 @@ pub(crate) fn perform_quietly<'env>(
         Instruction::BeginCapture(mode) => straight(begin_capture(alloc, *mode, state)),
         Instruction::EndCapture => straight(end_capture(state, operands)),
         Instruction::SetAttr(name) => straight(set_attr(alloc, name.as_str(), state, operands)),
+        Instruction::ExportLocals => straight(export_locals(alloc, state, operands)),
         _ => perform_on_operands(alloc, mode, instruction, state, operands),
     }
 }

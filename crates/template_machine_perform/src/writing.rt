@@ -1,5 +1,5 @@
 //! Instructions that write.
-ghost use Rattle.std.specs.Prelude.{◌≡◌, ◌<◌, ◌∷◌, [], ℕ, suc, length, List, Option};
+ghost use Rattle.std.specs.Prelude.{◌≡◌, ◌<◌, ◌∷◌, [], ℕ, suc, length, List, Option, None};
 ghost use Rattle.template_code.specs.Code.{Operand, single, emit_raw, emit};
 ghost use Rattle.template_machine_meaning.specs.Surroundings.{Programs};
 ghost use Rattle.template_machine_operands.specs.Operands.{operands_in};
@@ -45,8 +45,8 @@ fn capture_text(text: &str, state: &mut State<'_>) -> Result<(), Error>
     state.capture(text)
 }
 
-/// Takes a value, and prints it under the escape in force, into the innermost capture or the sink. Its text may be made in
-/// `scratch`, which loses what it holds and keeps its room.
+/// Takes a value, and prints it under the escape in force, into the innermost capture or the sink, for a host that has no
+/// formatter. Its text may be made in `scratch`, which loses what it holds and keeps its room.
 ///
 /// # Errors
 ///
@@ -62,7 +62,7 @@ pub fn emit<S: Sink>(
     scratch: &mut String,
     sink: &mut S,
 ) -> Result<(), Error>
-    ensures steps { (program : Programs) (limit : ℕ) →
+    ensures steps { (program : Programs) (limit : ℕ) → program.around.callables.formats ≡ None →
         StepsWriting (ruled program limit mode) emit (operands_in operands.old) state.old (S.taken sink.old)
         result suc (operands_in operands.new) state.new (S.taken sink.new) }
     ensures failures { TellsFailures result (S.failures sink.old) (S.failures sink.new) }
@@ -85,7 +85,7 @@ fn capture_value(
     scratch: &mut String,
 ) -> Result<(), Error>
     requires { 0 < length state.old.captures }
-    ensures { (program : Programs) (limit : ℕ) (below : List Operand) →
+    ensures { (program : Programs) (limit : ℕ) (below : List Operand) → program.around.callables.formats ≡ None →
         Performs (ruled program limit mode) emit (single value.now ∷ below) state.old result below state.new }
 {
     let escape = state.auto_escape();
@@ -113,7 +113,7 @@ pub fn emit_value<S: Sink>(
     sink: &mut S,
 ) -> Result<(), Error>
     requires { state.now.captures ≡ [] }
-    ensures steps { (program : Programs) (limit : ℕ) (below : List Operand) →
+    ensures steps { (program : Programs) (limit : ℕ) (below : List Operand) → program.around.callables.formats ≡ None →
         StepsWriting (ruled program limit mode) emit (single value.now ∷ below) state.now (S.taken sink.old)
         result suc below state.now (S.taken sink.new) }
     ensures failures { TellsFailures result (S.failures sink.old) (S.failures sink.new) }

@@ -1,15 +1,15 @@
 -- From a run of a template's code to its render, and from one of an expression's code to its value.
-use Rattle.std.proofs.Common.{◌≡◌, ℕ, List, [], ◌∷◌, ◌++◌, Option, None, Some, Ok, Err, inl, inr, append-nil, refl, sym, ap, subst, ◌∙◌}
+use Rattle.std.proofs.Common.{◌≡◌, ℕ, suc, ◌+◌, ◌≤◌, List, [], ◌∷◌, ◌++◌, Option, None, Some, Ok, Err, inl, inr, append-nil, refl, sym, ap, subst, ◌∙◌, arith}
 use Rattle.std.specs.Io.KnownBytes.{Appends}
 use Rattle.template_values_errors.specs.declared.ErrorKind.{ErrorKind}
 use Rattle.template_values_errors.specs.declared.ErrorKind.TheVariants.{OutOfFuel}
 use Rattle.template_values_model.specs.Val.{Val}
 use Rattle.template_tree.specs.Tree.{Expression}
 use Rattle.template_walk.specs.Runnable.{IsRunnable}
-use Rattle.template_walk.specs.Statements.{standalone_walk, template_walk}
+use Rattle.template_walk.specs.Statements.{standalone_walk}
 use Rattle.template_code.specs.Code.{Operand, single, Code}
 use Rattle.template_code.specs.Steps.{values_in}
-use Rattle.template_compiler_codegen.specs.Statements.{standalone_code, template_code}
+use Rattle.template_compiler_codegen.specs.Statements.{standalone_code}
 use Rattle.template_process.specs.Approximants.{IsFinished}
 use Rattle.template_process.specs.Drive.{End, ends, breaks, waits, mistaken, cuts, sticks, IsUncut}
 use Rattle.template_process.specs.Drive as drives
@@ -20,26 +20,26 @@ use Rattle.template_machine_output.specs.Writes.{AppendsBeginning}
 use Rattle.template_machine_output.proofs.Beginnings.{beginning_longer}
 use Rattle.template_machine_meaning.specs.World.{World}
 use Rattle.template_machine_meaning.specs.Surroundings.{answer}
-use Rattle.template_machine_meaning.specs.Meaning.{Standing, Setting, evaluation, meaning, walks_of}
+use Rattle.template_machine_meaning.specs.Meaning.{Setting, evaluation, meaning, walks_of, top}
 use Rattle.template_machine_meaning.specs.Laws.{GivesOne}
 use Rattle.template_machine_meaning.specs.Keeps.{IsFault, IsMeantEnd}
-use Rattle.template_machine_meaning.proofs.RunsKept.{faults_are_meant}
+use Rattle.template_machine_meaning.proofs.RunsKept.{faults_are_meant, key_faults_are_meant}
 use Rattle.template_machine_meaning.proofs.Evaluating.{every_evaluation_gives}
 use Rattle.template_machine_codes.specs.Codes.{codes_of}
 use Rattle.template_machine_codes.proofs.Alike.{code_means_expression, code_means_tree}
 use Rattle.template_machine_going.specs.Spots.{Spot}
 use Rattle.template_machine_going.specs.Paying.{Paid}
-use Rattle.template_machine_going.proofs.Paths.{behind-behind}
 use Rattle.template_machine_going.specs.Outcomes.{Stops, faults, runs_out, wants, strays}
 use Rattle.template_machine_going.specs.Strays.{IsLost}
-use Rattle.template_machine_loop.specs.Runs.{EndsOver}
+use Rattle.template_machine_going.proofs.Paths.{behind-behind}
+use Rattle.template_machine_loop.specs.Runs.{Breaks, faulting, running_out, wanting, straying, EndsOver, EndsSo}
 use Rattle.template_machine_renders.specs.Renders.{at_start, GivesValue, IsOver, IsDone, Renders, whole, broken}
 use Rattle.template_machine_renders.specs.Laws.{EndsRender, ExpressionsEvaluate, StopsRender}
 use Rattle.template_machine_renders.proofs.Fuels.{lasts, rests, ends_spent, begins}
 use Rattle.template_machine_renders.proofs.Meanings.{Means, ended_means, begun_means}
 
 -- nothing comes behind an end
-ended_there : (items : List Item) (end : End) (w : World) → behind items (ended end w) ≡ record { items = items; end = end; after = w }
+pub ended_there : (items : List Item) (end : End) (w : World) → behind items (ended end w) ≡ record { items = items; end = end; after = w }
 ended_there items end w = λ i. record { items = append-nil items i; end = end; after = w }
 
 done : (fuel left : Option ℕ) (r : Run World) (before taken : Option (List ℕ)) → IsOver r.end → Paid (price_of r.items) fuel left
@@ -53,12 +53,57 @@ done fuel left r before taken over pays text =
       left_is = rests fuel left r pays;
     }
 
-pub ends_render : EndsRender
-ends_render setting root w after fuel left before taken e n finished =
+-- runs come to a run, under every bound that is great enough
+abbrev pub ComeTo : (ℕ → Run World) → Run World → Type 0
+ComeTo runs meant = (least : ℕ) × ((m : ℕ) → least ≤ m → runs m ≡ meant)
+
+-- runs that came to their end did so
+pub ends_meant : (runs : ℕ → Run World) (meant : Run World) (after : World) (fuel left : Option ℕ) (before taken : Option (List ℕ)) → ComeTo runs meant
+    → EndsSo runs after fuel left before taken → IsDone fuel meant after left before taken
+ends_meant runs meant after fuel left before taken come e =
     let r : Run World = record { items = e.items; end = ends e.operands; after = after } in
-    let means = ended_means setting (Some root) (template_code root.tree) (meaning setting root n w) (at_start w fuel before) e.least e.bound r refl refl
-    (code_means_tree setting root w n finished) tt (λ m le. e.is m le ∙ ended_there e.items (ends e.operands) after) in
+    let m = come.0 + e.least in
+    let means : meant ≡ r = sym (come.1 m (omega arith)) ∙ e.is m (omega arith) ∙ ended_there e.items (ends e.operands) after in
     subst (λ (q : Run World). IsDone fuel q after left before taken) (sym means) (done fuel left r before taken tt e.pays e.text)
+
+-- and runs that stopped are it up to there
+pub breaks_meant : (runs : ℕ → Run World) (meant : Run World) (kinds : List ErrorKind) (fuel left : Option ℕ) (before taken : Option (List ℕ)) → ComeTo runs meant
+    → Breaks runs kinds fuel left before taken → Breaks (λ n. meant) kinds fuel left before taken
+breaks_meant runs meant kinds fuel left before taken come (faulting f) = faulting (record {
+  items = f.items;
+  least = 0;
+  world = f.world;
+  is = λ n le. sym (come.1 (come.0 + f.least) (omega arith)) ∙ f.is (come.0 + f.least) (omega arith);
+  pays = f.pays;
+  text = f.text;
+})
+breaks_meant runs meant kinds fuel left before taken come (running_out f) = running_out (record {
+  items = f.items;
+  least = 0;
+  wraps = f.wraps;
+  rest = λ n. f.rest (come.0 + f.least);
+  is = λ n le. sym (come.1 (come.0 + f.least) (omega arith)) ∙ f.is (come.0 + f.least) (omega arith);
+  kinds_are = f.kinds_are;
+  pays = f.pays;
+  spent = f.spent;
+  text = f.text;
+})
+breaks_meant runs meant kinds fuel left before taken come (wanting why f) = wanting why (record {
+  items = f.items;
+  least = 0;
+  rest = λ n. f.rest (come.0 + f.least);
+  is = λ n le. sym (come.1 (come.0 + f.least) (omega arith)) ∙ f.is (come.0 + f.least) (omega arith);
+  pays = f.pays;
+  text = f.text;
+})
+breaks_meant runs meant kinds fuel left before taken come (straying bad f) = straying bad (record {
+  items = f.items;
+  least = 0;
+  end = f.end;
+  world = f.world;
+  is = λ n le. sym (come.1 (come.0 + f.least) (omega arith)) ∙ f.is (come.0 + f.least) (omega arith);
+  lost = f.lost;
+})
 
 -- what is lost has no end, though no bound ran out
 lost_uncut : (e : End) → IsLost e → IsUncut e
@@ -84,45 +129,42 @@ text_behind : (items : List Item) (q : Run World) (before taken : Option (List �
 text_behind items q before taken begun =
     subst (AppendsBeginning before taken) (sym (text-append items q.items)) (beginning_longer before taken (text_of items) (text_of q.items) begun)
 
--- a run of code that stopped is what the code means, up to there
-stops_there : (X : Type 0) (setting : Setting) (root : Option Standing) (code : List Code) (meant : Run World) (w : World) (fuel : Option ℕ) (before : Option (List ℕ)) (y : Spot World)
-    (kinds : List ErrorKind) → IsMeantEnd (under fuel meant).end → Means setting root code w meant → IsFinished meant.end → Stops (answer (codes_of setting root)) code (at_start w fuel before) y kinds
-    → Renders {X = X} (Err kinds) before y.taken (under fuel meant)
-stops_there X setting root code meant w fuel before y kinds fault means finished (faults f) =
-    let r : Run World = record { items = f.1.items; end = drives.faults kinds; after = f.1.world } in
-    let is = ended_means setting root code meant (at_start w fuel before) f.1.least f.0 r refl refl means tt
-    (λ m le. f.1.is m le ∙ ended_there f.1.items (drives.faults kinds) f.1.world) in
-    let same = ap (under fuel) is ∙ lasts fuel y.left r f.1.pays in
-    subst (Renders {X = X} (Err kinds) before y.taken) (sym same)
-    (whole (refl, subst (λ (q : Run World). IsMeantEnd q.end) same fault) f.1.text)
-stops_there X setting root code meant w fuel before y kinds fault means finished (runs_out f) =
-    let o = f.1 in
-    let is = begun_means setting root code meant (at_start w fuel before) o.least f.0 (o.items ++ paid o.wraps ∷ []) o.rest refl refl means
-    (λ m le. o.is m le ∙ behind-behind o.items (paid o.wraps ∷ []) (o.rest m)) in
-    let r : Run World = record { items = o.items; end = drives.faults (o.wraps ++ OutOfFuel ∷ []); after = is.0.after } in
-    let same = ap (under fuel) (is.1 ∙ sym (behind-behind o.items (paid o.wraps ∷ []) is.0)) ∙ ends_spent fuel y.left o.items o.wraps is.0 o.pays o.spent
-    ∙ ended_there o.items (drives.faults (o.wraps ++ OutOfFuel ∷ [])) is.0.after in
-    subst (Renders {X = X} (Err kinds) before y.taken) (sym same) (whole (
+-- a run that stopped, under its fuel
+pub stops_there : (X : Type 0) (meant : Run World) (fuel left : Option ℕ) (before taken : Option (List ℕ)) (kinds : List ErrorKind)
+    → IsMeantEnd (under fuel meant).end → IsFinished meant.end → Breaks (λ n. meant) kinds fuel left before taken
+    → Renders {X = X} (Err kinds) before taken (under fuel meant)
+stops_there X meant fuel left before taken kinds fault finished (faulting f) =
+    let r : Run World = record { items = f.items; end = drives.faults kinds; after = f.world } in
+    let is : meant ≡ r = f.is f.least (omega arith) ∙ ended_there f.items (drives.faults kinds) f.world in
+    let same = ap (under fuel) is ∙ lasts fuel left r f.pays in
+    subst (Renders {X = X} (Err kinds) before taken) (sym same)
+    (whole (refl, subst (λ (q : Run World). IsMeantEnd q.end) same fault) f.text)
+stops_there X meant fuel left before taken kinds fault finished (running_out o) =
+    let rest = o.rest o.least in
+    let r : Run World = record { items = o.items; end = drives.faults (o.wraps ++ OutOfFuel ∷ []); after = rest.after } in
+    let same = ap (under fuel) (o.is o.least (omega arith)) ∙ ends_spent fuel left o.items o.wraps rest o.pays o.spent
+    ∙ ended_there o.items (drives.faults (o.wraps ++ OutOfFuel ∷ [])) rest.after in
+    subst (Renders {X = X} (Err kinds) before taken) (sym same) (whole (
       ap (λ ks. drives.faults ks) (sym o.kinds_are),
       subst IsFault (sym o.kinds_are) (subst (λ (q : Run World). IsMeantEnd q.end) same fault),
     ) o.text)
-stops_there X setting root code meant w fuel before y kinds fault means finished (wants why f) =
-    let o = f.1 in
-    let is = begun_means setting root code meant (at_start w fuel before) o.least f.0 o.items o.rest refl refl means o.is in
-    let cut = begins fuel y.left o.items is.0 o.pays in
-    let same = ap (under fuel) is.1 ∙ cut.1 in
-    subst (Renders {X = X} (Err kinds) before y.taken) (sym same) (broken why (text_behind o.items cut.0 before y.taken o.text))
-stops_there X setting root code meant w fuel before y kinds fault means finished (strays is f) =
-    let o = f.1 in
-    let r : Run World = record { items = o.items; end = o.end; after = o.world } in
-    let same = ended_means setting root code meant (at_start w fuel before) o.least f.0 r refl refl means (lost_uncut o.end o.lost)
-    (λ m le. o.is m le ∙ ended_there o.items o.end o.world) in
+stops_there X meant fuel left before taken kinds fault finished (wanting why o) =
+    let cut = begins fuel left o.items (o.rest o.least) o.pays in
+    let same = ap (under fuel) (o.is o.least (omega arith)) ∙ cut.1 in
+    subst (Renders {X = X} (Err kinds) before taken) (sym same) (broken why (text_behind o.items cut.0 before taken o.text))
+stops_there X meant fuel left before taken kinds fault finished (straying is o) =
+    let same : meant ≡ record { items = o.items; end = o.end; after = o.world } = o.is o.least (omega arith) ∙ ended_there o.items o.end o.world in
     absurd (lost_unfinished o.end o.lost (subst (λ (q : Run World). IsFinished q.end) same finished))
 
+pub ends_render : EndsRender
+ends_render setting root w after fuel left before taken e n finished =
+    ends_meant _ (meaning setting root n w) after fuel left before taken (code_means_tree setting root w n finished) e
+
 pub stops_render : (X : Type 0) → StopsRender X
-stops_render X setting root w fuel before y kinds stops n finished =
-    stops_there X setting (Some root) (template_code root.tree) (meaning setting root n w) w fuel before y kinds
-    (faults_are_meant (walks_of setting (Some root)) n (template_walk n root.tree) w fuel) (code_means_tree setting root w n finished) finished stops
+stops_render X setting root w fuel left before taken kinds stops n finished =
+    stops_there X (meaning setting root n w) fuel left before taken kinds
+    (key_faults_are_meant (walks_of setting (Some root)) (suc n) top w fuel) finished
+    (breaks_meant _ (meaning setting root n w) kinds fuel left before taken (code_means_tree setting root w n finished) stops)
 
 -- an expression's run leaves one value, or ends with a fault
 one_finished : (e : End) → GivesOne e → IsFinished e
@@ -134,23 +176,72 @@ only_one : (v : Val) (vs : List Val) → GivesOne (ends (v ∷ vs)) → ends (v 
 only_one v [] gives = refl
 only_one v (w ∷ vs) gives = absurd gives
 
-expression_means : (setting : Setting) (e : Expression) → IsRunnable e → (w : World) → Means setting None (standalone_code e) w (evaluation setting e w)
-expression_means setting e runs w =
-    code_means_expression setting e w (one_finished (evaluation setting e w).end (every_evaluation_gives setting e runs w))
+expression_means : (setting : Setting) (e : Expression) → IsRunnable e → (w : World) → w.blocks ≡ [] → Means setting (standalone_code e) w (evaluation setting e w)
+expression_means setting e runs w none =
+    code_means_expression setting e w (one_finished (evaluation setting e w).end (every_evaluation_gives setting e runs w none))
 
 -- where its code is at its end
-evaluation_over : (setting : Setting) (e : Expression) → IsRunnable e → (w after : World) (fuel left : Option ℕ) (before taken : Option (List ℕ))
+evaluation_over : (setting : Setting) (e : Expression) → IsRunnable e → (w after : World) → w.blocks ≡ [] → (fuel left : Option ℕ) (before taken : Option (List ℕ))
     (operands : List Operand) → EndsOver (answer (codes_of setting None)) (standalone_code e) (at_start w fuel before) operands after left taken
     → ((under fuel (evaluation setting e w)).end ≡ ends (values_in operands)) × ((under fuel (evaluation setting e w)).after ≡ after) × GivesOne (ends (values_in operands))
-evaluation_over setting e runs w after fuel left before taken operands h =
+evaluation_over setting e runs w after none fuel left before taken operands h =
     let r : Run World = record { items = h.items; end = ends (values_in operands); after = after } in
-    let is = ended_means setting None (standalone_code e) (evaluation setting e w) (at_start w fuel before) h.least h.bound r refl refl (expression_means setting e runs w) tt
+    let is = ended_means setting (standalone_code e) (evaluation setting e w) (at_start w fuel before) h.least h.bound r refl refl (expression_means setting e runs w none) tt
     (λ m le. h.is m le ∙ ended_there h.items (ends (values_in operands)) after) in
     let same = ap (under fuel) is ∙ lasts fuel left r h.pays in (
       ap (λ (q : Run World). q.end) same,
       ap (λ (q : Run World). q.after) same,
-      subst (λ (q : Run World). GivesOne q.end) is (every_evaluation_gives setting e runs w),
+      subst (λ (q : Run World). GivesOne q.end) is (every_evaluation_gives setting e runs w none),
     )
+
+-- a run of code that stands alone, which stopped, is what the code means, up to there
+stops_meant : (setting : Setting) (code : List Code) (meant : Run World) (w : World) (fuel : Option ℕ) (before : Option (List ℕ)) (y : Spot World) (kinds : List ErrorKind)
+    → Means setting code w meant → Stops (answer (codes_of setting None)) code (at_start w fuel before) y kinds
+    → Breaks (λ n. meant) kinds fuel y.left before y.taken
+stops_meant setting code meant w fuel before y kinds means (faults f) =
+    let r : Run World = record { items = f.1.items; end = drives.faults kinds; after = f.1.world } in
+    let is = ended_means setting code meant (at_start w fuel before) f.1.least f.0 r refl refl means tt
+    (λ m le. f.1.is m le ∙ ended_there f.1.items (drives.faults kinds) f.1.world) in
+    faulting (record {
+      items = f.1.items;
+      least = 0;
+      world = f.1.world;
+      is = λ n le. is ∙ sym (ended_there f.1.items (drives.faults kinds) f.1.world);
+      pays = f.1.pays;
+      text = f.1.text;
+    })
+stops_meant setting code meant w fuel before y kinds means (runs_out f) =
+    let o = f.1 in
+    let is = begun_means setting code meant (at_start w fuel before) o.least f.0 (o.items ++ paid o.wraps ∷ []) o.rest refl refl means
+    (λ m le. o.is m le ∙ behind-behind o.items (paid o.wraps ∷ []) (o.rest m)) in
+    running_out (record {
+      items = o.items;
+      least = 0;
+      wraps = o.wraps;
+      rest = λ n. is.0;
+      is = λ n le. is.1 ∙ sym (behind-behind o.items (paid o.wraps ∷ []) is.0);
+      kinds_are = o.kinds_are;
+      pays = o.pays;
+      spent = o.spent;
+      text = o.text;
+    })
+stops_meant setting code meant w fuel before y kinds means (wants why f) =
+    let o = f.1 in
+    let is = begun_means setting code meant (at_start w fuel before) o.least f.0 o.items o.rest refl refl means o.is in
+    wanting why (record { items = o.items; least = 0; rest = λ n. is.0; is = λ n le. is.1; pays = o.pays; text = o.text })
+stops_meant setting code meant w fuel before y kinds means (strays bad f) =
+    let o = f.1 in
+    let r : Run World = record { items = o.items; end = o.end; after = o.world } in
+    let is = ended_means setting code meant (at_start w fuel before) o.least f.0 r refl refl means (lost_uncut o.end o.lost)
+    (λ m le. o.is m le ∙ ended_there o.items o.end o.world) in
+    straying bad (record {
+      items = o.items;
+      least = 0;
+      end = o.end;
+      world = o.world;
+      is = λ n le. is ∙ sym (ended_there o.items o.end o.world);
+      lost = o.lost;
+    })
 
 gives_fault : (kinds : List ErrorKind) (before taken : Option (List ℕ)) (after : World) (r : Run World) → Renders {X = Val} (Err kinds) before taken r
     → GivesValue (Err kinds) after r
@@ -158,13 +249,14 @@ gives_fault kinds before taken after r (whole ends_so text) = inl ends_so
 gives_fault kinds before taken after r (broken why text) = inr why
 
 pub expressions_evaluate : ExpressionsEvaluate
-expressions_evaluate setting e runs w after fuel left before taken (Ok v) (below, h) =
-    let over = evaluation_over setting e runs w after fuel left before taken (single v ∷ below) h in
+expressions_evaluate setting e runs w after none fuel left before taken (Ok v) (below, h) =
+    let over = evaluation_over setting e runs w after none fuel left before taken (single v ∷ below) h in
     (over.0 ∙ only_one v (values_in below) over.2, over.1)
-expressions_evaluate setting e runs w after fuel left before taken (Err kinds) (inl stops) =
+expressions_evaluate setting e runs w after none fuel left before taken (Err kinds) (inl stops) =
     gives_fault kinds before taken after (under fuel (evaluation setting e w))
-    (stops_there Val setting None (standalone_code e) (evaluation setting e w) w fuel before (at_start after left taken) kinds
-    (faults_are_meant (walks_of setting None) 0 (standalone_walk e) w fuel) (expression_means setting e runs w)
-    (one_finished (evaluation setting e w).end (every_evaluation_gives setting e runs w)) stops)
-expressions_evaluate setting e runs w after fuel left before taken (Err kinds) (inr (bad, h)) =
-    absurd (evaluation_over setting e runs w after fuel left before taken [] h).2
+    (stops_there Val (evaluation setting e w) fuel left before taken kinds
+    (faults_are_meant (walks_of setting None) 0 (standalone_walk e) w fuel)
+    (one_finished (evaluation setting e w).end (every_evaluation_gives setting e runs w none))
+    (stops_meant setting (standalone_code e) (evaluation setting e w) w fuel before (at_start after left taken) kinds (expression_means setting e runs w none) stops))
+expressions_evaluate setting e runs w after none fuel left before taken (Err kinds) (inr (bad, h)) =
+    absurd (evaluation_over setting e runs w after none fuel left before taken [] h).2

@@ -49,6 +49,11 @@ pub record IsDone (fuel : Option ℕ) (r : Run World) (after : World) (left : Op
   pub world : (under fuel r).after ≡ after
   pub left_is : left ≡ leaves fuel r
 
+-- The call comes to the end of the run, or answers as the run ends up to there.
+abbrev pub RendersTo : {X : Type 0} → Option ℕ → Run World → Result X (List ErrorKind) → World → Option ℕ → Option (List ℕ) → Option (List ℕ) → Type 0
+RendersTo fuel r (Ok _) after left before taken = IsDone fuel r after left before taken
+RendersTo {X = X} fuel r (Err kinds) after left before taken = Renders {X = X} (Err kinds) before taken (under fuel r)
+
 -- The call tells the one value that the run leaves, in the world that it leaves; or it answers with the run's fault. Or a growth
 -- was refused, or the sink failed.
 abbrev pub GivesValue : {S : Type 0} → Result Val (List ErrorKind) → S → Run S → Type 0

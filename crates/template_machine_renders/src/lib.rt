@@ -1,14 +1,15 @@
-//! How renders and expressions come out, and the laws that lead there from a run of their code; and what runs it.
+//! How renders, blocks and expressions come out, and the laws that lead there from a run of their code; and what runs it.
 #![tactic(auto)]
 
-ghost use Rattle.template_machine_renders.specs.Laws.{EndsRender, ExpressionsEvaluate, StopsRender};
+ghost use Rattle.template_machine_renders.specs.Laws.{BlocksRender, EndsRender, ExpressionsEvaluate, StopsRender};
 
 mod running;
 
-pub use running::{run_code, run_expression};
-pub use template_machine_loop::{Compiled, Rules, Templates};
+pub use running::{run_expression, run_template};
+pub use template_machine_loop::{Compiled, Program, Rules, Templates, run_block};
 
-/// A run of a template's code that came to its end is the template's render: its text, its price and its world.
+/// A run of a template's code that came to its end, with the templates that it extends, is the template's render: its text, its
+/// price and its world.
 pub fn ends_render()
     ensures { EndsRender }
 {}
@@ -17,6 +18,12 @@ pub fn ends_render()
 /// fuel ran out where the render's does, or memory or the sink stopped it.
 pub fn stops_render<X>()
     ensures { StopsRender X }
+{}
+
+/// A run of a block's code is what the block means: its text, its price and its world where it came to its end, else what it means
+/// up to there.
+pub fn blocks_render<X>()
+    ensures { BlocksRender X }
 {}
 
 /// What a run of an expression's code tells is the expression's value, or its fault, under the fuel; or memory or the sink

@@ -1,9 +1,9 @@
 -- The last capture of a stack is the innermost one.
-use Rattle.std.proofs.Common.{◌≡◌, ℕ, suc, ◌+◌, List, [], ◌∷◌, ◌++◌, length, get_or, set, take, reverse, Result, Ok, Err, Option, None, Some, OnOk, OnSome, IfOk, IfSome, IfNone, refl, sym, ap, ◌∙◌, subst, arith}
+use Rattle.std.proofs.Common.{◌≡◌, ℕ, suc, ◌+◌, List, [], ◌∷◌, ◌++◌, length, get_or, set, take, reverse, Result, Ok, Err, Option, None, Some, OnOk, OnSome, IfSome, IfNone, sym, ap, ◌∙◌, arith}
 use Rattle.std.proofs.Math.Seq.{take-suc, take-suc-set}
 use Rattle.std.proofs.lemmas.List.{reverse-append, take_all, length-set}
 use Rattle.template_machine_meaning.specs.World.{Capture, World}
-use Rattle.template_machine_state.specs.Changes.{innermost_capture, capture_changed, around_capture}
+use Rattle.template_machine_state.specs.Changes.{innermost_capture, capture_changed}
 
 whole : (cs : List Capture) (place : ℕ) (d : Capture) → place + 1 ≡ length cs → cs ≡ take place cs ++ get_or cs place d ∷ []
 whole cs place d e = sym (take_all (suc place) cs (omega arith)) ∙ take-suc cs place d (omega arith)

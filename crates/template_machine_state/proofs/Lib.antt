@@ -1,3 +1,5 @@
 mod Innermost
 mod Named
 mod Closing
+mod Worlds
+mod Stacks

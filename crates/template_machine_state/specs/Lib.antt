@@ -1,5 +1,7 @@
 pub mod Codes
-pub mod Homes
 pub mod Changes
+pub mod Loaded
 -- what contracts above cite of a crate below
 pub use Rattle.template_machine_frames.specs.Names
+pub use Rattle.template_machine_blocks.specs.Stack
+pub use Rattle.template_machine_blocks.specs.Streams

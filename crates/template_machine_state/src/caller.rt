@@ -1,24 +1,32 @@
-//! What an include puts back.
+//! What is put back behind a run within a run.
 
-use crate::home::Home;
 use std::marker::Model;
+use template_machine_blocks::{BlockStack, Stream};
 use template_values_errors::AutoEscape;
 
-/// What a state had before a template was included, and has again behind it.
+/// What a state had before a run within it began, and has again behind that; and how many frames and captures it had open, and
+/// how many templates it had loaded.
 #[derive(Drop)]
 pub struct Caller<'env> {
-    pub(crate) here: Home<'env>,
+    pub(crate) here: Stream<'env>,
+    pub(crate) block: Option<&'env str>,
+    pub(crate) parent: Option<&'env str>,
+    pub(crate) blocks: BlockStack<'env>,
+    pub(crate) loaded: usize,
+    pub(crate) frames: usize,
+    pub(crate) floor: usize,
     pub(crate) outer: usize,
     pub(crate) escape: AutoEscape,
     pub(crate) saved: Vec<AutoEscape>,
     pub(crate) first: AutoEscape,
+    pub(crate) captures: usize,
 }
 
 impl<'env> Model for Caller<'env> {
-    ghost use Rattle.std.specs.Prelude.{reverse};
+    ghost use Rattle.std.specs.Prelude.{◌+◌, ◌^◌, ◌<◌, option_copied, reverse};
     ghost use Rattle.template_machine_meaning.specs.Plans as plans;
+    ghost use Rattle.template_machine_blocks.specs.Streams.{stream_of};
     ghost use Rattle.template_machine_state.specs.Codes.{caller_code};
-    ghost use Rattle.template_machine_state.specs.Homes.{stream_of};
 
     ghost Value = { plans.Caller };
 
@@ -26,9 +34,18 @@ impl<'env> Model for Caller<'env> {
 
     ghost view = { λ c. record {
       here = stream_of c.here;
+      block = option_copied c.block;
+      parent = option_copied c.parent;
+      blocks = c.blocks;
+      loaded = c.loaded;
+      frames = c.frames;
+      floor = c.floor;
       outer = c.outer;
       escape = c.escape;
       saved = reverse c.saved.items;
       first = c.first;
+      captures = c.captures;
     } };
+
+    ghost invariant = { λ c. c.frames + c.outer < 2 ^ 64 };
 }

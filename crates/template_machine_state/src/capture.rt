@@ -1,8 +1,8 @@
 //! What is captured of a run's text.
-ghost use Rattle.std.specs.Prelude.{◌≡◌, [], IfSome, IfNone, IfOk, IfErr, OnOk, OnErr, OnSome, string_bytes};
+ghost use Rattle.std.specs.Prelude.{◌≡◌, ◌∷◌, [], IfSome, IfNone, IfOk, IfErr, OnOk, OnErr, OnSome, string_bytes};
 ghost use Rattle.template_values_errors.specs.Memory.{NoMemory};
 ghost use Rattle.template_machine_meaning.specs.World.{keeps, drops};
-ghost use Rattle.template_machine_meaning.specs.Surroundings.{with_text, capture_begun, captured};
+ghost use Rattle.template_machine_meaning.specs.Captures.{with_text, capture_begun, captured, is_dropping};
 
 use std::alloc::Global;
 use std::marker::Model;
@@ -78,6 +78,30 @@ impl Capture {
         match &mut self.text {
             Some(kept) => Some(mem::replace(kept, String::new(alloc))),
             None => None,
+        }
+    }
+
+    /// Whether what is written is dropped.
+    pub(crate) fn is_dropping(&self) -> bool
+        ensures { result ≡ is_dropping (self.now ∷ []) }
+    {
+        self.text.is_none()
+    }
+
+    /// What a capture would end with, of a text that is copied.
+    ///
+    /// # Errors
+    ///
+    /// [`ErrorKind::OutOfMemory`]
+    ///
+    /// [`ErrorKind::OutOfMemory`]: template_values_errors::ErrorKind::OutOfMemory
+    pub(crate) fn value(&self, alloc: Global, rule: AutoEscape) -> Result<Value, Error>
+        ensures told { IfOk result (λ v. v ≡ captured rule self.now) }
+        ensures refused { IfErr result NoMemory }
+    {
+        match &self.text {
+            Some(text) => Capture::of(String::from_str(alloc, text.as_str())?).end(rule),
+            None => Ok(Value::undefined()),
         }
     }
 

@@ -4,9 +4,11 @@
 
 mod caller;
 mod capture;
-mod home;
+mod names;
 mod records;
 mod state;
+mod written;
 
 pub use caller::Caller;
 pub use state::State;
+pub use template_machine_blocks::{Behind, Body, Home};

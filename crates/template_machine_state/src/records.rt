@@ -7,7 +7,8 @@ ghost use Rattle.template_values_core.specs.Shape.{pairs_in};
 ghost use Rattle.template_process.specs.Process as process;
 ghost use Rattle.template_callables.specs.Callables.{Asked};
 ghost use Rattle.template_process.specs.Trace.{Reply};
-ghost use Rattle.template_machine_meaning.specs.Calls.{called_reply};
+ghost use Rattle.template_values_named.specs.Named.{pairs_named};
+ghost use Rattle.template_machine_meaning.specs.Calls.{called_reply, may_hold_any};
 ghost use Rattle.template_machine_meaning.specs.Functions.{compares};
 ghost use Rattle.template_machine_meaning.specs.Keys.{Around};
 ghost use Rattle.template_machine_meaning.specs.World.{World};
@@ -41,8 +42,8 @@ impl<'env> State<'env> {
         Ok(Value::namespace(self.id, number))
     }
 
-    // From now on a namespace may hold the value of a loop that was opened so far, if it may.
-    fn hold_loops_if(&mut self, holds: bool)
+    // From now on a value that lasts may hold that of a loop that was opened so far, if it may.
+    pub(crate) fn hold_loops_if(&mut self, holds: bool)
         ensures { self.new ≡ record self.old { held = if holds then self.old.opened else self.old.held } }
     {
         if holds {
@@ -126,7 +127,7 @@ impl<'env> State<'env> {
 }
 
 // Whether a value is a loop's, or may hold one.
-fn may_hold_loop(value: &Value) -> bool
+pub(crate) fn may_hold_loop(value: &Value) -> bool
     ensures { result ≡ may_hold_loop value.now }
 {
     matches!(
@@ -146,6 +147,18 @@ fn may_hold_loops(entries: &[Entry]) -> bool
 {
     for entry in entries {
         if may_hold_loop(&entry.value) {
+            return true;
+        }
+    }
+    false
+}
+
+// Whether one of the values under names is such.
+pub(crate) fn may_hold_any(temps: &[(String, Value)]) -> bool
+    ensures { result ≡ may_hold_any (pairs_named temps.now) }
+{
+    for temp in temps {
+        if may_hold_loop(&temp.1) {
             return true;
         }
     }

@@ -1,4 +1,4 @@
-use Rattle.std.proofs.Common.{refl, ap}
+use Rattle.std.proofs.Common.{ap}
 use Rattle.template_process.specs.Process as events
 use Rattle.template_code.specs.Code as codes
 use Rattle.template_code.specs.Steps.{on_taken, giving}
@@ -9,7 +9,7 @@ use Rattle.template_machine_meaning.specs.Surroundings.{Programs}
 use Rattle.template_machine_operands.specs.Operands.{operands_in}
 use Rattle.template_machine_steps.proofs.Gathering.{handed_refused}
 use Rattle.template_machine_calls.specs.Hosted.{hosted}
-use Rattle.template_machine_calls.proofs.Giving.{failed, given, handed_as, refused_as}
+use Rattle.template_machine_calls.proofs.Giving.{called, failed, given, handed_as, refused_as}
 use Rattle.template_machine_calls.proofs.instructions.call_function.Goals as goal
 
 pub returns-in_err-args : goal.returns-in_err-args
@@ -24,7 +24,7 @@ returns-in_err-value g c program =
     failed s (codes.call_function c.args.name.now c.args.count) (events.call_function c.args.name.now c.in_ok-args.args.items) (operands_in c.args.operands.now) c.args.state.now (operands_in c.take_handed.new.self)
     (λ next before place. ap (λ t. on_taken t (λ vs rest. giving next place rest (events.call_function c.args.name.now vs)))
     (handed_as _ _ _ _ c.widened.ensures c.in_ok-args.ensures.taken))
-    (call_reply s.around c.args.state.now (name_called c.args.state.now.globals (looked_up c.args.name.now c.args.state.now) c.in_ok-args.args.items)) (λ n. refl) _ _ _ _
+    (call_reply s.around c.args.state.now (name_called c.args.state.now.globals (looked_up c.args.name.now c.args.state.now) c.in_ok-args.args.items)) (λ n. called s _ c.args.state.now _ c.requires n) _ _ _ _
     (c.in_err-value.ensures program.around) c.from_residual-in_err-value.ensures.1
 
 pub returns : goal.returns
@@ -33,5 +33,5 @@ returns g c program =
     given s (codes.call_function c.args.name.now c.args.count) (events.call_function c.args.name.now c.in_ok-args.args.items) (operands_in c.args.operands.now) c.args.state.now (operands_in c.take_handed.new.self)
     (λ next before place. ap (λ t. on_taken t (λ vs rest. giving next place rest (events.call_function c.args.name.now vs)))
     (handed_as _ _ _ _ c.widened.ensures c.in_ok-args.ensures.taken))
-    (call_reply s.around c.args.state.now (name_called c.args.state.now.globals (looked_up c.args.name.now c.args.state.now) c.in_ok-args.args.items)) (λ n. refl) _ _ _ _
+    (call_reply s.around c.args.state.now (name_called c.args.state.now.globals (looked_up c.args.name.now c.args.state.now) c.in_ok-args.args.items)) (λ n. called s _ c.args.state.now _ c.requires n) _ _ _ _
     (c.in_ok-value.ensures program.around) c.push.ensures.pushed c.push.ensures.refused

@@ -2,7 +2,9 @@ use Rattle.std.proofs.Common.{ap, sym, ◌∙◌}
 use Rattle.template_code.specs.Code as codes
 use Rattle.template_code.specs.View.{code_of}
 use Rattle.template_machine_calls.specs.Hosted.{hosted}
-use Rattle.template_machine_loop.proofs.Calling.{none_calls, performs_at}
+use Rattle.template_walk.specs.Statements.{is_super_name}
+use Rattle.template_machine_loop.specs.Programs.{task_of}
+use Rattle.template_machine_loop.proofs.Calling.{none_calls, performs_at, called_name}
 use Rattle.template_machine_loop.proofs.calls.call.Goals as goal
 
 pub returns-in-ApplyFilter : goal.returns-in-ApplyFilter
@@ -16,6 +18,11 @@ returns-in-PerformTest g c program =
     performs_at (hosted c.args.rules (g.H.Callbacks.callables c.args.host.now) program) (codes.perform_test _ _ _) _ _ _ _ _ _
     (ap code_of c.in-PerformTest.is ∙ ap (λ t. codes.perform_test t c.in-PerformTest.count c.in-PerformTest.field-2) (sym c.as_str-in-PerformTest.ensures.value))
     (c.perform_test.ensures program _)
+
+pub call_function-requires : goal.call_function-requires
+call_function-requires g c =
+    called_name (is_super_name c.as_str-in-CallFunction.result.now)
+    (sym (ap task_of (ap code_of c.in-CallFunction.is ∙ ap (λ t. codes.call_function t c.in-CallFunction.count) (sym c.as_str-in-CallFunction.ensures.value))) ∙ c.requires)
 
 pub returns-in-CallFunction : goal.returns-in-CallFunction
 returns-in-CallFunction g c program =

@@ -1,5 +1,6 @@
 use Rattle.template_code.specs.Code as codes
-use Rattle.template_machine_meaning.specs.Surroundings.{pushed, empty_frame}
+use Rattle.template_machine_meaning.specs.World.{empty_frame}
+use Rattle.template_machine_meaning.specs.Surroundings.{pushed}
 use Rattle.template_machine_acts.proofs.Framing.{open_frame_acts}
 use Rattle.template_machine_steps.specs.Performs.{spot, ruled}
 use Rattle.template_machine_perform.proofs.Scoping.{pushed_spares, became_out}

@@ -58,10 +58,14 @@ pub returns-in-SetAttr : goal.returns-in-SetAttr
 returns-in-SetAttr c program =
     straight_leads _ (codes.set_attr _) _ _ _ _ _ _ _ (ap code_of c.in-SetAttr.is ∙ ap (λ t. codes.set_attr t) (sym c.as_str-in-SetAttr.ensures.value)) c.straight-in-SetAttr.ensures (c.set_attr.ensures (ruled program c.args.bounds.limit c.args.bounds.undefined))
 
+pub returns-in-ExportLocals : goal.returns-in-ExportLocals
+returns-in-ExportLocals c program =
+    straight_leads _ codes.export_locals _ _ _ _ _ _ _ (ap code_of c.in-ExportLocals.is) c.straight-in-ExportLocals.ensures (c.export_locals.ensures (ruled program c.args.bounds.limit c.args.bounds.undefined))
+
 pub perform_on_operands-requires : goal.perform_on_operands-requires
 perform_on_operands-requires c =
     let h = c.in_default in
-    operands_left c.args.instruction.now c.requires h.not-Lookup h.not-StoreLocal h.not-PushWith h.not-PopFrame h.not-PushLoop h.not-Iterate h.not-PushDidNotIterate h.not-PopLoopFrame h.not-PushAutoEscape h.not-PopAutoEscape h.not-BeginCapture h.not-EndCapture h.not-SetAttr
+    operands_left c.args.instruction.now c.requires h.not-Lookup h.not-StoreLocal h.not-PushWith h.not-PopFrame h.not-PushLoop h.not-Iterate h.not-PushDidNotIterate h.not-PopLoopFrame h.not-PushAutoEscape h.not-PopAutoEscape h.not-BeginCapture h.not-EndCapture h.not-SetAttr h.not-ExportLocals
 
 pub returns-in_default : goal.returns-in_default
 returns-in_default c program = c.perform_on_operands.ensures program c.args.bounds.limit

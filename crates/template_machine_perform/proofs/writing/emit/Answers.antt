@@ -1,4 +1,4 @@
-use Rattle.std.proofs.Common.{◌∷◌, suc, sym, subst}
+use Rattle.std.proofs.Common.{◌∷◌, suc, refl, sym, subst}
 use Rattle.template_code.specs.Code as codes
 use Rattle.template_code.specs.Code.{single}
 use Rattle.template_machine_operands.specs.Operands.{operands_in}
@@ -16,23 +16,23 @@ pub returns-in_err-value-clause-failures : goal.returns-in_err-value-clause-fail
 returns-in_err-value-clause-failures g c = stray_tells c.from_residual.result _ _ c.in_err-value.ensures.kind c.from_residual.ensures.1
 
 pub returns-in_err-value-clause-steps : goal.returns-in_err-value-clause-steps
-returns-in_err-value-clause-steps g c program limit =
+returns-in_err-value-clause-steps g c program limit plain =
     steps_write _ codes.emit _ c.args.state.now _ _ _ _ _
     (lost_one (ruled program limit c.args.mode) codes.emit _ c.args.state.now _ _ _ _ _ tt c.in_err-value.ensures.none c.in_err-value.ensures.kind c.from_residual.ensures.1)
 
 pub returns-then-has_capture-clause-failures : goal.returns-then-has_capture-clause-failures
 returns-then-has_capture-clause-failures g c =
-    spared_tells c.capture_value.result _ (c.capture_value.ensures no_programs 0 (operands_in c.take.new.self)).spares
+    spared_tells c.capture_value.result _ (c.capture_value.ensures no_programs 0 (operands_in c.take.new.self) refl).spares
 
 pub returns-then-has_capture-clause-steps : goal.returns-then-has_capture-clause-steps
-returns-then-has_capture-clause-steps g c program limit =
+returns-then-has_capture-clause-steps g c program limit plain =
     subst (λ o. StepsWriting (ruled program limit c.args.mode) codes.emit o c.args.state.now (g.S.Sink.taken c.args.sink.now) c.capture_value.result suc
     (operands_in c.take.new.self) c.capture_value.new.state (g.S.Sink.taken c.args.sink.now)) (sym c.in_ok-value.ensures.taken)
     (steps_write (ruled program limit c.args.mode) codes.emit (single c.in_ok-value.value ∷ operands_in c.take.new.self) c.args.state.now _ _ _ _ _
-    (c.capture_value.ensures program limit (operands_in c.take.new.self)))
+    (c.capture_value.ensures program limit (operands_in c.take.new.self) plain))
 
 pub returns-clause-steps : goal.returns-clause-steps
-returns-clause-steps g c program limit =
+returns-clause-steps g c program limit plain =
     subst (λ o. StepsWriting (ruled program limit c.args.mode) codes.emit o c.args.state.now (g.S.Sink.taken c.args.sink.now) c.emit_value.result suc
     (operands_in c.take.new.self) c.args.state.now (g.S.Sink.taken c.emit_value.new.sink)) (sym c.in_ok-value.ensures.taken)
-    (c.emit_value.ensures.steps program limit (operands_in c.take.new.self))
+    (c.emit_value.ensures.steps program limit (operands_in c.take.new.self) plain)

@@ -1,8 +1,8 @@
 -- The text of the last capture is taken.
-use Rattle.std.proofs.Common.{List, [], length, reverse, ap, ◌∙◌}
+use Rattle.std.proofs.Common.{[], length, ap, ◌∙◌}
 use Rattle.std.specs.Prelude.{string_bytes}
-use Rattle.template_machine_meaning.specs.World.{Capture, keeps, drops, World}
-use Rattle.template_machine_state.specs.Homes.{stream_of}
+use Rattle.template_machine_meaning.specs.World.{keeps, drops}
+use Rattle.template_machine_state.proofs.Worlds.{capturing}
 use Rattle.template_machine_state.proofs.Innermost.{last_changed_some, last_none, last_some, world_some}
 use Rattle.template_machine_state.proofs.state.State.take_captured.Goals as goal
 
@@ -15,9 +15,8 @@ returns-clause-taken c =
 pub returns-clause-emptied : goal.returns-clause-emptied
 returns-clause-emptied c =
     let i = c.self.inside in
-    let world : List Capture → World = λ cs. record { here = stream_of i.here; frames = i.ctx.frames; outer = i.ctx.outer; escape = i.escape; saved = reverse i.saved.items; first = i.first; captures = cs; id = i.id; opened = i.opened; globals = i.globals.now; namespaces = i.namespaces; given = i.given; held = i.held; closed = i.closed.items; temps = i.temps } in
     rw (← c.self.view_is)
-    (world_some c.take.result world _ _
+    (world_some c.take.result (capturing i) _ _
     (last_changed_some c.take.result (λ d. keeps []) i.captures.items c.last_place-last.result c.index_mut.result.now c.take.new.self
     (c.last_place-last.ensures ∙ ap length c.as_slice.ensures.value) c.index_mut.ensures.value c.take.ensures.emptied))
 

@@ -1,0 +1,123 @@
+//! Which body of a block runs.
+ghost use Rattle.std.specs.Prelude.{◌≡◌, ◌==◌, ◌&&◌, ◌∷◌, [], Bool, IfErr, IfNone, IfOk, IfSome, option_map};
+ghost use Rattle.template_code_blocks.specs.Streams.{stream_in};
+ghost use Rattle.template_values_errors.specs.declared.ErrorKind.TheVariants.{InvalidOperation};
+ghost use Rattle.template_machine_blocks.specs.Streams.{home_of};
+ghost use Rattle.template_machine_meaning.specs.Blocks.{block_plan, super_plan};
+ghost use Rattle.template_machine_steps.specs.Performs.{SparesSink};
+ghost use Rattle.template_machine_loop.specs.Found.{FindsBehind, FindsBody, IsRefused};
+ghost use Rattle.template_machine_loop.specs.Programs.{block_at, programs_under, standing_of, template_at};
+
+use crate::templates::{Compiled, Program, Templates};
+use template_code_blocks::{CompiledBlock, block_among};
+use template_machine_state::{Body, Home, State};
+use template_values_errors::{Error, ErrorKind};
+
+/// A body of a block.
+#[derive(Clone, Copy)]
+pub(crate) struct Found<'env> {
+    /// The block, of the template that has the body.
+    pub(crate) block: &'env CompiledBlock<'env>,
+    /// That template.
+    pub(crate) home: Home<'env>,
+    /// The place, among the bodies of this name, of the one that a call runs.
+    pub(crate) place: usize,
+}
+
+/// The body that a call of a block runs.
+///
+/// # Errors
+///
+/// `UnknownBlock`; and `InvalidOperation` where the only body says that another has to be given.
+pub(crate) fn body_to_run<'env, T: Templates>(
+    program: Program<'env, '_, T>,
+    name: &str,
+    state: &State<'env>,
+) -> Result<Found<'env>, Error>
+    ensures found { let templates = program.entry.templates.now in let root = option_map standing_of program.entry.root in
+        let s = programs_under (T.standing templates) (T.joins templates) (T.callables templates) root program.entry.rules in
+        IfOk result (FindsBody s (T.standing templates) root state.now (block_plan s.around state.now name.now)) }
+    ensures refused { let templates = program.entry.templates.now in let root = option_map standing_of program.entry.root in
+        let s = programs_under (T.standing templates) (T.joins templates) (T.callables templates) root program.entry.rules in
+        IfErr result (IsRefused s (block_plan s.around state.now name.now) state.now) }
+    ensures spares { IfErr result SparesSink }
+{
+    let Some(body) = state.body(name) else {
+        return Err(Error::new(ErrorKind::UnknownBlock));
+    };
+    let Some(block) = block_at(program, body.home, name) else {
+        return Err(Error::new(ErrorKind::InvalidOperation));
+    };
+    if lacks_body(body, block) {
+        return Err(Error::new(ErrorKind::InvalidOperation));
+    }
+    Ok(Found {
+        block,
+        home: body.home,
+        place: body.place,
+    })
+}
+
+/// The body behind the one of the block that runs; none where no block runs, or there is none.
+pub(crate) fn body_behind<'env, T: Templates>(
+    program: Program<'env, '_, T>,
+    state: &State<'env>,
+) -> Option<Found<'env>>
+    ensures found { let templates = program.entry.templates.now in let root = option_map standing_of program.entry.root in
+        let s = programs_under (T.standing templates) (T.joins templates) (T.callables templates) root program.entry.rules in
+        IfSome result (FindsBehind s (T.standing templates) root state.now) }
+    ensures none { let templates = program.entry.templates.now in let root = option_map standing_of program.entry.root in
+        let s = programs_under (T.standing templates) (T.joins templates) (T.callables templates) root program.entry.rules in
+        IfNone result ((named : Bool) → IsRefused s (super_plan s.around state.now named) state.now (InvalidOperation ∷ [])) }
+{
+    let Some(name) = state.block() else {
+        return None;
+    };
+    let Some(behind) = state.home_behind(name) else {
+        return None;
+    };
+    let Some(block) = block_at(program, behind.home, name) else {
+        return None;
+    };
+    Some(Found {
+        block,
+        home: behind.home,
+        place: behind.place,
+    })
+}
+
+// Whether the only body says that another has to be given.
+fn lacks_body(body: Body<'_>, block: &CompiledBlock<'_>) -> bool
+    ensures { result ≡ (body.entry.count == 1 && block.now.required) }
+{
+    body.count == 1 && block.required
+}
+
+// The block of a name that a home's template has.
+fn block_at<'env, T: Templates>(
+    program: Program<'env, '_, T>,
+    home: Home<'env>,
+    name: &str,
+) -> Option<&'env CompiledBlock<'env>>
+    ensures { option_map (λ b. stream_in b.now) result ≡
+        block_at (T.standing program.entry.templates.now) (option_map standing_of program.entry.root) (home_of home.entry) name.now }
+{
+    match template_at(program, home) {
+        Some(template) => block_among(template.blocks, name),
+        None => None,
+    }
+}
+
+// The template at a home.
+fn template_at<'env, T: Templates>(
+    program: Program<'env, '_, T>,
+    home: Home<'env>,
+) -> Option<Compiled<'env>>
+    ensures { option_map standing_of result ≡
+        template_at (T.standing program.entry.templates.now) (option_map standing_of program.entry.root) (home_of home.entry) }
+{
+    match home {
+        Home::Rendered => program.root,
+        Home::Standing(name) => program.templates.get(name),
+    }
+}

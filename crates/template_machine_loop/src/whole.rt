@@ -1,0 +1,52 @@
+//! The run of code with the templates that are extended.
+ghost use Rattle.std.specs.Prelude.{◌≡◌, ◌≤◌, length, Some, option_map};
+ghost use Rattle.template_code.specs.Listing.{code_in};
+ghost use Rattle.template_machine_meaning.specs.Keys.{Key};
+ghost use Rattle.template_machine_operations.specs.Outcomes.{TellsFailures};
+ghost use Rattle.template_machine_loop.specs.Programs.{code_at, programs_under, standing_of};
+ghost use Rattle.template_machine_loop.specs.Runs.{KeyRuns};
+
+use crate::running::run_to_end;
+use crate::templates::{Program, Templates};
+use std::alloc::Global;
+use template_code::Instructions;
+use template_machine_output::Sink;
+use template_machine_state::State;
+use template_values_errors::{Error, ErrorKind};
+
+/// Runs code in a state as [`run_to_end`] does, and then, where it extends a template, that one's code in its place, in the same
+/// frames; and so on.
+///
+/// # Errors
+///
+/// Those of [`run_to_end`], of any of these; and `TemplateNotFound` where an extended template doesn't stand.
+#[cycle(running)]
+pub fn run_whole<'env, T: Templates, S: Sink>(
+    alloc: Global,
+    program: Program<'env, '_, T>,
+    code: &'env Instructions<'env>,
+    state: &mut State<'env>,
+    left: &mut Option<u64>,
+    scratch: &mut String,
+    sink: &mut S,
+) -> Result<(), Error>
+    requires { state.old.floor ≤ length state.old.frames }
+    ensures runs { let templates = program.entry.templates.now in let root = option_map standing_of program.entry.root in
+        (key : Key) → code_at (T.standing templates) root key ≡ Some (code_in code.now) →
+        KeyRuns (programs_under (T.standing templates) (T.joins templates) (T.callables templates) root program.entry.rules)
+        key state.old left.old (S.taken sink.old) result state.new left.new (S.taken sink.new) }
+    ensures failures { TellsFailures result (S.failures sink.old) (S.failures sink.new) }
+{
+    let _first = run_to_end(alloc, program, code, state, left, scratch, sink)?;
+    for _ in 0..u64::MAX {
+        let Some(name) = state.parent() else {
+            return Ok(());
+        };
+        let Some(parent) = program.templates.get(name) else {
+            return Err(Error::new(ErrorKind::TemplateNotFound));
+        };
+        state.restart(name);
+        let _next = run_to_end(alloc, program, parent.code, state, left, scratch, sink)?;
+    }
+    Err(Error::new(ErrorKind::OutOfMemory))
+}

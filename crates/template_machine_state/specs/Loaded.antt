@@ -1,0 +1,6 @@
+-- The names of templates that were loaded, as contracts see them.
+use Rattle.std.specs.Prelude.{ℕ, List, map}
+use Rattle.std.specs.Borrow.{Bor}
+
+abbrev pub names_in : List (Bor (List ℕ)) → List (List ℕ)
+names_in names = map (λ n. n.now) names
