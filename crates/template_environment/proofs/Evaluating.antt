@@ -1,12 +1,10 @@
 -- From the run of an expression's code to its value, and to what is handed out.
-use Rattle.std.proofs.Common.{◌≡◌, ◌≢◌, ◌∙◌, ℕ, List, [], ◌∷◌, Option, None, Result, Ok, Err, IfErr, inl, inr, sym, ap, subst, arith}
+use Rattle.std.proofs.Common.{◌≡◌, ◌≢◌, ◌∙◌, ℕ, List, [], ◌∷◌, Option, None, Result, Ok, Err, IfErr, inl, inr, refl, sym, ap, subst, arith}
 use Rattle.template_values_errors.specs.declared.ErrorKind.{ErrorKind}
 use Rattle.template_values_errors.specs.declared.ErrorKind.TheVariants.{OutOfMemory, WriteFailure}
-use Rattle.template_values_errors.specs.declared.modes.AutoEscape.TheVariants as escapes
 use Rattle.template_values_model.specs.Fault.{Fault, kind_of, invalid_operation, bad_serialization, missing_argument}
 use Rattle.template_values_model.specs.Gives as values
 use Rattle.template_values_model.specs.Val.{Val}
-use Rattle.template_callables.specs.Callables.{Callables}
 use Rattle.template_values_frozen.specs.Frozen.{frozen}
 use Rattle.template_process.specs.Drive.{ends, faults}
 use Rattle.template_process.specs.Fuel.{under}
@@ -18,17 +16,19 @@ use Rattle.template_machine_meaning.specs.Records.{known_of}
 use Rattle.template_machine_meaning.specs.Replies.{kinded}
 use Rattle.template_machine_meaning.specs.Surroundings.{Programs}
 use Rattle.template_machine_meaning.specs.World.{World, first_world}
-use Rattle.template_machine_meaning.specs.Meaning.{alone, evaluated, evaluation, handed, handed_out}
+use Rattle.template_machine_meaning.specs.Meaning.{alone, evaluated, evaluation, handed, handed_out, no_head}
 use Rattle.template_machine_meaning.proofs.Handed.{under_handed}
 use Rattle.template_machine_codes.specs.Codes.{codes_of}
 use Rattle.template_machine_renders.specs.Outcomes.{TellsFailures}
 use Rattle.template_machine_renders.specs.Renders.{GivesValue}
 use Rattle.template_machine_renders.specs.Runs.{Evaluates}
 use Rattle.template_machine_renders.proofs.Coming.{expressions_evaluate}
-use Rattle.template_compiled.specs.Expressions.{IsFaithfulExpression, expression_in}
+use Rattle.template_compiled.specs.Expressions.{IsFaithfulExpression, code_alone, expression_in}
 use Rattle.template_environment.specs.Evaluations.{Gives}
+use Rattle.template_environment.specs.Extras.{Brought}
 use Rattle.template_environment.specs.Standing.{setting_of}
 use Rattle.template_environment.specs.declared.registry.Registry.{Registry}
+use Rattle.template_environment.proofs.Numbered.{evaluates_alike}
 
 -- a fault of values is one that a template means
 meant_fault : (fault : Fault) → IsFault (kind_of fault ∷ [])
@@ -53,24 +53,25 @@ answer_gives (Err fault) (Err kinds) r (inr told) end =
     inl (end ∙ ap (λ (ks : List ErrorKind). faults ks) same, subst IsFault same (meant_fault fault))
 
 -- what a machine runs: the programs, the code of the expression, and the world at its start, in the state of a number
-pub record IsRunOfExpression (k : Callables) (e : Registry) (id : ℕ) (source : List ℕ) (context : Val) (s : Programs) (code : List Code) (w : World) : Type 0 where
+pub record IsRunOfExpression (k : Brought) (e : Registry) (id : ℕ) (source : List ℕ) (context : Val) (s : Programs) (code : List Code) (w : World) : Type 0 where
   pub faithful : IsFaithfulExpression source
   pub programs : s ≡ codes_of (setting_of k e) None
-  pub is_code : code ≡ standalone_code (expression_in source)
-  pub start : w ≡ first_world id e.globals escapes.None context
+  pub is_code : code ≡ code_alone source
+  pub start : w ≡ first_world id e.globals no_head context
 
 -- its evaluation, before its value is handed out
-abbrev evaluation_in : Callables → Registry → ℕ → List ℕ → Val → Run World
-evaluation_in k e id source context = evaluation (setting_of k e) (expression_in source) (first_world id e.globals escapes.None context)
+abbrev evaluation_in : Brought → Registry → ℕ → List ℕ → Val → Run World
+evaluation_in k e id source context = evaluation (setting_of k e) (expression_in source) (first_world id e.globals no_head context)
 
-comes : (k : Callables) (e : Registry) (id : ℕ) (source : List ℕ) (context : Val) (s : Programs) (code : List Code) (w after : World) (left : Option ℕ)
+comes : (k : Brought) (e : Registry) (id : ℕ) (source : List ℕ) (context : Val) (s : Programs) (code : List Code) (w after : World) (left : Option ℕ)
     (before taken : Option (List ℕ)) (result : Result Val (List ErrorKind)) → IsRunOfExpression k e id source context s code w
     → Evaluates s code w e.fuel before result after left taken → GivesValue result after (under e.fuel (evaluation_in k e id source context))
 comes k e id source context s code w after left before taken result of runs =
-    expressions_evaluate (setting_of k e) (expression_in source) of.faithful.has_expression.1 (first_world id e.globals escapes.None context) after e.fuel left before taken result
-    (subst (λ (x : World). Evaluates (codes_of (setting_of k e) None) (standalone_code (expression_in source)) x e.fuel before result after left taken) of.start
+    expressions_evaluate (setting_of k e) (expression_in source) of.faithful.has_expression.1 (first_world id e.globals no_head context) after refl e.fuel left before taken result
+    (evaluates_alike (codes_of (setting_of k e) None) (standalone_code (expression_in source)) _ e.fuel before result after left taken
+    (subst (λ (x : World). Evaluates (codes_of (setting_of k e) None) (code_alone source) x e.fuel before result after left taken) of.start
     (subst (λ (cs : List Code). Evaluates (codes_of (setting_of k e) None) cs w e.fuel before result after left taken) of.is_code
-    (subst (λ (p : Programs). Evaluates p code w e.fuel before result after left taken) of.programs runs)))
+    (subst (λ (p : Programs). Evaluates p code w e.fuel before result after left taken) of.programs runs))))
 
 -- a fault is handed out as it is, and a sink that cannot fail is no cause
 stops : (kinds : List ErrorKind) (after : World) (r : Run World) (failures : ℕ) → TellsFailures {X = Val} (Err kinds) failures failures
@@ -87,7 +88,7 @@ gives v after r result came is =
     answer_gives (frozen (known_of after) v) result (handed_out r) is
     (ap (handed r.after) came.0 ∙ ap (λ (w : World). handed w (ends (v ∷ []))) came.1)
 
-pub evaluation_stops : (k : Callables) (e : Registry) (id : ℕ) (source : List ℕ) (context : Val) (s : Programs) (code : List Code) (w after : World) (left : Option ℕ)
+pub evaluation_stops : (k : Brought) (e : Registry) (id : ℕ) (source : List ℕ) (context : Val) (s : Programs) (code : List Code) (w after : World) (left : Option ℕ)
     (before taken : Option (List ℕ)) (failures : ℕ) (kinds : List ErrorKind) → IsRunOfExpression k e id source context s code w
     → TellsFailures {X = Val} (Err kinds) failures failures → Evaluates s code w e.fuel before (Err kinds) after left taken
     → Gives (Err kinds) (under e.fuel (evaluated (setting_of k e) id (expression_in source) context))
@@ -96,7 +97,7 @@ evaluation_stops k e id source context s code w after left before taken failures
     (stops kinds after (under e.fuel (evaluation_in k e id source context)) failures quiet
     (comes k e id source context s code w after left before taken (Err kinds) of runs))
 
-pub evaluation_gives : (k : Callables) (e : Registry) (id : ℕ) (source : List ℕ) (context : Val) (s : Programs) (code : List Code) (w after : World) (left : Option ℕ)
+pub evaluation_gives : (k : Brought) (e : Registry) (id : ℕ) (source : List ℕ) (context : Val) (s : Programs) (code : List Code) (w after : World) (left : Option ℕ)
     (before taken : Option (List ℕ)) (v : Val) (result : Result Val (List ErrorKind)) → IsRunOfExpression k e id source context s code w
     → Evaluates s code w e.fuel before (Ok v) after left taken → values.Gives result (frozen (known_of after) v)
     → Gives result (under e.fuel (evaluated (setting_of k e) id (expression_in source) context))

@@ -1,9 +1,14 @@
+pub mod Numbered
+pub mod Listed
 pub mod Rendering
+pub mod Ending
+pub mod Importing
 pub mod Capturing
+pub mod Beginning
+pub mod Calling
 pub mod Naming
 pub mod Plain
 pub mod Sourced
-pub mod Listed
 pub mod Evaluating
 pub mod Escaped
 pub mod Asking

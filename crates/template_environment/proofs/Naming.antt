@@ -1,16 +1,15 @@
 -- The names that can matter, among those of the templates that stand.
 use Rattle.std.proofs.Common.{◌≡◌, ℕ, Bool, false, ◌||◌, List, codes, bytes_eq, Option, None, Some, inl, inr, ◌⊎◌, ◌↔◌, IsTrue, refl, sym, ap, subst, ◌∙◌}
 use Rattle.std.specs.Option.{option_map}
-use Rattle.template_callables.specs.Callables.{Callables}
-use Rattle.template_names.specs.Names.{is_used}
 use Rattle.template_names_undeclared.proofs.Walking.{turned}
 use Rattle.template_machine_meaning.specs.Isolation as isolation
-use Rattle.template_machine_meaning.specs.Isolation.{IsContextName, is_given}
+use Rattle.template_machine_meaning.specs.Isolation.{IsContextName, is_given, is_needed}
 use Rattle.template_machine_meaning.specs.Meaning.{Standing}
 use Rattle.template_compiled.specs.Compiled.{Compiled, standing_of}
 use Rattle.template_compiled.specs.Names.{uses}
 use Rattle.template_compiled.specs.Standing.{IsUsedByOne, compiled_at}
 use Rattle.template_environment_histories.proofs.Using.{either}
+use Rattle.template_environment.specs.Extras.{Brought}
 use Rattle.template_environment.specs.Standing.{setting_of}
 use Rattle.template_environment.specs.declared.registry.Registry.{Registry}
 
@@ -18,15 +17,15 @@ under_map : {X Y : Type 0} (f : X → Y) (o : Option X) (y : Y) → option_map f
 under_map f None y h = cc
 under_map f (Some x) y h = (x, refl, cc)
 
-pub used_by_one : (k : Callables) (e : Registry) (name : List ℕ) → IsUsedByOne e.templates name ↔ isolation.IsUsedByOne (setting_of k e) name
+pub used_by_one : (k : Brought) (e : Registry) (name : List ℕ) → IsUsedByOne e.templates name ↔ isolation.IsUsedByOne (setting_of k e) name
 used_by_one k e name = (
   λ u. (u.0, standing_of u.1, ap (option_map standing_of) u.2, u.3),
   λ u.
       let under = under_map standing_of (compiled_at e.templates u.0) u.1 u.2 in
-      (u.0, under.0, under.1, subst (λ (t : Standing). IsTrue (is_used name t.tree)) (sym under.2) u.3),
+      (u.0, under.0, under.1, subst (λ (t : Standing). IsTrue (is_needed name t.tree)) (sym under.2) u.3),
 )
 
-pub listed : (k : Callables) (e : Registry) (c : Compiled) (name : List ℕ) (given own : Bool) (Has : Type 0) → given ≡ is_given name → own ≡ (given || uses c name)
+pub listed : (k : Brought) (e : Registry) (c : Compiled) (name : List ℕ) (given own : Bool) (Has : Type 0) → given ≡ is_given name → own ≡ (given || uses c name)
     → Has ↔ (IsTrue own ⊎ IsUsedByOne e.templates name) → Has ↔ IsContextName (setting_of k e) (standing_of c).tree name
 listed k e c name given own Has at_first then all =
     let both = either given (uses c name) in (

@@ -4,33 +4,34 @@ use Rattle.std.specs.Io.KnownBytes.{Appends}
 use Rattle.template_values_errors.specs.declared.ErrorKind.{ErrorKind}
 use Rattle.template_values_errors.specs.declared.modes.AutoEscape.{AutoEscape}
 use Rattle.template_values_model.specs.Val.{Val}
-use Rattle.template_callables.specs.Callables.{Callables}
 use Rattle.template_process.specs.Approximants.{IsFinished}
 use Rattle.template_process.specs.Fuel.{under}
 use Rattle.template_process.specs.Trace.{Run}
 use Rattle.template_process.proofs.Fuels.{enough}
-use Rattle.template_machine_meaning.specs.Meaning.{Setting, Standing, rendered}
+use Rattle.template_machine_meaning.specs.Keys.{Head}
+use Rattle.template_machine_meaning.specs.Meaning.{Setting, Standing, head_of, meaning, rendered}
 use Rattle.template_machine_meaning.specs.World.{World, first_world}
 use Rattle.template_machine_renders.specs.Renders.{Renders, whole, broken}
-use Rattle.template_compiled.specs.Compiled.{Compiled}
+use Rattle.template_compiled.specs.Compiled.{Compiled, standing_of}
 use Rattle.template_compiled.specs.Plain.{text_tree}
 use Rattle.template_compiled.specs.Sources.{HasNoRoom}
+use Rattle.template_environment.specs.Extras.{Brought}
 use Rattle.template_environment.specs.Plain.{text_run, GivesItself, IsRefusedForRoom, WritesItself}
 use Rattle.template_environment.specs.Renderings.{GivesText, rendering}
 use Rattle.template_environment.specs.declared.registry.Registry.{Registry}
 
 -- the run of such a tree, under every bound
-text_runs : (setting : Setting) (id n : ℕ) (name bytes : List ℕ) (escape : AutoEscape) (context : Val)
-    → rendered setting id n (record { name = name; tree = text_tree bytes; escape = escape }) context
-    ≡ text_run bytes (first_world id setting.globals escape context)
-text_runs setting id n name [] escape context = refl
-text_runs setting id n name (byte ∷ bytes) escape context = refl
+text_runs : (setting : Setting) (id n : ℕ) (name bytes : List ℕ) (escape : AutoEscape) (head : Head) (context : Val)
+    → meaning setting (record { name = name; tree = text_tree bytes; escape = escape }) n (first_world id setting.globals head context)
+    ≡ text_run bytes (first_world id setting.globals head context)
+text_runs setting id n name [] escape head context = refl
+text_runs setting id n name (byte ∷ bytes) escape head context = refl
 
 pub plain_render : (setting : Setting) (id n : ℕ) (t : Standing) (bytes : List ℕ) (context : Val) → t.tree ≡ text_tree bytes
-    → rendered setting id n t context ≡ text_run bytes (first_world id setting.globals t.escape context)
+    → rendered setting id n t context ≡ text_run bytes (first_world id setting.globals (head_of t) context)
 plain_render setting id n t bytes context is =
-    ap (λ tree. rendered setting id n (record { name = t.name; tree = tree; escape = t.escape }) context) is
-    ∙ text_runs setting id n t.name bytes t.escape context
+    ap (λ tree. meaning setting (record { name = t.name; tree = tree; escape = t.escape }) n (first_world id setting.globals (head_of t) context)) is
+    ∙ text_runs setting id n t.name bytes t.escape (head_of t) context
 
 pub text_finished : (bytes : List ℕ) (w : World) → IsFinished (text_run bytes w).end
 text_finished [] w = tt
@@ -93,24 +94,24 @@ writes_itself (Some (suc zero)) (byte ∷ bytes) w before after (Ok x) (broken w
 writes_itself (Some (suc zero)) (byte ∷ bytes) w before after (Err kinds) (broken wants text) = inl wants
 
 -- what calls that render it give and write
-abbrev pub IsOfText : Callables → Registry → Compiled → List ℕ → Type 0
-IsOfText k e c bytes = (id n : ℕ) (context : Val) → rendering k e id c n context ≡ text_run bytes (first_world id e.globals c.escape context)
+abbrev pub IsOfText : Brought → Registry → Compiled → List ℕ → Type 0
+IsOfText k e c bytes = (id n : ℕ) (context : Val) → rendering k e id c n context ≡ text_run bytes (first_world id e.globals (head_of (standing_of c)) context)
 
-pub plain_gives : {X : Type 0} (k : Callables) (e : Registry) (id : ℕ) (c : Compiled) (bytes : List ℕ) (context : Val) (text : X → List ℕ) (result : Result X (List ErrorKind))
+pub plain_gives : {X : Type 0} (k : Brought) (e : Registry) (id : ℕ) (c : Compiled) (bytes : List ℕ) (context : Val) (text : X → List ℕ) (result : Result X (List ErrorKind))
     → IsOfText k e c bytes
     → ((n : ℕ) → IsFinished (rendering k e id c n context).end → GivesText text result (under e.fuel (rendering k e id c n context)))
     → GivesItself e.fuel bytes text result
 plain_gives k e id c bytes context text result is gives =
-    let w = first_world id e.globals c.escape context in
+    let w = first_world id e.globals (head_of (standing_of c)) context in
     gives_itself e.fuel bytes w text result (subst (λ r. GivesText text result (under e.fuel r)) (is id 0 context)
     (gives 0 (subst (λ (r : Run World). IsFinished r.end) (sym (is id 0 context)) (text_finished bytes w))))
 
-pub plain_writes : {X : Type 0} (k : Callables) (e : Registry) (id : ℕ) (c : Compiled) (bytes : List ℕ) (context : Val) (before after : Option (List ℕ)) (result : Result X (List ErrorKind))
+pub plain_writes : {X : Type 0} (k : Brought) (e : Registry) (id : ℕ) (c : Compiled) (bytes : List ℕ) (context : Val) (before after : Option (List ℕ)) (result : Result X (List ErrorKind))
     → IsOfText k e c bytes
     → ((n : ℕ) → IsFinished (rendering k e id c n context).end → Renders result before after (under e.fuel (rendering k e id c n context)))
     → WritesItself e.fuel bytes before after result
 plain_writes k e id c bytes context before after result is renders =
-    let w = first_world id e.globals c.escape context in
+    let w = first_world id e.globals (head_of (standing_of c)) context in
     writes_itself e.fuel bytes w before after result (subst (λ r. Renders result before after (under e.fuel r)) (is id 0 context)
     (renders 0 (subst (λ (r : Run World). IsFinished r.end) (sym (is id 0 context)) (text_finished bytes w))))
 

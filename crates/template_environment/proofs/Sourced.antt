@@ -3,18 +3,19 @@ use Rattle.std.proofs.Common.{◌≡◌, ◌∙◌, ℕ, List, Option, Result, a
 use Rattle.template_values_errors.specs.declared.ErrorKind.{ErrorKind}
 use Rattle.template_values_errors.specs.declared.modes.AutoEscape.{AutoEscape}
 use Rattle.template_values_model.specs.Val.{Val}
-use Rattle.template_callables.specs.Callables.{Callables}
 use Rattle.template_machine_surroundings.specs.Rule.{IsEscapeOf}
 use Rattle.template_machine_surroundings.proofs.OneRule.{one_escape}
 use Rattle.template_machine_meaning.specs.Isolation.{IsolatesNames}
 use Rattle.template_compiled.specs.Compiled.{Compiled}
 use Rattle.template_compiled.specs.Sources.{Source, read_by, tree_in}
 use Rattle.template_compiled.specs.declared.config.TemplateConfig.{TemplateConfig}
+use Rattle.template_environment.specs.Extras.{Brought}
 use Rattle.template_environment.specs.Isolated.{IsIsolatedSource}
 use Rattle.template_environment.specs.Reading.{rule_for}
 use Rattle.template_environment.specs.Renderings.{RendersText}
 use Rattle.template_environment.specs.Standing.{setting_of}
 use Rattle.template_environment.specs.declared.registry.Registry.{Registry}
+use Rattle.template_environment.proofs.Importing.{source_imports, standing_import}
 
 -- the name and the source decide what is compiled
 same_compiled : (c : Compiled) (name : List ℕ) (source : Source) (escape : AutoEscape) → c.name ≡ name → c.source ≡ source
@@ -25,13 +26,13 @@ same_compiled c name source escape named read rule other = λ i. record {
   escape = one_escape source.escapes name c.escape escape rule other i;
 }
 
-pub renders_source : {X : Type 0} (there k : Callables) (here e : Registry) (c : Compiled) (name : List ℕ) (source : Source) (context : Val) (id next : ℕ)
+pub renders_source : {X : Type 0} (there k : Brought) (here e : Registry) (c : Compiled) (name : List ℕ) (source : Source) (context : Val) (id next : ℕ)
     (text : X → List ℕ) (result : Result X (List ErrorKind)) → there ≡ k → here ≡ e → c.name ≡ name → c.source ≡ source
     → IsEscapeOf source.escapes name c.escape → RendersText there here c context id next text result
     → (escape : AutoEscape) → IsEscapeOf source.escapes name escape
     → RendersText k e (record { name = name; source = source; escape = escape }) context id next text result
 renders_source there k here e c name source context id next text result brought is named read rule renders = λ escape other.
-    subst (λ (b : Callables). RendersText b e (record { name = name; source = source; escape = escape }) context id next text result) brought
+    subst (λ (b : Brought). RendersText b e (record { name = name; source = source; escape = escape }) context id next text result) brought
     (subst (λ (x : Registry). RendersText there x (record { name = name; source = source; escape = escape }) context id next text result) is
     (subst (λ (x : Compiled). RendersText there here x context id next text result) (same_compiled c name source escape named read rule other) renders))
 
@@ -52,6 +53,6 @@ read_so answer callback config c source name text named made texts syntaxes esca
     λ i. record { text = of_text i; syntax = of_syntax i; escapes = of_rule i }
 
 -- isolation of a render, as that of its source
-pub isolates_source : IsolatesNames → (k : Callables) (e : Registry) (source : Source) (c : Val) → IsIsolatedSource k e source c
+pub isolates_source : IsolatesNames → (k : Brought) (e : Registry) (source : Source) (c : Val) → IsIsolatedSource k e source c
 isolates_source isolates k e source c asks d agree = λ name id escape n fuel.
-    isolates (setting_of k e) asks id (record { name = name; tree = tree_in source; escape = escape }) c d agree n fuel
+    isolates (setting_of k e) asks (standing_import k e) id (record { name = name; tree = tree_in source; escape = escape }) (source_imports source) c d agree n fuel

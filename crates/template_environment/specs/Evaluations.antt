@@ -3,7 +3,6 @@ use Rattle.std.specs.Prelude.{◌≡◌, ℕ, ◌⊎◌, List, [], ◌∷◌, Op
 use Rattle.template_values_errors.specs.declared.ErrorKind.{ErrorKind}
 use Rattle.template_values_errors.specs.Memory.{NoMemory}
 use Rattle.template_values_model.specs.Val.{Val}
-use Rattle.template_callables.specs.Callables.{Says}
 use Rattle.template_names.specs.Names.{stands_in}
 use Rattle.template_process.specs.Drive.{ends}
 use Rattle.template_process.specs.Fuel.{IsSameRun, under}
@@ -13,7 +12,7 @@ use Rattle.template_machine_meaning.specs.Meaning.{Setting, evaluated}
 use Rattle.template_machine_meaning.specs.World.{World}
 use Rattle.template_machine_renders.specs.Renders.{FaultsAs}
 use Rattle.template_compiled.specs.Expressions.{expression_in}
-use Rattle.template_environment.specs.Extras.{MethodsSay}
+use Rattle.template_environment.specs.Extras.{UserAnswers}
 use Rattle.template_environment.specs.Reading.{callables_of, registry_of, setting_in}
 use Rattle.template_environment.specs.declared.environment.Environment.{Environment}
 use Rattle.template_environment.specs.declared.expression.Expression.{Expression}
@@ -31,13 +30,13 @@ module _ {E C M F J R : Type 0} where
   abbrev pub fuel_under : Expression E C M F J R → Option ℕ
   fuel_under e = (registry_of (environment_under e)).fuel
 
-  -- the setting that it has; the first two say what is answered where it calls what a user brought
-  abbrev pub setting_under : (C → Says) → MethodsSay M → Expression E C M F J R → Setting
-  setting_under says methods e = setting_in says methods (environment_under e)
+  -- the setting that it has; the first says what is answered where it asks what a user brought
+  abbrev pub setting_under : UserAnswers C M F J → Expression E C M F J R → Setting
+  setting_under says e = setting_in says (environment_under e)
 
   -- what it means over a context, in the state of a number: its value is handed out
-  abbrev pub evaluation_of : (C → Says) → MethodsSay M → Expression E C M F J R → ℕ → Val → Run World
-  evaluation_of says methods e id context = evaluated (setting_under says methods e) id (expression_in (text_of e)) context
+  abbrev pub evaluation_of : UserAnswers C M F J → Expression E C M F J R → ℕ → Val → Run World
+  evaluation_of says e id context = evaluated (setting_under says e) id (expression_in (text_of e)) context
 
 -- The call gives the one value that the run leaves; else it answers with the run's fault. Or a growth was refused.
 abbrev pub Gives : {S : Type 0} → Result Val (List ErrorKind) → Run S → Type 0
@@ -51,11 +50,11 @@ module _ {E C M F J R : Type 0} where
 
   -- over the two contexts it takes the same steps at the same price, and comes to the same end, in the state of each number and
   -- under every fuel
-  abbrev pub IsSameEvaluation : (C → Says) → MethodsSay M → Expression E C M F J R → Val → Val → Type 0
-  IsSameEvaluation says methods e c d = (id : ℕ) (fuel : Option ℕ) →
-      IsSameRun (under fuel (evaluation_of says methods e id c)) (under fuel (evaluation_of says methods e id d))
+  abbrev pub IsSameEvaluation : UserAnswers C M F J → Expression E C M F J R → Val → Val → Type 0
+  IsSameEvaluation says e c d = (id : ℕ) (fuel : Option ℕ) →
+      IsSameRun (under fuel (evaluation_of says e id c)) (under fuel (evaluation_of says e id d))
 
   -- Where what the user brought asks for no names, a context that agrees at these makes no difference.
-  abbrev pub IsIsolatedEvaluation : (C → Says) → MethodsSay M → Expression E C M F J R → Val → Type 0
-  IsIsolatedEvaluation says methods e c = AskNoNames (callables_of says methods (environment_under e))
-      → (d : Val) → AgreeAlong e c d → IsSameEvaluation says methods e c d
+  abbrev pub IsIsolatedEvaluation : UserAnswers C M F J → Expression E C M F J R → Val → Type 0
+  IsIsolatedEvaluation says e c = AskNoNames (callables_of says (environment_under e))
+      → (d : Val) → AgreeAlong e c d → IsSameEvaluation says e c d

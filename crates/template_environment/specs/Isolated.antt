@@ -3,7 +3,6 @@ use Rattle.std.specs.Prelude.{ℕ, List, Option, IsTrue, String}
 use Rattle.std.specs.BTreeSet.{BTreeSet, contains_text}
 use Rattle.template_values_errors.specs.declared.modes.AutoEscape.{AutoEscape}
 use Rattle.template_values_model.specs.Val.{Val}
-use Rattle.template_callables.specs.Callables.{Says, Callables}
 use Rattle.template_tree.specs.Tree.{Statements}
 use Rattle.template_process.specs.Fuel.{IsSameRun, under}
 use Rattle.template_process.specs.Trace.{Run}
@@ -11,8 +10,8 @@ use Rattle.template_machine_meaning.specs.Isolation.{AgreesAt, AskNoNames, IsCon
 use Rattle.template_machine_meaning.specs.Meaning.{rendered}
 use Rattle.template_machine_meaning.specs.World.{World}
 use Rattle.template_compiled.specs.Sources.{Source, tree_in}
-use Rattle.template_environment.specs.Extras.{MethodsSay}
-use Rattle.template_environment.specs.Reading.{callables_of, registry_of, setting_in}
+use Rattle.template_environment.specs.Extras.{UserAnswers, Brought}
+use Rattle.template_environment.specs.Reading.{brought_of, callables_of, registry_of, setting_in}
 use Rattle.template_environment.specs.Standing.{setting_of}
 use Rattle.template_environment.specs.Renderings.{rendering}
 use Rattle.template_environment.specs.Views.{compiled_in, environment_of, source_of}
@@ -29,37 +28,37 @@ abbrev pub AgreeAmong : {A : Type 0} → BTreeSet (String A) → Val → Val →
 AgreeAmong names c d = (name : List ℕ) → IsTrue (contains_text names name) → AgreesAt c d name
 
 module _ {E C M F J R : Type 0} where
-  -- They do so under each name that can matter to a render of the template. The first two say what is answered where it calls
+  -- They do so under each name that can matter to a render of the template. The first says what is answered where it asks
   -- what a user brought.
-  abbrev pub AgreeFor : (C → Says) → MethodsSay M → Template E C M F J R → Val → Val → Type 0
-  AgreeFor says methods t c d = (name : List ℕ) → IsContextName (setting_in says methods (environment_of t)) (tree_of t) name → AgreesAt c d name
+  abbrev pub AgreeFor : UserAnswers C M F J → Template E C M F J R → Val → Val → Type 0
+  AgreeFor says t c d = (name : List ℕ) → IsContextName (setting_in says (environment_of t)) (tree_of t) name → AgreesAt c d name
 
   -- renders of the template in an environment over the two contexts, in the state of one number, write the same, step by step at
   -- the same price, and come to the same end, under every bound and every fuel
-  abbrev pub IsSameRenderIn : Callables → Registry → Template E C M F J R → Val → Val → Type 0
+  abbrev pub IsSameRenderIn : Brought → Registry → Template E C M F J R → Val → Val → Type 0
   IsSameRenderIn k e t c d = (id n : ℕ) (fuel : Option ℕ) → IsSameRun (under fuel (rendering k e id (compiled_in t.compiled) n c))
       (under fuel (rendering k e id (compiled_in t.compiled) n d))
 
   -- the same in the environment that it is a template of
-  abbrev pub IsSameRender : (C → Says) → MethodsSay M → Template E C M F J R → Val → Val → Type 0
-  IsSameRender says methods t c d =
-      IsSameRenderIn (callables_of says methods (environment_of t)) (registry_of (environment_of t)) t c d
+  abbrev pub IsSameRender : UserAnswers C M F J → Template E C M F J R → Val → Val → Type 0
+  IsSameRender says t c d =
+      IsSameRenderIn (brought_of says (environment_of t)) (registry_of (environment_of t)) t c d
 
   -- Where what the user brought asks for no names, a context that agrees at these makes no difference.
-  abbrev pub IsIsolated : (C → Says) → MethodsSay M → Template E C M F J R → Val → Type 0
-  IsIsolated says methods t c = AskNoNames (callables_of says methods (environment_of t))
-      → (d : Val) → AgreeFor says methods t c d → IsSameRender says methods t c d
+  abbrev pub IsIsolated : UserAnswers C M F J → Template E C M F J R → Val → Type 0
+  IsIsolated says t c = AskNoNames (callables_of says (environment_of t))
+      → (d : Val) → AgreeFor says t c d → IsSameRender says t c d
 
 -- the same of a source that does not stand, under any escape and any name
-abbrev pub AgreeForSource : Callables → Registry → Source → Val → Val → Type 0
+abbrev pub AgreeForSource : Brought → Registry → Source → Val → Val → Type 0
 AgreeForSource k e source c d = (name : List ℕ) → IsContextName (setting_of k e) (tree_in source) name → AgreesAt c d name
 
-abbrev pub source_rendering : Callables → Registry → List ℕ → ℕ → Source → AutoEscape → ℕ → Val → Run World
+abbrev pub source_rendering : Brought → Registry → List ℕ → ℕ → Source → AutoEscape → ℕ → Val → Run World
 source_rendering k e name id source escape n c = rendered (setting_of k e) id n (record { name = name; tree = tree_in source; escape = escape }) c
 
-abbrev pub IsSameForSource : Callables → Registry → Source → Val → Val → Type 0
+abbrev pub IsSameForSource : Brought → Registry → Source → Val → Val → Type 0
 IsSameForSource k e source c d = (name : List ℕ) (id : ℕ) (escape : AutoEscape) (n : ℕ) (fuel : Option ℕ) →
     IsSameRun (under fuel (source_rendering k e name id source escape n c)) (under fuel (source_rendering k e name id source escape n d))
 
-abbrev pub IsIsolatedSource : Callables → Registry → Source → Val → Type 0
-IsIsolatedSource k e source c = AskNoNames k → (d : Val) → AgreeForSource k e source c d → IsSameForSource k e source c d
+abbrev pub IsIsolatedSource : Brought → Registry → Source → Val → Type 0
+IsIsolatedSource k e source c = AskNoNames k.callables → (d : Val) → AgreeForSource k e source c d → IsSameForSource k e source c d

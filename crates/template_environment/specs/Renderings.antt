@@ -6,7 +6,6 @@ use Rattle.template_values_errors.specs.declared.ErrorKind.TheVariants.{InvalidO
 use Rattle.template_values_errors.specs.Memory.{NoMemory}
 use Rattle.template_values_errors.specs.declared.modes.AutoEscape.{AutoEscape}
 use Rattle.template_values_model.specs.Val.{Val}
-use Rattle.template_callables.specs.Callables.{Says, Callables}
 use Rattle.template_process.specs.Approximants.{IsFinished}
 use Rattle.template_process.specs.Fuel.{under}
 use Rattle.template_process.specs.Trace.{Run, text_of}
@@ -16,27 +15,28 @@ use Rattle.template_machine_surroundings.specs.Rule.{IsEscapeOf}
 use Rattle.template_machine_renders.specs.Renders.{FaultsAs, IsOver}
 use Rattle.template_compiled.specs.Compiled.{Compiled, standing_of}
 use Rattle.template_compiled.specs.Sources.{IsAccepted, IsRefusedWith, Source}
-use Rattle.template_environment.specs.Extras.{MethodsSay}
-use Rattle.template_environment.specs.Reading.{callables_of, registry_of}
+use Rattle.template_environment.specs.Extras.{UserAnswers, Brought}
+use Rattle.template_environment.specs.Reading.{brought_of, registry_of}
 use Rattle.template_environment.specs.Standing.{setting_of}
 use Rattle.template_environment.specs.declared.environment.Environment.{Environment}
+use Rattle.template_environment.specs.declared.levels.Levels.{Levels}
 use Rattle.template_environment.specs.declared.registry.Registry.{Registry}
 
 -- a template of an environment over a context, in the state of a number, under a bound
-abbrev pub rendering : Callables → Registry → ℕ → Compiled → ℕ → Val → Run World
+abbrev pub rendering : Brought → Registry → ℕ → Compiled → ℕ → Val → Run World
 rendering k e id c n context = rendered (setting_of k e) id n (standing_of c) context
 
 module _ {E C M F J R : Type 0} where
-  -- so it is where the first two say what is answered where it calls what the environment's user brought
-  abbrev pub rendering_in : (C → Says) → MethodsSay M → Environment E C M F J R → ℕ → Compiled → ℕ → Val → Run World
-  rendering_in says methods e id c n context = rendering (callables_of says methods e) (registry_of e) id c n context
+  -- so it is where the first says what is answered where it asks what the environment's user brought
+  abbrev pub rendering_in : UserAnswers C M F J → Environment E C M F J R → ℕ → Compiled → ℕ → Val → Run World
+  rendering_in says e id c n context = rendering (brought_of says e) (registry_of e) id c n context
 
 -- of what was consumed and what remains: the fuel that was set, and what is left of it
-abbrev pub set_of : Option (ℕ × ℕ) → Option ℕ
-set_of levels = option_map (λ l. l.0 + l.1) levels
+abbrev pub set_of : Option Levels → Option ℕ
+set_of levels = option_map (λ (l : Levels). l.consumed + l.remaining) levels
 
-abbrev pub left_of : Option (ℕ × ℕ) → Option ℕ
-left_of levels = option_map (λ l. l.1) levels
+abbrev pub left_of : Option Levels → Option ℕ
+left_of levels = option_map (λ (l : Levels). l.remaining) levels
 
 -- The call gives the text of the run, where that is over; else it answers with the run's fault, and gives no text. Or a
 -- growth was refused.
@@ -50,7 +50,7 @@ last_id = 2 ^ 64 - 1
 
 -- A call that renders a template to a text, and the numbers that come next before it and after it: it renders in the state of
 -- the first. One is finished: every run ends.
-pub record RendersText {X : Type 0} (k : Callables) (e : Registry) (c : Compiled) (context : Val) (id next : ℕ) (text : X → List ℕ)
+pub record RendersText {X : Type 0} (k : Brought) (e : Registry) (c : Compiled) (context : Val) (id next : ℕ) (text : X → List ℕ)
     (result : Result X (List ErrorKind)) : Type 0 where
   pub finished : (n : ℕ) × IsFinished (rendering k e id c n context).end
   pub gives : id ≢ last_id → (n : ℕ) → IsFinished (rendering k e id c n context).end
@@ -60,7 +60,7 @@ pub record RendersText {X : Type 0} (k : Callables) (e : Registry) (c : Compiled
   pub exhausted : id ≡ last_id → (result ≡ Err (InvalidOperation ∷ [])) × (next ≡ id)
 
 -- The source is refused, and takes no number; or it is accepted, and rendered as a template of the name.
-abbrev pub RendersSource : {X : Type 0} → Callables → Registry → List ℕ → Source → Val → ℕ → ℕ → (X → List ℕ) → Result X (List ErrorKind) → Type 0
+abbrev pub RendersSource : {X : Type 0} → Brought → Registry → List ℕ → Source → Val → ℕ → ℕ → (X → List ℕ) → Result X (List ErrorKind) → Type 0
 RendersSource k e name source context id next text result =
     (IsErrAnd result (IsRefusedWith source) × (next ≡ id))
     ⊎ (IsAccepted source × ((escape : AutoEscape) → IsEscapeOf source.escapes name escape

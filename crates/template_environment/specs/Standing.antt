@@ -4,15 +4,16 @@ use Rattle.std.specs.Option.{option_map}
 use Rattle.template_values_errors.specs.declared.modes.UndefinedBehavior.{UndefinedBehavior}
 use Rattle.template_values_errors.specs.declared.modes.UndefinedBehavior.TheVariants.{Lenient}
 use Rattle.template_values_model.specs.Val.{Val}
-use Rattle.template_callables.specs.Callables.{Callables}
 use Rattle.template_compiler_syntax.specs.Syntax.{Syntax}
 use Rattle.template_machine_surroundings.specs.declared.escape.EscapeRule.{EscapeRule}
 use Rattle.template_machine_meaning.specs.Meaning.{Setting}
 use Rattle.template_machine_meaning.specs.World.{Globals, local_at}
 use Rattle.template_machine_renders.specs.Programs as units
 use Rattle.template_compiled.specs.Compiled.{Compiled, code_for, standing_of}
-use Rattle.template_compiled.specs.Sources.{Source}
+use Rattle.template_compiled.specs.Sources.{Source, tree_in}
 pub use Rattle.template_compiled.specs.Standing.{compiled_at}
+use Rattle.template_compiled.specs.Streams.{streams_of}
+use Rattle.template_environment.specs.Extras.{Brought}
 use Rattle.template_environment.specs.declared.registry.Registry.{Registry}
 
 -- the source that stands under a name
@@ -67,18 +68,19 @@ settings_of e = record {
 }
 
 -- the setting that its renders have, with what a user brought
-abbrev pub setting_of : Callables → Registry → Setting
-setting_of callables e = record {
+abbrev pub setting_of : Brought → Registry → Setting
+setting_of brought e = record {
   templates = λ name. option_map standing_of (compiled_at e.templates name);
+  joins = brought.joins;
   globals = e.globals;
-  callables = callables;
+  callables = brought.callables;
   limit = e.recursion_limit;
   undefined = e.undefined_behavior;
 }
 
 -- the code of what stands, as a machine takes it
 abbrev pub unit_of : Compiled → units.Standing
-unit_of c = record { name = c.name; code = code_for c; escape = c.escape }
+unit_of c = record { name = c.name; code = code_for c; escape = c.escape; blocks = streams_of (tree_in c.source) }
 
 abbrev pub units_of : Registry → List ℕ → Option units.Standing
 units_of e name = option_map unit_of (compiled_at e.templates name)

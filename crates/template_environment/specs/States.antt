@@ -1,32 +1,74 @@
 -- What contracts see of a state.
-use Rattle.std.specs.Prelude.{◌≡◌, ℕ, List, [], Option, None, codes}
-use Rattle.template_values_errors.specs.declared.modes.AutoEscape.{AutoEscape}
-use Rattle.template_values_model.specs.Val.{Val}
-use Rattle.template_callables.specs.Callables.{Says}
-use Rattle.template_process.specs.Trace.{Reply}
+use Rattle.std.specs.Prelude.{◌≡◌, ℕ, List, [], ◌∷◌, Option, None, Result, Ok, Err, String, codes, option_copied, string_bytes}
+use Rattle.std.specs.Global.{Global}
+use Rattle.std.specs.Option.{option_map, option_map_or}
+use Rattle.template_values_errors.specs.declared.ErrorKind.{ErrorKind}
+use Rattle.template_values_errors.specs.declared.ErrorKind.TheVariants.{TemplateNotFound}
+use Rattle.template_values_errors.specs.declared.modes.UndefinedBehavior.TheVariants.{Lenient}
+use Rattle.template_values_model.specs.Val.{Val, undefined}
+use Rattle.template_callables.specs.Callables.{no_callables}
+use Rattle.template_callables.specs.Joins.{keeps_name}
+use Rattle.template_process.specs.Trace.{Reply, Run}
 use Rattle.template_machine_meaning.specs.Calls.{call_reply}
 use Rattle.template_machine_meaning.specs.Functions.{Invoked, invokes}
-use Rattle.template_machine_meaning.specs.Keys.{Around, rendered, own}
-use Rattle.template_machine_meaning.specs.Meaning.{around_of}
-use Rattle.template_machine_meaning.specs.World.{Globals, World}
-use Rattle.template_environment.specs.Extras.{MethodsSay}
+use Rattle.template_machine_meaning.specs.Keys.{Around, Head}
+use Rattle.template_machine_meaning.specs.Meaning.{head_of, no_head, walks_of}
+use Rattle.template_machine_meaning.specs.Names as names
+use Rattle.template_machine_meaning.specs.Surroundings.{Programs, text_reply, written_reply}
+use Rattle.template_machine_meaning.specs.World.{Globals, World, first_world}
+use Rattle.template_machine_calls.specs.Formatted.{outside}
+use Rattle.template_machine_renders.specs.Laws.{block_run, named_so}
+use Rattle.template_compiled.specs.Compiled.{Compiled, standing_of}
+use Rattle.template_environment.specs.Extras.{UserAnswers}
 use Rattle.template_environment.specs.Reading.{setting_in}
 use Rattle.template_environment.specs.Renderings.{left_of, set_of}
+use Rattle.template_environment.specs.Standing.{source_at}
 use Rattle.template_environment.specs.declared.environment.Environment.{Environment}
+use Rattle.template_environment.specs.declared.registry.Registry.{Registry}
 use Rattle.template_environment.specs.declared.state.State.{State}
+
+-- the name of a state without a template
+abbrev pub unknown : List ℕ
+unknown = codes "<unknown>"
+
+-- the name of a template, or that of none
+abbrev pub own_name : Option Compiled → List ℕ
+own_name c = option_map_or (λ (t : Compiled). t.name) c unknown
+
+-- its escape, and the names of its blocks
+abbrev pub head_of_template : Option Compiled → Head
+head_of_template c = option_map_or (λ (t : Compiled). head_of (standing_of t)) c no_head
+
+-- where nothing but a name is known
+abbrev pub named_alone : List ℕ → Around
+named_alone name = record {
+  name = name;
+  head = λ home. None;
+  joins = keeps_name;
+  callables = no_callables;
+  limit = 0;
+  undefined = Lenient;
+}
 
 module _ {E C M F J R : Type 0} where
   abbrev pub environment_in : State E C M F J R → Environment E C M F J R
   environment_in s = s.environment.now
 
-  -- the name of its template
-  abbrev pub name_in : State E C M F J R → List ℕ
-  name_in s = s.name.now
+  -- the template of which it is a state, if it is one's; and that one's name
+  abbrev pub template_in : State E C M F J R → Option Compiled
+  template_in s = option_copied s.template
 
-  -- its frames, the escape in force, the captures that are open, its number, what its environment gives, what its namespaces
-  -- hold, and its temps
+  abbrev pub own_name_in : State E C M F J R → List ℕ
+  own_name_in s = own_name (template_in s)
+
+  -- its frames, the escape in force, the captures that are open, the bodies of its blocks, its number, what its environment gives,
+  -- what its namespaces hold, and its temps
   abbrev pub world_in : State E C M F J R → World
   world_in s = s.machine
+
+  -- the name of the template whose text ran last
+  abbrev pub name_in : State E C M F J R → List ℕ
+  name_in s = names.name_of (named_alone (own_name_in s)) (world_in s).here
 
   -- the fuel that was set, and what is left of it
   abbrev pub fuel_set_in : State E C M F J R → Option ℕ
@@ -43,34 +85,47 @@ module _ {E C M F J R : Type 0} where
   abbrev pub KeepsRest : State E C M F J R → State E C M F J R → Type 0
   KeepsRest old new = new ≡ record old { machine = world_in new }
 
-  -- what is around its calls: its name, and what its environment was given and keeps to
-  abbrev pub around_in : (C → Says) → MethodsSay M → State E C M F J R → Around
-  around_in says methods s = record (around_of (setting_in says methods (environment_in s)) None) { name = name_in s }
+  -- they are states of one template, with one number, and the same fuel was set
+  pub record KeepsState (old new : State E C M F J R) : Type 0 where
+    pub environment : environment_in new ≡ environment_in old
+    pub template : template_in new ≡ template_in old
+    pub id : id_in new ≡ id_in old
+    pub fuel : fuel_set_in new ≡ fuel_set_in old
+
+  -- what runs in it: the template and those that stand, by its name, with what its environment was given and keeps to; the first
+  -- says what is answered where that asks what a user brought
+  abbrev pub programs_in : UserAnswers C M F J → State E C M F J R → Programs
+  programs_in says s = named_so (own_name_in s) (walks_of (setting_in says (environment_in s)) (option_map standing_of (template_in s)))
+
+  abbrev pub around_in : UserAnswers C M F J → State E C M F J R → Around
+  around_in says s = (programs_in says s).around
 
   -- what a call of what a user brought comes to in it
-  abbrev pub call_in : (C → Says) → MethodsSay M → State E C M F J R → Invoked → List Val → Reply World
-  call_in says methods s what vs = call_reply (around_in says methods s) (world_in s) (invokes what vs)
+  abbrev pub call_in : UserAnswers C M F J → State E C M F J R → Invoked → List Val → Reply World
+  call_in says s what vs = call_reply (around_in says s) (world_in s) (invokes what vs)
 
--- no frame, no capture, no namespace and no temps, under an escape, in the state of a number, with what an environment gives
-abbrev pub frameless : ℕ → Globals → AutoEscape → World
-frameless id globals escape = record {
-  here = own rendered;
-  frames = [];
-  outer = 0;
-  escape = escape;
-  saved = [];
-  first = escape;
-  captures = [];
-  id = id;
-  opened = 0;
-  globals = globals;
-  namespaces = [];
-  given = [];
-  held = 0;
-  closed = [];
-  temps = [];
-}
+  -- what a block comes to in it, under a bound
+  abbrev pub block_in : UserAnswers C M F J → State E C M F J R → List ℕ → ℕ → Run World
+  block_in says s block n = block_run (programs_in says s) (world_in s) block n
 
--- the name of a state without a template
-abbrev pub unknown : List ℕ
-unknown = codes "<unknown>"
+  -- what printing a value comes to in it, where no capture is open
+  abbrev pub format_in : UserAnswers C M F J → State E C M F J R → Val → Reply World
+  format_in says s v = written_reply (around_in says s) (outside (world_in s)) v
+
+  -- the name that is meant by a name in it, or the kinds of a fault
+  abbrev pub joined_in : UserAnswers C M F J → State E C M F J R → List ℕ → Result (List ℕ) (List ErrorKind)
+  joined_in says s name = (setting_in says (environment_in s)).joins name (name_in s)
+
+-- a text was made
+abbrev pub text_left : String Global → World → Reply World
+text_left text after = text_reply after (string_bytes text)
+
+-- no template stands under the name that is meant, or no name is
+abbrev pub IsMissing : Registry → Result (List ℕ) (List ErrorKind) → List ErrorKind → Type 0
+IsMissing e (Ok name) kinds = (kinds ≡ TemplateNotFound ∷ []) × (source_at e name ≡ None)
+IsMissing e (Err stated) kinds = kinds ≡ stated
+
+-- no frame, no capture, no namespace and no temps, under the escape of a template and with its blocks, in the state of a number,
+-- with what an environment gives
+abbrev pub frameless : ℕ → Globals → Head → World
+frameless id globals head = record (first_world id globals head undefined) { frames = []; floor = 0 }

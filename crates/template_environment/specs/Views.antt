@@ -2,12 +2,13 @@
 use Rattle.std.specs.Prelude.{ℕ, List, Option, string_bytes}
 use Rattle.template_values_errors.specs.declared.modes.AutoEscape.{AutoEscape}
 use Rattle.template_values_model.specs.Val.{Val}
-use Rattle.template_callables.specs.Callables.{Says}
 use Rattle.template_process.specs.Trace.{Run}
+use Rattle.template_machine_meaning.specs.Keys.{Head}
+use Rattle.template_machine_meaning.specs.Meaning.{head_of}
 use Rattle.template_machine_meaning.specs.World.{Globals, World}
-use Rattle.template_compiled.specs.Compiled.{Compiled}
+use Rattle.template_compiled.specs.Compiled.{Compiled, standing_of}
 use Rattle.template_compiled.specs.Sources.{Source}
-use Rattle.template_environment.specs.Extras.{MethodsSay}
+use Rattle.template_environment.specs.Extras.{UserAnswers}
 use Rattle.template_environment.specs.Renderings.{rendering_in}
 use Rattle.template_environment.specs.States.{fuel_left_in, fuel_set_in, id_in, world_in}
 use Rattle.template_environment.specs.declared.environment.Environment.{Environment}
@@ -27,6 +28,9 @@ module _ {E C M F J R : Type 0} where
   abbrev pub environment_of : Template E C M F J R → Environment E C M F J R
   environment_of t = t.environment.now
 
+  abbrev pub compiled_of : Template E C M F J R → Compiled
+  compiled_of t = compiled_in t.compiled
+
   abbrev pub name_of : Template E C M F J R → List ℕ
   name_of t = (compiled_in t.compiled).name
 
@@ -37,6 +41,10 @@ module _ {E C M F J R : Type 0} where
   abbrev pub escape_of : Template E C M F J R → AutoEscape
   escape_of t = (compiled_in t.compiled).escape
 
+  -- that, and the names of its blocks
+  abbrev pub head_in : Template E C M F J R → Head
+  head_in t = head_of (standing_of (compiled_in t.compiled))
+
   -- the fuel that each of its renders is given
   abbrev pub fuel_of : Template E C M F J R → Option ℕ
   fuel_of t = t.environment.now.registry.fuel
@@ -45,10 +53,10 @@ module _ {E C M F J R : Type 0} where
   abbrev pub globals_of : Template E C M F J R → Globals
   globals_of t = t.environment.now.registry.globals
 
-  -- what its render over a context means, in the state of a number, under a bound; the first two say what is answered where
-  -- it calls what a user brought
-  abbrev pub render_of : (C → Says) → MethodsSay M → Template E C M F J R → ℕ → ℕ → Val → Run World
-  render_of says methods t id n context = rendering_in says methods (environment_of t) id (compiled_in t.compiled) n context
+  -- what its render over a context means, in the state of a number, under a bound; the first says what is answered where
+  -- it asks what a user brought
+  abbrev pub render_of : UserAnswers C M F J → Template E C M F J R → ℕ → ℕ → Val → Run World
+  render_of says t id n context = rendering_in says (environment_of t) id (compiled_in t.compiled) n context
 
   -- what a render left: its text, and its state with the world, the fuel that was set and what is left of it, and its number
   abbrev pub output_of : Captured E C M F J R → List ℕ

@@ -118,6 +118,28 @@ impl<'source, E: Extension> Environment<'source, E> {
         self.extensions.method = Some(method);
     }
 
+    /// Sets what from now on says how values are printed: it is asked for each value that a template prints and that its
+    /// undefined behavior lets print. One that was set before is dropped. Without one each value is printed as it is, under
+    /// the escape in force.
+    pub fn set_formatter(&mut self, formatter: E::Formatter)
+        ensures extras { extras_of self.new ≡ record (extras_of self.old) { formatter = Some formatter } }
+        ensures sources { (name : List ℕ) → source_at (registry_of self.new) name ≡ source_at (registry_of self.old) name }
+        ensures settings { settings_of (registry_of self.new) ≡ settings_of (registry_of self.old) }
+    {
+        self.extensions.formatter = Some(formatter);
+    }
+
+    /// Sets what from now on says which templates are meant by the names that stand in templates, of what they extend, include
+    /// and import, and by those that [`State::get_template`](crate::State::get_template) is asked for. One that was set before
+    /// is dropped. Without one each name means itself.
+    pub fn set_path_join_callback(&mut self, join: E::Join)
+        ensures extras { extras_of self.new ≡ record (extras_of self.old) { join = Some join } }
+        ensures sources { (name : List ℕ) → source_at (registry_of self.new) name ≡ source_at (registry_of self.old) name }
+        ensures settings { settings_of (registry_of self.new) ≡ settings_of (registry_of self.old) }
+    {
+        self.extensions.join = Some(join);
+    }
+
     /// Sets the rule that from now on gives the escape of each template that is added or read, by its name. One that
     /// was set before is dropped.
     pub fn set_auto_escape_callback(&mut self, rule: E::Rule)

@@ -14,7 +14,8 @@ ghost use Rattle.template_compiled.specs.Compiled.{IsFaithful};
 ghost use Rattle.template_compiled.specs.Sources.{IsAccepted, IsRefusedWith};
 ghost use Rattle.template_compiled.specs.Plain.{IsPlain, text_kept};
 ghost use Rattle.template_environment_histories.specs.Histories as changes;
-ghost use Rattle.template_environment.specs.Extras.{no_extras};
+ghost use Rattle.template_machine_meaning.specs.Meaning.{no_head};
+ghost use Rattle.template_environment.specs.Extras.{no_extras, user_answers};
 ghost use Rattle.template_environment.specs.Plain.{IsRefusedForRoom, ReadGivesItself};
 ghost use Rattle.template_environment.specs.Standing.{greatest_limit, new_settings, no_globals};
 
@@ -32,16 +33,13 @@ use template_machine_globals::Globals;
 use template_machine_meaning::isolation;
 use template_machine_surroundings::{AutoEscapeRule, EscapeRule, StateIds};
 use template_values_core::Value;
-use template_values_errors::{AutoEscape, Error, ErrorKind, UndefinedBehavior};
+use template_values_errors::{Error, ErrorKind, UndefinedBehavior};
 
 // The deepest that a render may be.
 const MAX_RECURSION: usize = 500;
 
 // The name of a template from a source without a name.
 const UNNAMED: &str = "<string>";
-
-// The name of a state without a template.
-const UNKNOWN: &str = "<unknown>";
 
 /// The templates that stand, by name, the globals, what a user brought by the types of an [`Extension`], and what each render
 /// keeps to.
@@ -110,10 +108,10 @@ impl<'source> Environment<'source> {
 impl<'source, E: Extension> Environment<'source, E> {
     ghost use Rattle.template_environment.specs.Standing.{global_at, settings_of, source_at, unnamed};
     ghost use Rattle.template_environment.specs.Changes.{Changes};
-    ghost use Rattle.template_environment.specs.Reading.{IsUnchanged, callables_of, extras_of, read_under, registry_of, rule_for};
+    ghost use Rattle.template_environment.specs.Reading.{IsUnchanged, brought_of, extras_of, read_under, registry_of, rule_for};
     ghost use Rattle.template_environment.specs.Isolated.{IsIsolatedSource};
     ghost use Rattle.template_environment.specs.Renderings.{RendersSource};
-    ghost use Rattle.template_environment.specs.States.{environment_in, frameless, fuel_left_in, fuel_set_in, id_in, name_in, unknown, world_in};
+    ghost use Rattle.template_environment.specs.States.{environment_in, frameless, fuel_left_in, fuel_set_in, id_in, template_in, world_in};
     ghost use Rattle.template_environment.specs.Views.{environment_of, escape_of, name_of, source_of};
 
     /// The same as [`Environment::new`] makes, for what a user brings by the types of `E`: nothing is brought yet. `E` says
@@ -471,9 +469,8 @@ impl<'source, E: Extension> Environment<'source, E> {
     /// [`ErrorKind::OutOfMemory`]; [`ErrorKind::InvalidOperation`] where no state id is left.
     pub fn empty_state(&self, ids: &mut StateIds) -> Result<State<'_, 'source, E>, Error>
         ensures here { IfOk result (λ s. environment_in s ≡ self.now) }
-        ensures named { IfOk result (λ s. name_in s ≡ unknown) }
-        ensures world { IfOk result (λ s. world_in s
-            ≡ frameless ids.old (settings_of (registry_of self.now)).globals AutoEscape.None) }
+        ensures of_none { IfOk result (λ s. template_in s ≡ None) }
+        ensures world { IfOk result (λ s. world_in s ≡ frameless ids.old (settings_of (registry_of self.now)).globals no_head) }
         ensures given { IfOk result (λ s. fuel_set_in s ≡ (settings_of (registry_of self.now)).fuel) }
         ensures remains { IfOk result (λ s. fuel_left_in s ≡ (settings_of (registry_of self.now)).fuel) }
         ensures id { IfOk result (λ s. id_in s ≡ ids.old) }
@@ -481,7 +478,7 @@ impl<'source, E: Extension> Environment<'source, E> {
         ensures counted { ids.old ≢ u64.MAX → ids.new ≡ ids.old + 1 }
         ensures exhausted { ids.old ≡ u64.MAX → (result ≡ Err (ErrorKind.InvalidOperation ∷ [])) × (ids.new ≡ ids.old) }
     {
-        State::without_frames(self, UNKNOWN, AutoEscape::None, ids)
+        State::without_frames(self, None, ids)
     }
 
     /// The text of a render of a source over a context, under the name `<string>`. The source is read as by
@@ -496,7 +493,7 @@ impl<'source, E: Extension> Environment<'source, E> {
         ids: &mut StateIds,
         context: Value,
     ) -> Result<String, Error>
-        ensures renders { RendersSource (callables_of E.Callable.answer E.Method.answer self.now) (registry_of self.now) unnamed
+        ensures renders { RendersSource (brought_of (user_answers E.Callable.answer E.Method.answer E.Formatter.answer E.Join.answer) self.now) (registry_of self.now) unnamed
             (read_under E.Rule.answer self.now unnamed source.now) context ids.old ids.new (λ text. string_bytes text) result }
         ensures too_large { 2 ^ 32 ≤ length source.now → result ≡ Err (ErrorKind.TooLarge ∷ []) }
 
@@ -506,7 +503,7 @@ impl<'source, E: Extension> Environment<'source, E> {
             (λ text. string_bytes text) result }
 
         // Where what the user brought asks for no names, contexts that agree at those that can matter make no difference.
-        ensures isolated { IsIsolatedSource (callables_of E.Callable.answer E.Method.answer self.now) (registry_of self.now)
+        ensures isolated { IsIsolatedSource (brought_of (user_answers E.Callable.answer E.Method.answer E.Formatter.answer E.Join.answer) self.now) (registry_of self.now)
             (read_under E.Rule.answer self.now unnamed source.now) context }
     {
         self.render_named_str(UNNAMED, source, ids, context)
@@ -526,7 +523,7 @@ impl<'source, E: Extension> Environment<'source, E> {
         ids: &mut StateIds,
         context: Value,
     ) -> Result<String, Error>
-        ensures renders { RendersSource (callables_of E.Callable.answer E.Method.answer self.now) (registry_of self.now) name.now
+        ensures renders { RendersSource (brought_of (user_answers E.Callable.answer E.Method.answer E.Formatter.answer E.Join.answer) self.now) (registry_of self.now) name.now
             (read_under E.Rule.answer self.now name.now source.now) context ids.old ids.new (λ text. string_bytes text) result }
         ensures too_large { 2 ^ 32 ≤ length source.now → result ≡ Err (ErrorKind.TooLarge ∷ []) }
 
@@ -536,7 +533,7 @@ impl<'source, E: Extension> Environment<'source, E> {
             (λ text. string_bytes text) result }
 
         // Where what the user brought asks for no names, contexts that agree at those that can matter make no difference.
-        ensures isolated { IsIsolatedSource (callables_of E.Callable.answer E.Method.answer self.now) (registry_of self.now)
+        ensures isolated { IsIsolatedSource (brought_of (user_answers E.Callable.answer E.Method.answer E.Formatter.answer E.Join.answer) self.now) (registry_of self.now)
             (read_under E.Rule.answer self.now name.now source.now) context }
     {
         isolation();

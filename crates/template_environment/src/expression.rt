@@ -8,20 +8,21 @@ ghost use Rattle.template_machine_meaning.specs.Meaning.{evaluated};
 ghost use Rattle.template_compiled.specs.Expressions.{IsAcceptedExpression, IsExpressionRefusedWith, expression_in};
 ghost use Rattle.template_names.specs.Names.{IsToldAlone};
 ghost use Rattle.template_environment.specs.Evaluations.{Gives};
+ghost use Rattle.template_environment.specs.Extras.{user_answers};
 ghost use Rattle.template_environment.specs.Reading.{registry_of, setting_in};
 
 use crate::environment::Environment;
+use crate::starting::begun_alone;
 use std::borrow::CowStr;
 use std::collections::BTreeSet;
 use template_callables::{Extension, NoExtension};
 use template_compiled::CompiledExpression;
 use template_machine_meaning::expression_isolation;
 use template_machine_output::NullWriter;
-use template_machine_renders::run_expression;
-use template_machine_state::State as MachineState;
+use template_machine_renders::{Program, run_expression};
 use template_machine_surroundings::StateIds;
 use template_values_core::Value;
-use template_values_errors::{AutoEscape, Error, ErrorKind};
+use template_values_errors::{Error, ErrorKind};
 use template_values_frozen::freeze;
 
 // The name that an expression runs under.
@@ -108,11 +109,11 @@ impl<'env, 'source, E: Extension> Expression<'env, 'source, E> {
     /// [`ErrorKind::WriteFailure`], since it writes nothing.
     pub fn eval(&self, ids: &mut StateIds, context: Value) -> Result<Value, Error>
         ensures value { ids.old ≢ u64.MAX → Gives result
-            (under (fuel_under self.now) (evaluation_of E.Callable.answer E.Method.answer self.now ids.old context)) }
+            (under (fuel_under self.now) (evaluation_of (user_answers E.Callable.answer E.Method.answer E.Formatter.answer E.Join.answer) self.now ids.old context)) }
         ensures no_write_failure { IfErr result (λ kinds. kinds ≢ ErrorKind.WriteFailure ∷ []) }
         ensures counted { ids.old ≢ u64.MAX → ids.new ≡ ids.old + 1 }
         ensures exhausted { ids.old ≡ u64.MAX → (result ≡ Err (ErrorKind.InvalidOperation ∷ [])) × (ids.new ≡ ids.old) }
-        ensures isolated { IsIsolatedEvaluation E.Callable.answer E.Method.answer self.now context }
+        ensures isolated { IsIsolatedEvaluation (user_answers E.Callable.answer E.Method.answer E.Formatter.answer E.Join.answer) self.now context }
     {
         expression_isolation();
         let id = ids.next()?;
@@ -145,24 +146,22 @@ fn evaluate<'env, 'source, E: Extension>(
     context: Value,
 ) -> Result<Value, Error>
     ensures value { Gives result (under (registry_of environment.now).fuel
-        (evaluated (setting_in E.Callable.answer E.Method.answer environment.now) id (expression_in compiled.now) context)) }
+        (evaluated (setting_in (user_answers E.Callable.answer E.Method.answer E.Formatter.answer E.Join.answer) environment.now) id (expression_in compiled.now) context)) }
     ensures no_write_failure { IfErr result (λ kinds. kinds ≢ ErrorKind.WriteFailure ∷ []) }
 {
     let registry = &environment.registry;
     let alloc = registry.alloc;
-    let mut state: MachineState<'env> = MachineState::new(
-        alloc,
-        id,
-        &registry.globals,
-        AutoEscape::None,
-        context,
-    )?;
+    let mut state = begun_alone(id, environment, context)?;
     let mut left = registry.fuel;
     let mut scratch = String::new(alloc);
+    let program = Program {
+        templates: environment,
+        root: None,
+        rules: registry.rules(EXPRESSION),
+    };
     let value = run_expression(
         alloc,
-        registry.rules(EXPRESSION),
-        environment,
+        program,
         compiled.instructions(),
         &mut state,
         &mut left,

@@ -19,6 +19,8 @@ pub(crate) struct Extensions<E: Extension> {
     // In the order of their numbers, from that of the first one on.
     pub(crate) functions: Vec<E::Callable>,
     pub(crate) method: Option<E::Method>,
+    pub(crate) formatter: Option<E::Formatter>,
+    pub(crate) join: Option<E::Join>,
     pub(crate) rule: Option<E::Rule>,
 }
 
@@ -30,6 +32,8 @@ impl<E: Extension> Drop for Extensions<E> {
             tests: _,
             functions: _,
             method: _,
+            formatter: _,
+            join: _,
             rule: _,
         } = self;
     }
@@ -47,6 +51,8 @@ impl<E: Extension> Extensions<E> {
             tests: BTreeMap::new(alloc),
             functions: Vec::new(alloc),
             method: None,
+            formatter: None,
+            join: None,
             rule: None,
         }
     }

@@ -1,13 +1,20 @@
 //! What runs ask an environment.
 use crate::environment::Environment;
-use template_callables::{Answer, CallView, Callable, Callbacks, Extension, UnknownMethod};
+use crate::starting::unit;
+use std::borrow::CowStr;
+use template_callables::{
+    Answer, CallView, Callable, Callbacks, Extension, FormatAnswer, Formatter, PathJoin,
+    UnknownMethod, stated_fault,
+};
 use template_machine_renders::{Compiled, Templates};
 use template_values_core::Value;
+use template_values_errors::Error;
 
 impl<'source, E: Extension> Callbacks for Environment<'source, E> {
+    ghost use Rattle.template_environment.specs.Extras.{user_answers};
     ghost use Rattle.template_environment.specs.Reading.{callables_of};
 
-    ghost callables = { callables_of E.Callable.answer E.Method.answer };
+    ghost callables = { callables_of (user_answers E.Callable.answer E.Method.answer E.Formatter.answer E.Join.answer) };
 
     fn filter(&self, name: &str, view: &CallView<'_>, args: &[Value]) -> Option<Answer> {
         match self.extensions.filters.get(name) {
@@ -42,22 +49,45 @@ impl<'source, E: Extension> Callbacks for Environment<'source, E> {
             None => None,
         }
     }
+
+    fn formats(&self) -> bool {
+        match &self.extensions.formatter {
+            Some(_formatter) => true,
+            None => false,
+        }
+    }
+
+    fn format(&self, view: &CallView<'_>, value: &Value) -> Option<FormatAnswer> {
+        match &self.extensions.formatter {
+            Some(formatter) => Some(formatter.format(view, value)),
+            None => None,
+        }
+    }
 }
 
 impl<'source, E: Extension> Templates for Environment<'source, E> {
-    ghost use Rattle.template_environment.specs.Reading.{registry_of};
+    ghost use Rattle.template_environment.specs.Extras.{joins_by};
+    ghost use Rattle.template_environment.specs.Reading.{extras_of, registry_of};
     ghost use Rattle.template_environment.specs.Standing.{units_of};
 
     ghost standing = { λ e. units_of (registry_of e) };
 
+    ghost joins = { λ e. joins_by E.Join.answer (extras_of e).join };
+
     fn get(&self, name: &str) -> Option<Compiled<'_>> {
         match self.registry.templates.get(name) {
-            Some(template) => Some(Compiled {
-                name: template.name(),
-                code: template.instructions(),
-                escape: template.initial_auto_escape(),
-            }),
+            Some(template) => Some(unit(template)),
             None => None,
+        }
+    }
+
+    fn join<'a>(&self, name: &'a str, parent: &str) -> Result<CowStr<'a>, Error> {
+        match &self.extensions.join {
+            Some(join) => match join.join(name, parent) {
+                Ok(meant) => Ok(CowStr::Owned(meant)),
+                Err(error) => Err(stated_fault(error)),
+            },
+            None => Ok(CowStr::Borrowed(name)),
         }
     }
 }

@@ -1,5 +1,6 @@
 //! Laws of the templates and expressions of an environment, each as the contract of a function that does nothing.
-ghost use Rattle.std.specs.Prelude.{◌≡◌, ℕ};
+ghost use Rattle.std.specs.Prelude.{◌≡◌, ℕ, List};
+ghost use Rattle.std.specs.Option.{ForSome};
 ghost use Rattle.template_values_model.specs.Val.{Val};
 ghost use Rattle.template_process.specs.Approximants.{IsFinished};
 ghost use Rattle.template_machine_meaning.specs.Isolation.{AskNoNames};
@@ -8,14 +9,16 @@ ghost use Rattle.template_compiled.specs.Expressions.{HasExpression, expression_
 ghost use Rattle.template_compiled.specs.Plain.{IsPlain, text_kept};
 ghost use Rattle.template_compiled.specs.Sources.{HasTree};
 ghost use Rattle.template_environment.specs.Evaluations.{text_of};
-ghost use Rattle.template_environment.specs.Extras.{no_callable_says, no_method_says};
+ghost use Rattle.template_environment.specs.Extras.{no_answers, user_answers};
 ghost use Rattle.template_environment.specs.Isolated.{IsIsolated, tree_of};
 ghost use Rattle.template_environment.specs.Plain.{text_run};
 ghost use Rattle.template_environment.specs.Reading.{callables_of};
-ghost use Rattle.template_environment.specs.Views.{escape_of, globals_of, render_of, source_of};
+ghost use Rattle.template_environment.specs.States.{block_in, template_in};
+ghost use Rattle.template_environment.specs.Views.{globals_of, head_in, render_of, source_of};
 
 use crate::environment::Environment;
 use crate::expression::Expression;
+use crate::state::State;
 use crate::template::Template;
 use template_callables::Extension;
 use template_compiled::plain_text;
@@ -38,17 +41,33 @@ pub fn every_expression_runs<E: Extension>(expression: &Expression<'_, '_, E>)
 
 /// A law: each render of a template ends, in the state of whatever number, as its meaning is finished under some bound.
 pub fn every_render_ends<E: Extension>(template: &Template<'_, '_, E>)
-    ensures { (id : ℕ) (context : Val) → (n : ℕ) × IsFinished (render_of E.Callable.answer E.Method.answer template.now id n context).end }
+    ensures { (id : ℕ) (context : Val) → (n : ℕ) × IsFinished (render_of (user_answers E.Callable.answer E.Method.answer E.Formatter.answer E.Join.answer) template.now id n context).end }
 {
+    let _standing = template.environment.registry.templates.values();
     let _code = template.compiled.get().instructions();
+}
+
+/// A law: each call of a block in the state of a template ends, whatever the state holds: its meaning is finished under some
+/// bound.
+pub fn every_block_ends<E: Extension>(state: &State<'_, '_, E>)
+    ensures { ForSome (template_in state.now) (λ c. (block : List ℕ) →
+        (n : ℕ) × IsFinished (block_in (user_answers E.Callable.answer E.Method.answer E.Formatter.answer E.Join.answer) state.now block n).end) }
+{
+    let _standing = state.environment.registry.templates.values();
+    match state.template {
+        Some(template) => {
+            let _code = template.instructions();
+        }
+        None => {}
+    }
 }
 
 /// A law: a template in whose source no marker starts renders to its text, at the price of one step, and to nothing where
 /// that is empty.
 pub fn plain_renders<E: Extension>(template: &Template<'_, '_, E>)
-    ensures { IsPlain (source_of template.now) → (id n : ℕ) (context : Val) → render_of E.Callable.answer E.Method.answer template.now id n context
+    ensures { IsPlain (source_of template.now) → (id n : ℕ) (context : Val) → render_of (user_answers E.Callable.answer E.Method.answer E.Formatter.answer E.Join.answer) template.now id n context
         ≡ text_run (text_kept (source_of template.now))
-        (first_world id (globals_of template.now) (escape_of template.now) context) }
+        (first_world id (globals_of template.now) (head_in template.now) context) }
 {
     plain_text();
     let _code = template.compiled.get().instructions();
@@ -57,12 +76,12 @@ pub fn plain_renders<E: Extension>(template: &Template<'_, '_, E>)
 /// A law: where what the user brought asks for no names, contexts that agree at the names that can matter to a template make no
 /// difference to its renders.
 pub fn isolated_renders<E: Extension>(template: &Template<'_, '_, E>)
-    ensures { (context : Val) → IsIsolated E.Callable.answer E.Method.answer template.now context }
+    ensures { (context : Val) → IsIsolated (user_answers E.Callable.answer E.Method.answer E.Formatter.answer E.Join.answer) template.now context }
 {
     isolation();
 }
 
 /// A law: where nothing of a user's own can be brought, nothing that is asks for names.
 pub fn none_ask_names(_environment: &Environment<'_>)
-    ensures { AskNoNames (callables_of no_callable_says no_method_says _environment.now) }
+    ensures { AskNoNames (callables_of no_answers _environment.now) }
 {}

@@ -7,16 +7,18 @@ mod expression;
 mod extensions;
 mod hosting;
 mod laws;
+mod levels;
 mod names;
 mod registry;
+mod starting;
 mod state;
 mod template;
 
 pub use environment::Environment;
 pub use expression::Expression;
 pub use laws::{
-    every_expression_runs, every_render_ends, every_template_runs, isolated_renders,
-    none_ask_names, plain_renders,
+    every_block_ends, every_expression_runs, every_render_ends, every_template_runs,
+    isolated_renders, none_ask_names, plain_renders,
 };
 pub use registry::Registry;
 pub use state::State;

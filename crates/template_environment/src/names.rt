@@ -5,8 +5,9 @@ ghost use Rattle.template_values_errors.specs.Memory.{NoMemory};
 ghost use Rattle.template_values_model.specs.Val.{Val};
 ghost use Rattle.template_names.specs.Names.{IsTold};
 ghost use Rattle.template_machine_meaning.specs.Isolation.{AskNoNames, IsContextName, is_given};
+ghost use Rattle.template_environment.specs.Extras.{user_answers};
 ghost use Rattle.template_environment.specs.Isolated.{AgreeAmong, IsSameRenderIn, tree_of};
-ghost use Rattle.template_environment.specs.Reading.{callables_of, registry_of, setting_in};
+ghost use Rattle.template_environment.specs.Reading.{brought_of, callables_of, registry_of, setting_in};
 
 use crate::environment::Environment;
 use crate::template::Template;
@@ -19,9 +20,11 @@ use template_values_errors::Error;
 
 impl<'source, E: Extension> Environment<'source, E> {
     /// The names of a context that can matter to a render of a template of this environment: `caller`, `loop`,
-    /// `self`, `super`, and the names that it uses, or a template that stands. What a user brought may ask for others
+    /// `self`, `super`, and the names that it needs, or a template that stands: those that it uses, those that one of its
+    /// blocks uses by itself, and those that it imports from others. What a user brought may ask for others
     /// ([`Further::Lookup`](template_callables::Further::Lookup)): these are not among them. Reads the source of each once
-    /// more, in time linear in their length, and takes a look-up for each place of use.
+    /// more, in time linear in their length, and takes a look-up for each place of use, and once more for each block
+    /// around it.
     ///
     /// # Errors
     ///
@@ -31,11 +34,11 @@ impl<'source, E: Extension> Environment<'source, E> {
         template: &Template<'_, 'source, E>,
     ) -> Result<BTreeSet<String>, Error>
         ensures listed { IfOk result (λ names. (name : List ℕ) → IsTrue (contains_text names name)
-            ↔ IsContextName (setting_in E.Callable.answer E.Method.answer self.now) (tree_of template.now) name) }
+            ↔ IsContextName (setting_in (user_answers E.Callable.answer E.Method.answer E.Formatter.answer E.Join.answer) self.now) (tree_of template.now) name) }
 
         // Where what the user brought asks for no names, contexts that agree at these make no difference to its renders here.
-        ensures isolated { IfOk result (λ names. AskNoNames (callables_of E.Callable.answer E.Method.answer self.now) → (c d : Val) →
-            AgreeAmong names c d → IsSameRenderIn (callables_of E.Callable.answer E.Method.answer self.now) (registry_of self.now) template.now c d) }
+        ensures isolated { IfOk result (λ names. AskNoNames (callables_of (user_answers E.Callable.answer E.Method.answer E.Formatter.answer E.Join.answer) self.now) → (c d : Val) →
+            AgreeAmong names c d → IsSameRenderIn (brought_of (user_answers E.Callable.answer E.Method.answer E.Formatter.answer E.Join.answer) self.now) (registry_of self.now) template.now c d) }
         ensures refused { IfErr result NoMemory }
     {
         let alloc = self.allocator();

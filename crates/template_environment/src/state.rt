@@ -1,18 +1,35 @@
 //! States of templates, as callers see them.
-ghost use Rattle.std.specs.Prelude.{◌≡◌, ◌≢◌, ◌+◌, ◌∷◌, [], ℕ, List, IfOk, IfErr, OnOk, OnErr, Err, is_some, option_map};
+ghost use Rattle.std.specs.Prelude.{◌≡◌, ◌≢◌, ◌+◌, ◌∷◌, ◌⊎◌, [], ℕ, List, IfOk, IfErr, OnOk, OnErr, Some, Ok, Err, is_some, option_copied, option_map, string_bytes};
 ghost use Rattle.std.specs.BTreeSet.{contains_text};
 ghost use Rattle.template_values_errors.specs.Memory.{NoMemory};
-ghost use Rattle.template_values_named.specs.Named.{local_at, with_named};
+ghost use Rattle.template_values_named.specs.Named.{local_at};
+ghost use Rattle.template_process.specs.Approximants.{IsFinished};
+ghost use Rattle.template_process.specs.Fuel.{under};
+ghost use Rattle.template_machine_going.specs.Paying.{Paid};
+ghost use Rattle.template_machine_meaning.specs.Calls.{with_temps};
 ghost use Rattle.template_machine_meaning.specs.Functions.{filter_named, test_named};
 ghost use Rattle.template_machine_meaning.specs.World.{looked_up};
+ghost use Rattle.template_machine_calls.specs.Formatted.{outside};
 ghost use Rattle.template_machine_calls.specs.Left.{KeptInWant, Replied, truth_left, value_left};
+ghost use Rattle.template_machine_renders.specs.Joining.{told_name};
+ghost use Rattle.template_machine_renders.specs.Outcomes.{TellsFailures};
+ghost use Rattle.template_machine_renders.specs.Plans.{PutsBack};
+ghost use Rattle.template_machine_renders.specs.Renders.{Renders, leaves};
 ghost use Rattle.template_machine_state.specs.Names.{is_exported};
-ghost use Rattle.template_environment.specs.Renderings.{left_of, set_of};
+ghost use Rattle.template_environment.specs.Extras.{user_answers};
+ghost use Rattle.template_environment.specs.Reading.{registry_of};
+ghost use Rattle.template_environment.specs.Renderings.{GivesText, left_of, set_of};
 
 use crate::environment::Environment;
+use crate::levels::Levels;
+use crate::starting::{begun, own_name, program};
+use crate::template::Template;
 use std::collections::BTreeSet;
 use template_callables::{Extension, NoExtension};
-use template_machine_calls::{call_filter, call_test};
+use template_compiled::CompiledTemplate;
+use template_machine_calls::{call_filter, call_test, format_value};
+use template_machine_output::Sink;
+use template_machine_renders::{Templates, run_block};
 use template_machine_state::State as MachineState;
 use template_machine_surroundings::StateIds;
 use template_values_core::Value;
@@ -22,9 +39,11 @@ use template_values_errors::{AutoEscape, Error, ErrorKind, UndefinedBehavior};
 pub struct State<'env, 'source, E: Extension = NoExtension> {
     pub(crate) id: u64,
     pub(crate) environment: &'env Environment<'source, E>,
-    pub(crate) name: &'env str,
+    // The template of which it is a state, if it is one's.
+    pub(crate) template: Option<&'env CompiledTemplate<'source>>,
     pub(crate) machine: MachineState<'env>,
-    pub(crate) fuel: Option<(u64, u64)>,
+    // What was consumed of the fuel, and what remains of it.
+    pub(crate) fuel: Option<Levels>,
 }
 
 impl<'env, 'source, E: Extension> Drop for State<'env, 'source, E> {
@@ -32,7 +51,7 @@ impl<'env, 'source, E: Extension> Drop for State<'env, 'source, E> {
         let State {
             id: _,
             environment: _,
-            name: _,
+            template: _,
             machine: _,
             fuel: _,
         } = self;
@@ -40,21 +59,20 @@ impl<'env, 'source, E: Extension> Drop for State<'env, 'source, E> {
 }
 
 impl<'env, 'source, E: Extension> State<'env, 'source, E> {
-    ghost use Rattle.template_environment.specs.Standing.{settings_of};
-    ghost use Rattle.template_environment.specs.Reading.{registry_of};
-    ghost use Rattle.template_environment.specs.States.{KeepsRest, call_in, environment_in, frameless, fuel_left_in, fuel_set_in, id_in, name_in, world_in};
+    ghost use Rattle.template_environment.specs.Standing.{settings_of, source_at};
+    ghost use Rattle.template_environment.specs.States.{IsMissing, KeepsRest, KeepsState, block_in, call_in, environment_in, format_in, frameless, fuel_left_in, fuel_set_in, head_of_template, id_in, joined_in, name_in, template_in, text_left, world_in};
+    ghost use Rattle.template_environment.specs.Views.{environment_of, name_of, source_of};
 
-    // A state without frames, under a name and an escape, that has consumed no fuel.
+    // A state without frames, of a template if one is given, with its escape and blocks, that has consumed no fuel.
     pub(crate) fn without_frames(
         environment: &'env Environment<'source, E>,
-        name: &'env str,
-        escape: AutoEscape,
+        template: Option<&'env CompiledTemplate<'source>>,
         ids: &mut StateIds,
     ) -> Result<State<'env, 'source, E>, Error>
         ensures here { IfOk result (λ s. environment_in s ≡ environment.now) }
-        ensures named { IfOk result (λ s. name_in s ≡ name.now) }
+        ensures of_template { IfOk result (λ s. template_in s ≡ option_copied template.entry) }
         ensures world { IfOk result (λ s. world_in s
-            ≡ frameless ids.old (settings_of (registry_of environment.now)).globals escape) }
+            ≡ frameless ids.old (settings_of (registry_of environment.now)).globals (head_of_template (option_copied template.entry))) }
         ensures given { IfOk result (λ s. fuel_set_in s ≡ (registry_of environment.now).fuel) }
         ensures remains { IfOk result (λ s. fuel_left_in s ≡ (registry_of environment.now).fuel) }
         ensures id { IfOk result (λ s. id_in s ≡ ids.old) }
@@ -63,19 +81,12 @@ impl<'env, 'source, E: Extension> State<'env, 'source, E> {
         ensures exhausted { ids.old ≡ u64.MAX → (result ≡ Err (ErrorKind.InvalidOperation ∷ [])) × (ids.new ≡ ids.old) }
     {
         let id = ids.next()?;
-        let mut machine: MachineState<'env> = MachineState::new(
-            environment.allocator(),
-            id,
-            &environment.registry.globals,
-            escape,
-            Value::undefined(),
-        )?;
-        machine.close_frame();
+        let machine = begun(id, environment, template, Value::undefined())?;
         Ok(State {
             id,
             environment,
-            name,
-            machine,
+            template,
+            machine: machine.without_frames(),
             fuel: unspent(environment.fuel()),
         })
     }
@@ -94,11 +105,19 @@ impl<'env, 'source, E: Extension> State<'env, 'source, E> {
         self.environment
     }
 
-    /// The name of its template.
-    pub fn name(&self) -> &'env str
+    /// The name of the template whose text ran last: its own, or that of the template that it extends; of a state without a
+    /// template `<unknown>`.
+    pub fn name(&self) -> &str
         ensures { result.now ≡ name_in self.now }
     {
-        self.name
+        self.machine.here_name(own_name(self.template))
+    }
+
+    /// The block that runs: none does between calls.
+    pub fn current_block(&self) -> Option<&'env str>
+        ensures { option_copied result ≡ (world_in self.now).block }
+    {
+        self.machine.block()
     }
 
     /// The escape in force.
@@ -166,13 +185,13 @@ impl<'env, 'source, E: Extension> State<'env, 'source, E> {
     /// it asks for; [`ErrorKind::InvalidOperation`] where more is asked for at once than there are levels left, and in the
     /// place of a fault with one of the machine's own kinds; [`ErrorKind::OutOfMemory`]. Some temps may then have been set.
     pub fn apply_filter(&mut self, name: &str, args: &[Value]) -> Result<Value, Error>
-        ensures told { Replied value_left (call_in E.Callable.answer E.Method.answer self.old (filter_named name.now) args.now)
+        ensures told { Replied value_left (call_in (user_answers E.Callable.answer E.Method.answer E.Formatter.answer E.Join.answer) self.old (filter_named name.now) args.now)
             result (world_in self.new) }
         ensures temps { KeptInWant result (world_in self.old) (world_in self.new) }
         ensures rest { KeepsRest self.old self.new }
     {
         let environment = self.environment;
-        let rules = environment.registry.rules(self.name);
+        let rules = environment.registry.rules(own_name(self.template));
         let alloc = environment.allocator();
         call_filter(alloc, rules, environment, name, args, &mut self.machine)
     }
@@ -184,13 +203,13 @@ impl<'env, 'source, E: Extension> State<'env, 'source, E> {
     ///
     /// [`ErrorKind::UnknownTest`] where the environment has none of this name; else as [`State::apply_filter`].
     pub fn perform_test(&mut self, name: &str, args: &[Value]) -> Result<bool, Error>
-        ensures told { Replied truth_left (call_in E.Callable.answer E.Method.answer self.old (test_named name.now) args.now)
+        ensures told { Replied truth_left (call_in (user_answers E.Callable.answer E.Method.answer E.Formatter.answer E.Join.answer) self.old (test_named name.now) args.now)
             result (world_in self.new) }
         ensures temps { KeptInWant result (world_in self.old) (world_in self.new) }
         ensures rest { KeepsRest self.old self.new }
     {
         let environment = self.environment;
-        let rules = environment.registry.rules(self.name);
+        let rules = environment.registry.rules(own_name(self.template));
         let alloc = environment.allocator();
         call_test(alloc, rules, environment, name, args, &mut self.machine)
     }
@@ -218,8 +237,7 @@ impl<'env, 'source, E: Extension> State<'env, 'source, E> {
     ///
     /// [`ErrorKind::OutOfMemory`]; the temps are then as before.
     pub fn set_temp(&mut self, name: &str, value: Value) -> Result<Option<Value>, Error>
-        ensures set { OnOk result (world_in self.new
-            ≡ record (world_in self.old) { temps = with_named name.now value (world_in self.old).temps }) }
+        ensures set { OnOk result (world_in self.new ≡ with_temps ((name.now, value) ∷ []) (world_in self.old)) }
         ensures replaced { IfOk result (λ replaced. replaced ≡ local_at name.now (world_in self.old).temps) }
         ensures rest { KeepsRest self.old self.new }
         ensures refused { IfErr result NoMemory }
@@ -229,22 +247,161 @@ impl<'env, 'source, E: Extension> State<'env, 'source, E> {
         self.machine.set_temp(alloc, name, value)
     }
 
+    /// The text that a value is printed as: as the environment's formatter says, or under the escape in force where there is none.
+    /// Costs what the formatter costs, and is linear in the text.
+    ///
+    /// # Errors
+    ///
+    /// [`ErrorKind::UndefinedError`] where an undefined value may not be printed; the fault that the formatter answers with,
+    /// or [`ErrorKind::InvalidOperation`] in the place of a fault with one of the machine's own kinds; what the escape
+    /// refuses the value with; [`ErrorKind::OutOfMemory`].
+    pub fn format(&self, value: &Value) -> Result<String, Error>
+        ensures { Replied text_left (format_in (user_answers E.Callable.answer E.Method.answer E.Formatter.answer E.Join.answer) self.now value.now) result (outside (world_in self.now)) }
+    {
+        let environment = self.environment;
+        let rules = environment.registry.rules(own_name(self.template));
+        format_value(
+            environment.allocator(),
+            rules,
+            environment,
+            &self.machine,
+            value,
+        )
+    }
+
+    /// The template that a name means where it stands in the template of this state's name. Takes a look-up among the names.
+    ///
+    /// # Errors
+    ///
+    /// [`ErrorKind::TemplateNotFound`] where none stands; the fault of the environment's path join callback, or
+    /// [`ErrorKind::InvalidOperation`] in the place of a fault with one of the machine's own kinds; [`ErrorKind::OutOfMemory`].
+    pub fn get_template(&self, name: &str) -> Result<Template<'env, 'source, E>, Error>
+        ensures found { IfOk result (λ t. joined_in (user_answers E.Callable.answer E.Method.answer E.Formatter.answer E.Join.answer) self.now name.now ≡ Ok (name_of t)) }
+        ensures stands { IfOk result (λ t. source_at (registry_of (environment_in self.now)) (name_of t) ≡ Some (source_of t)) }
+        ensures here { IfOk result (λ t. environment_of t ≡ environment_in self.now) }
+        ensures missing { IfErr result (λ kinds. NoMemory kinds
+            ⊎ IsMissing (registry_of (environment_in self.now)) (told_name (joined_in (user_answers E.Callable.answer E.Method.answer E.Formatter.answer E.Join.answer) self.now name.now)) kinds) }
+    {
+        let environment = self.environment;
+        let joined = environment.join(name, self.name())?;
+        environment.get_template(joined.as_str())
+    }
+
+    /// The text of a block of the template, or of one that it extends, over what its frames hold: as a call of the block in the
+    /// template gives it, but also where what is written there is dropped. The fuel that remains is consumed on. Linear in
+    /// the instructions that it runs and in its text, besides what operators and calls cost.
+    ///
+    /// # Errors
+    ///
+    /// As [`State::render_block_to_write`], but never [`ErrorKind::WriteFailure`].
+    pub fn render_block(&mut self, block: &str) -> Result<String, Error>
+        // Under each bound where its meaning is finished, its text is the one that the call gives.
+        ensures text { let ran = block_in (user_answers E.Callable.answer E.Method.answer E.Formatter.answer E.Join.answer) self.old block.now in
+            (n : ℕ) → IsFinished (ran n).end → GivesText (λ text. string_bytes text) result (under (fuel_left_in self.old) (ran n)) }
+        ensures remains { let ran = block_in (user_answers E.Callable.answer E.Method.answer E.Formatter.answer E.Join.answer) self.old block.now in
+            OnOk result ((n : ℕ) → IsFinished (ran n).end → fuel_left_in self.new ≡ leaves (fuel_left_in self.old) (ran n)) }
+        ensures world { let ran = block_in (user_answers E.Callable.answer E.Method.answer E.Formatter.answer E.Join.answer) self.old block.now in
+            OnOk result ((n : ℕ) → IsFinished (ran n).end → world_in self.new ≡ (under (fuel_left_in self.old) (ran n)).after) }
+
+        // Whatever its end, what was open stays so.
+        ensures put_back { PutsBack (world_in self.old) (world_in self.new) }
+        ensures no_write_failure { IfErr result (λ kinds. kinds ≢ ErrorKind.WriteFailure ∷ []) }
+        ensures rest { KeepsState self.old self.new }
+    {
+        let mut text = String::new(self.environment.allocator());
+        self.render_block_to_write(block, &mut text)?;
+        Ok(text)
+    }
+
+    /// The same into a sink, in one or more pieces.
+    ///
+    /// # Errors
+    ///
+    /// [`ErrorKind::UnknownBlock`] where there is no block of this name; [`ErrorKind::InvalidOperation`] where its only body
+    /// requires another, and where no level is left; the fault that the block ends with, as [`ErrorKind::OutOfFuel`]: the
+    /// text before it is then in the sink. [`ErrorKind::OutOfMemory`] where a growth was refused, and
+    /// [`ErrorKind::WriteFailure`] where the sink failed; it has then taken a beginning of the text. Frames, captures, the
+    /// escape and the block that runs are then as before; temps, and what the block loaded, stay.
+    pub fn render_block_to_write<S: Sink>(&mut self, block: &str, sink: &mut S) -> Result<(), Error>
+        // Under each bound where its meaning is finished, its text is the one that goes into the sink.
+        ensures renders { let ran = block_in (user_answers E.Callable.answer E.Method.answer E.Formatter.answer E.Join.answer) self.old block.now in
+            (n : ℕ) → IsFinished (ran n).end → Renders result (S.taken sink.old) (S.taken sink.new) (under (fuel_left_in self.old) (ran n)) }
+        ensures remains { let ran = block_in (user_answers E.Callable.answer E.Method.answer E.Formatter.answer E.Join.answer) self.old block.now in
+            OnOk result ((n : ℕ) → IsFinished (ran n).end → fuel_left_in self.new ≡ leaves (fuel_left_in self.old) (ran n)) }
+        ensures world { let ran = block_in (user_answers E.Callable.answer E.Method.answer E.Formatter.answer E.Join.answer) self.old block.now in
+            OnOk result ((n : ℕ) → IsFinished (ran n).end → world_in self.new ≡ (under (fuel_left_in self.old) (ran n)).after) }
+
+        // Whatever its end, what was open stays so.
+        ensures put_back { PutsBack (world_in self.old) (world_in self.new) }
+        ensures failures { TellsFailures result (S.failures sink.old) (S.failures sink.new) }
+        ensures rest { KeepsState self.old self.new }
+    {
+        let environment = self.environment;
+        let alloc = environment.allocator();
+        let mut left = remaining(self.fuel);
+        let mut scratch = String::new(alloc);
+        let done = run_block(
+            alloc,
+            program(environment, self.template),
+            block,
+            &mut self.machine,
+            &mut left,
+            &mut scratch,
+            sink,
+        );
+        self.fuel = spend(self.fuel, left);
+        done
+    }
+
     /// What was consumed of the fuel and what remains of it, where one was set.
     pub fn fuel_levels(&self) -> Option<(u64, u64)>
         ensures remaining { option_map (λ levels. levels.1) result ≡ fuel_left_in self.now }
         ensures sum { option_map (λ levels. levels.0 + levels.1) result ≡ fuel_set_in self.now }
     {
-        self.fuel
+        match self.fuel {
+            Some(levels) => Some((levels.consumed, levels.remaining)),
+            None => None,
+        }
     }
 }
 
 // The levels of a fuel of which nothing was consumed.
-fn unspent(fuel: Option<u64>) -> Option<(u64, u64)>
+pub(crate) fn unspent(fuel: Option<u64>) -> Option<Levels>
     ensures set { set_of result ≡ fuel }
     ensures left { left_of result ≡ fuel }
 {
     match fuel {
-        Some(fuel) => Some((0, fuel)),
+        Some(fuel) => Some(Levels {
+            consumed: 0,
+            remaining: fuel,
+        }),
         None => None,
+    }
+}
+
+// What is left of a fuel.
+fn remaining(levels: Option<Levels>) -> Option<u64>
+    ensures { result ≡ left_of levels }
+{
+    match levels {
+        Some(levels) => Some(levels.remaining),
+        None => None,
+    }
+}
+
+// The levels of a fuel of which so much is left now: no more than was.
+pub(crate) fn spend(levels: Option<Levels>, left: Option<u64>) -> Option<Levels>
+    ensures set { set_of result ≡ set_of levels }
+    ensures left { (price : ℕ) → Paid price (left_of levels) left → left_of result ≡ left }
+{
+    match (levels, left) {
+        (Some(levels), Some(left)) => {
+            let remaining = left.min(levels.remaining);
+            Some(Levels {
+                consumed: levels.consumed + (levels.remaining - remaining),
+                remaining,
+            })
+        }
+        _ => levels,
     }
 }

@@ -1,5 +1,5 @@
 //! Templates of an environment, and what a render leaves.
-ghost use Rattle.std.specs.Prelude.{◌≡◌, ◌≢◌, ◌+◌, ◌∷◌, [], ℕ, IfOk, IfErr, Err, option_map, string_bytes};
+ghost use Rattle.std.specs.Prelude.{◌≡◌, ◌≢◌, ◌+◌, ◌∷◌, [], ℕ, Some, IfOk, IfErr, Err, option_map, string_bytes};
 ghost use Rattle.template_values_errors.specs.Memory.{NoMemory};
 ghost use Rattle.template_process.specs.Approximants.{IsFinished};
 ghost use Rattle.template_process.specs.Fuel.{under};
@@ -7,19 +7,20 @@ ghost use Rattle.template_machine_surroundings.specs.Rule.{IsEscapeOf};
 ghost use Rattle.template_machine_renders.specs.Outcomes.{TellsFailures};
 ghost use Rattle.template_machine_renders.specs.Renders.{Renders, leaves};
 ghost use Rattle.template_compiled.specs.Plain.{IsPlain, text_kept};
+ghost use Rattle.template_environment.specs.Extras.{user_answers};
 ghost use Rattle.template_environment.specs.Plain.{GivesItself, WritesItself};
 ghost use Rattle.template_environment.specs.Reading.{registry_of};
-ghost use Rattle.template_environment.specs.Renderings.{GivesText, left_of, rendering_in, set_of};
+ghost use Rattle.template_environment.specs.Renderings.{GivesText, rendering_in};
+ghost use Rattle.template_environment.specs.States.{environment_in, fuel_left_in, fuel_set_in, id_in, template_in, world_in};
 
 use crate::environment::Environment;
 use crate::laws::{isolated_renders, plain_renders};
-use crate::state::State;
+use crate::starting::{begun_with, program};
+use crate::state::{State, spend, unspent};
 use template_callables::{Extension, NoExtension};
 use template_compiled::CompiledTemplate;
-use template_machine_fuel::levels;
 use template_machine_output::Sink;
-use template_machine_renders::run_code;
-use template_machine_state::State as MachineState;
+use template_machine_renders::run_template;
 use template_machine_surroundings::StateIds;
 use template_values_core::Value;
 use template_values_errors::{AutoEscape, Error, ErrorKind};
@@ -77,8 +78,8 @@ impl<'env, 'source, E: Extension> Drop for Captured<'env, 'source, E> {
 
 impl<'env, 'source, E: Extension> Template<'env, 'source, E> {
     ghost use Rattle.template_environment.specs.Isolated.{IsIsolated};
-    ghost use Rattle.template_environment.specs.Views.{environment_of, escape_of, fuel_left, fuel_of, fuel_set, globals_of, id_of, name_of, output_of, render_of, source_of, state_of, world_of};
-    ghost use Rattle.template_environment.specs.States.{environment_in, frameless, fuel_left_in, fuel_set_in, id_in, name_in, world_in};
+    ghost use Rattle.template_environment.specs.Views.{compiled_of, environment_of, escape_of, fuel_left, fuel_of, fuel_set, globals_of, head_in, id_of, name_of, output_of, render_of, source_of, state_of, world_of};
+    ghost use Rattle.template_environment.specs.States.{frameless};
 
     /// The template's name.
     pub fn name(&self) -> &str
@@ -102,15 +103,15 @@ impl<'env, 'source, E: Extension> Template<'env, 'source, E> {
         self.compiled.get().initial_auto_escape()
     }
 
-    /// A state of the template without frames, under its name and escape.
+    /// A state of the template without frames, under its name and escape, and with its blocks.
     ///
     /// # Errors
     ///
     /// [`ErrorKind::OutOfMemory`]; [`ErrorKind::InvalidOperation`] where no state id is left.
     pub fn new_state(&self, ids: &mut StateIds) -> Result<State<'_, 'source, E>, Error>
         ensures here { IfOk result (λ s. environment_in s ≡ environment_of self.now) }
-        ensures named { IfOk result (λ s. name_in s ≡ name_of self.now) }
-        ensures world { IfOk result (λ s. world_in s ≡ frameless ids.old (globals_of self.now) (escape_of self.now)) }
+        ensures of_template { IfOk result (λ s. template_in s ≡ Some (compiled_of self.now)) }
+        ensures world { IfOk result (λ s. world_in s ≡ frameless ids.old (globals_of self.now) (head_in self.now)) }
         ensures given { IfOk result (λ s. fuel_set_in s ≡ fuel_of self.now) }
         ensures remains { IfOk result (λ s. fuel_left_in s ≡ fuel_of self.now) }
         ensures id { IfOk result (λ s. id_in s ≡ ids.old) }
@@ -118,12 +119,7 @@ impl<'env, 'source, E: Extension> Template<'env, 'source, E> {
         ensures counted { ids.old ≢ u64.MAX → ids.new ≡ ids.old + 1 }
         ensures exhausted { ids.old ≡ u64.MAX → (result ≡ Err (ErrorKind.InvalidOperation ∷ [])) × (ids.new ≡ ids.old) }
     {
-        State::without_frames(
-            self.environment,
-            self.name(),
-            self.initial_auto_escape(),
-            ids,
-        )
+        State::without_frames(self.environment, Some(self.compiled.get()), ids)
     }
 
     /// The text of a render of the template over a context, under the escape of its name and the fuel of its
@@ -134,15 +130,16 @@ impl<'env, 'source, E: Extension> Template<'env, 'source, E> {
     /// As [`Template::render_captured`].
     pub fn render(&self, ids: &mut StateIds, context: Value) -> Result<String, Error>
         // Under each bound where its meaning is finished, its text is the one that the call gives.
-        ensures text { ids.old ≢ u64.MAX → (n : ℕ) → IsFinished (render_of E.Callable.answer E.Method.answer self.now ids.old n context).end →
-            GivesText (λ text. string_bytes text) result (under (fuel_of self.now) (render_of E.Callable.answer E.Method.answer self.now ids.old n context)) }
+        ensures text { let ran = render_of (user_answers E.Callable.answer E.Method.answer E.Formatter.answer E.Join.answer) self.now ids.old in
+            ids.old ≢ u64.MAX → (n : ℕ) → IsFinished (ran n context).end →
+            GivesText (λ text. string_bytes text) result (under (fuel_of self.now) (ran n context)) }
 
         // Where no marker starts in its source, that is its text.
         ensures plain { ids.old ≢ u64.MAX → IsPlain (source_of self.now) →
             GivesItself (fuel_of self.now) (text_kept (source_of self.now)) (λ text. string_bytes text) result }
 
         // Where what the user brought asks for no names, contexts that agree at those that can matter make no difference.
-        ensures isolated { IsIsolated E.Callable.answer E.Method.answer self.now context }
+        ensures isolated { IsIsolated (user_answers E.Callable.answer E.Method.answer E.Formatter.answer E.Join.answer) self.now context }
         ensures no_write_failure { IfErr result (λ kinds. kinds ≢ ErrorKind.WriteFailure ∷ []) }
         ensures counted { ids.old ≢ u64.MAX → ids.new ≡ ids.old + 1 }
         ensures exhausted { ids.old ≡ u64.MAX → (result ≡ Err (ErrorKind.InvalidOperation ∷ [])) × (ids.new ≡ ids.old) }
@@ -167,23 +164,26 @@ impl<'env, 'source, E: Extension> Template<'env, 'source, E> {
         context: Value,
     ) -> Result<Captured<'_, 'source, E>, Error>
         // Under each bound where its meaning is finished, its text is the one that the call gives.
-        ensures text { ids.old ≢ u64.MAX → (n : ℕ) → IsFinished (render_of E.Callable.answer E.Method.answer self.now ids.old n context).end →
-            GivesText output_of result (under (fuel_of self.now) (render_of E.Callable.answer E.Method.answer self.now ids.old n context)) }
-        ensures remains { IfOk result (λ captured. (n : ℕ) → IsFinished (render_of E.Callable.answer E.Method.answer self.now ids.old n context).end →
-            fuel_left captured ≡ leaves (fuel_of self.now) (render_of E.Callable.answer E.Method.answer self.now ids.old n context)) }
-        ensures world { IfOk result (λ captured. (n : ℕ) → IsFinished (render_of E.Callable.answer E.Method.answer self.now ids.old n context).end →
-            world_of captured ≡ (under (fuel_of self.now) (render_of E.Callable.answer E.Method.answer self.now ids.old n context)).after) }
+        ensures text { let ran = render_of (user_answers E.Callable.answer E.Method.answer E.Formatter.answer E.Join.answer) self.now ids.old in
+            ids.old ≢ u64.MAX → (n : ℕ) → IsFinished (ran n context).end →
+            GivesText output_of result (under (fuel_of self.now) (ran n context)) }
+        ensures remains { let ran = render_of (user_answers E.Callable.answer E.Method.answer E.Formatter.answer E.Join.answer) self.now ids.old in
+            IfOk result (λ captured. (n : ℕ) → IsFinished (ran n context).end →
+            fuel_left captured ≡ leaves (fuel_of self.now) (ran n context)) }
+        ensures world { let ran = render_of (user_answers E.Callable.answer E.Method.answer E.Formatter.answer E.Join.answer) self.now ids.old in
+            IfOk result (λ captured. (n : ℕ) → IsFinished (ran n context).end →
+            world_of captured ≡ (under (fuel_of self.now) (ran n context)).after) }
 
         // Where no marker starts in its source, that is its text.
         ensures plain { ids.old ≢ u64.MAX → IsPlain (source_of self.now) →
             GivesItself (fuel_of self.now) (text_kept (source_of self.now)) output_of result }
 
         // Where what the user brought asks for no names, contexts that agree at those that can matter make no difference.
-        ensures isolated { IsIsolated E.Callable.answer E.Method.answer self.now context }
+        ensures isolated { IsIsolated (user_answers E.Callable.answer E.Method.answer E.Formatter.answer E.Join.answer) self.now context }
         ensures no_write_failure { IfErr result (λ kinds. kinds ≢ ErrorKind.WriteFailure ∷ []) }
         ensures given { IfOk result (λ captured. fuel_set captured ≡ fuel_of self.now) }
         ensures here { IfOk result (λ captured. environment_in (state_of captured) ≡ environment_of self.now) }
-        ensures named { IfOk result (λ captured. name_in (state_of captured) ≡ name_of self.now) }
+        ensures of_template { IfOk result (λ captured. template_in (state_of captured) ≡ Some (compiled_of self.now)) }
         ensures id { IfOk result (λ captured. id_of captured ≡ ids.old) }
         ensures counted { ids.old ≢ u64.MAX → ids.new ≡ ids.old + 1 }
         ensures exhausted { ids.old ≡ u64.MAX → (result ≡ Err (ErrorKind.InvalidOperation ∷ [])) × (ids.new ≡ ids.old) }
@@ -192,23 +192,14 @@ impl<'env, 'source, E: Extension> Template<'env, 'source, E> {
         plain_renders(self);
         let id = ids.next()?;
         let mut output = String::new(self.environment.allocator());
-        let (machine, fuel) = run(
+        let state = run(
             self.environment,
             id,
             self.compiled.get(),
             context,
             &mut output,
         )?;
-        Ok(Captured {
-            output,
-            state: State {
-                id,
-                environment: self.environment,
-                name: self.name(),
-                machine,
-                fuel,
-            },
-        })
+        Ok(Captured { output, state })
     }
 
     /// Renders the template over a context, under the escape of its name and the fuel of its environment, and
@@ -228,24 +219,27 @@ impl<'env, 'source, E: Extension> Template<'env, 'source, E> {
         sink: &mut S,
     ) -> Result<Captured<'_, 'source, E>, Error>
         // Under each bound where its meaning is finished, it is what the call does.
-        ensures renders { ids.old ≢ u64.MAX → (n : ℕ) → IsFinished (render_of E.Callable.answer E.Method.answer self.now ids.old n context).end →
+        ensures renders { let ran = render_of (user_answers E.Callable.answer E.Method.answer E.Formatter.answer E.Join.answer) self.now ids.old in
+            ids.old ≢ u64.MAX → (n : ℕ) → IsFinished (ran n context).end →
             Renders result (S.taken sink.old) (S.taken sink.new)
-            (under (fuel_of self.now) (render_of E.Callable.answer E.Method.answer self.now ids.old n context)) }
-        ensures remains { IfOk result (λ captured. (n : ℕ) → IsFinished (render_of E.Callable.answer E.Method.answer self.now ids.old n context).end →
-            fuel_left captured ≡ leaves (fuel_of self.now) (render_of E.Callable.answer E.Method.answer self.now ids.old n context)) }
-        ensures world { IfOk result (λ captured. (n : ℕ) → IsFinished (render_of E.Callable.answer E.Method.answer self.now ids.old n context).end →
-            world_of captured ≡ (under (fuel_of self.now) (render_of E.Callable.answer E.Method.answer self.now ids.old n context)).after) }
+            (under (fuel_of self.now) (ran n context)) }
+        ensures remains { let ran = render_of (user_answers E.Callable.answer E.Method.answer E.Formatter.answer E.Join.answer) self.now ids.old in
+            IfOk result (λ captured. (n : ℕ) → IsFinished (ran n context).end →
+            fuel_left captured ≡ leaves (fuel_of self.now) (ran n context)) }
+        ensures world { let ran = render_of (user_answers E.Callable.answer E.Method.answer E.Formatter.answer E.Join.answer) self.now ids.old in
+            IfOk result (λ captured. (n : ℕ) → IsFinished (ran n context).end →
+            world_of captured ≡ (under (fuel_of self.now) (ran n context)).after) }
 
         // Where no marker starts in its source, that is its text.
         ensures plain { ids.old ≢ u64.MAX → IsPlain (source_of self.now) →
             WritesItself (fuel_of self.now) (text_kept (source_of self.now)) (S.taken sink.old) (S.taken sink.new) result }
 
         // Where what the user brought asks for no names, contexts that agree at those that can matter make no difference.
-        ensures isolated { IsIsolated E.Callable.answer E.Method.answer self.now context }
+        ensures isolated { IsIsolated (user_answers E.Callable.answer E.Method.answer E.Formatter.answer E.Join.answer) self.now context }
         ensures failures { ids.old ≢ u64.MAX → TellsFailures result (S.failures sink.old) (S.failures sink.new) }
         ensures given { IfOk result (λ captured. fuel_set captured ≡ fuel_of self.now) }
         ensures here { IfOk result (λ captured. environment_in (state_of captured) ≡ environment_of self.now) }
-        ensures named { IfOk result (λ captured. name_in (state_of captured) ≡ name_of self.now) }
+        ensures of_template { IfOk result (λ captured. template_in (state_of captured) ≡ Some (compiled_of self.now)) }
         ensures id { IfOk result (λ captured. id_of captured ≡ ids.old) }
         ensures output { IfOk result (λ captured. output_of captured ≡ []) }
         ensures counted { ids.old ≢ u64.MAX → ids.new ≡ ids.old + 1 }
@@ -255,62 +249,56 @@ impl<'env, 'source, E: Extension> Template<'env, 'source, E> {
         isolated_renders(self);
         plain_renders(self);
         let id = ids.next()?;
-        let (machine, fuel) = run(self.environment, id, self.compiled.get(), context, sink)?;
+        let state = run(self.environment, id, self.compiled.get(), context, sink)?;
         Ok(Captured {
             output: String::new(self.environment.allocator()),
-            state: State {
-                id,
-                environment: self.environment,
-                name: self.name(),
-                machine,
-                fuel,
-            },
+            state,
         })
     }
 }
 
-// Runs the code of a template over a context, in the state of a number, and tells the state that it left and what it took
-// of its fuel.
+// Runs the code of a template over a context, in the state of a number, with the templates that it extends, and gives the state
+// that it left.
 fn run<'env, 'source, E: Extension, S: Sink>(
     environment: &'env Environment<'source, E>,
     id: u64,
     compiled: &'env CompiledTemplate<'source>,
     context: Value,
     sink: &mut S,
-) -> Result<(MachineState<'env>, Option<(u64, u64)>), Error>
-    ensures renders { let ran = rendering_in E.Callable.answer E.Method.answer environment.now id compiled.now in
+) -> Result<State<'env, 'source, E>, Error>
+    ensures renders { let ran = rendering_in (user_answers E.Callable.answer E.Method.answer E.Formatter.answer E.Join.answer) environment.now id compiled.now in
         (n : ℕ) → IsFinished (ran n context).end →
         Renders result (S.taken sink.old) (S.taken sink.new) (under (registry_of environment.now).fuel (ran n context)) }
-    ensures left { let ran = rendering_in E.Callable.answer E.Method.answer environment.now id compiled.now in
-        IfOk result (λ r. (n : ℕ) → IsFinished (ran n context).end → left_of r.1 ≡ leaves (registry_of environment.now).fuel (ran n context)) }
-    ensures world { let ran = rendering_in E.Callable.answer E.Method.answer environment.now id compiled.now in
-        IfOk result (λ r. (n : ℕ) → IsFinished (ran n context).end → r.0 ≡ (under (registry_of environment.now).fuel (ran n context)).after) }
+    ensures remains { let ran = rendering_in (user_answers E.Callable.answer E.Method.answer E.Formatter.answer E.Join.answer) environment.now id compiled.now in
+        IfOk result (λ s. (n : ℕ) → IsFinished (ran n context).end → fuel_left_in s ≡ leaves (registry_of environment.now).fuel (ran n context)) }
+    ensures world { let ran = rendering_in (user_answers E.Callable.answer E.Method.answer E.Formatter.answer E.Join.answer) environment.now id compiled.now in
+        IfOk result (λ s. (n : ℕ) → IsFinished (ran n context).end → world_in s ≡ (under (registry_of environment.now).fuel (ran n context)).after) }
     ensures failures { TellsFailures result (S.failures sink.old) (S.failures sink.new) }
-    ensures set { IfOk result (λ r. set_of r.1 ≡ (registry_of environment.now).fuel) }
+    ensures given { IfOk result (λ s. fuel_set_in s ≡ (registry_of environment.now).fuel) }
+    ensures here { IfOk result (λ s. environment_in s ≡ environment.now) }
+    ensures of_template { IfOk result (λ s. template_in s ≡ Some compiled.now) }
+    ensures id { IfOk result (λ s. id_in s ≡ id) }
 {
-    let registry = &environment.registry;
-    let alloc = registry.alloc;
-    let mut state: MachineState<'env> = MachineState::new(
-        alloc,
-        id,
-        &registry.globals,
-        compiled.initial_auto_escape(),
-        context,
-    )?;
-    let fuel = registry.fuel;
+    let alloc = environment.allocator();
+    let mut machine = begun_with(id, environment, compiled, context)?;
+    let fuel = environment.registry.fuel;
     let mut left = fuel;
     let mut scratch = String::new(alloc);
-    run_code(
+    run_template(
         alloc,
-        registry.rules(compiled.name()),
-        environment,
-        compiled.instructions(),
-        &mut state,
+        program(environment, Some(compiled)),
+        &mut machine,
         &mut left,
         &mut scratch,
         sink,
     )?;
-    Ok((state, levels(fuel, left)))
+    Ok(State {
+        id,
+        environment,
+        template: Some(compiled),
+        machine,
+        fuel: spend(unspent(fuel), left),
+    })
 }
 
 impl<'env, 'source, E: Extension> Captured<'env, 'source, E> {
@@ -336,6 +324,14 @@ impl<'env, 'source, E: Extension> Captured<'env, 'source, E> {
         ensures { result.now ≡ state_of self.now }
     {
         &self.state
+    }
+
+    /// The state that the render left, without all else: blocks can be rendered in it, and filters and tests called.
+    pub fn into_state(self) -> State<'env, 'source, E>
+        ensures { result ≡ state_of self.entry }
+    {
+        let Captured { output: _, state } = self;
+        state
     }
 
     /// The number of the render.

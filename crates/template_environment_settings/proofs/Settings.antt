@@ -72,7 +72,8 @@ one_setting brought others e other alike = λ i. record {
   templates = λ name. one_standing name (compiled_at e.templates name) (compiled_at other.templates name) (alike.sources name)
       (e.templates.named name) (other.templates.named name) (e.escaped name) (other.escaped name) i;
   globals = alike.globals i;
-  callables = alike.callables i;
+  joins = (alike.users i).joins;
+  callables = (alike.users i).callables;
   limit = alike.limit i;
   undefined = alike.undefined i;
 }

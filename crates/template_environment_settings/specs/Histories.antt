@@ -1,11 +1,10 @@
 -- Histories of environments that agree on each name.
 use Rattle.std.specs.Prelude.{◌≡◌, ℕ, List}
-use Rattle.template_callables.specs.Callables.{Says}
 use Rattle.template_environment.specs.Sources.{Source}
 use Rattle.template_environment_histories.specs.Histories.{Change, LeadsThrough}
 use Rattle.template_environment_histories.specs.Laws.{AgreeOn}
-use Rattle.template_environment.specs.Extras.{MethodsSay}
-use Rattle.template_environment.specs.Reading.{callables_of, registry_of, setting_in}
+use Rattle.template_environment.specs.Extras.{UserAnswers}
+use Rattle.template_environment.specs.Reading.{brought_of, registry_of, setting_in}
 use Rattle.template_environment.specs.Standing.{settings_of, source_at}
 use Rattle.template_environment.specs.declared.environment.Environment.{Environment}
 use Rattle.template_environment_settings.specs.Alike.{RenderTheSame}
@@ -17,8 +16,8 @@ module _ {E C M F J R : Type 0} where
 
 -- Two histories, from one environment to another each, that agree on each name: the last change that touches it says the same in
 -- both; or none touches it in either, and the same stood there before. Behind them both environments have the same globals, are
--- answered the same where they call what their users brought, keep to the same limit and let undefined values do the same.
-pub record AgreeingHistories {E C M F J R : Type 0} (says : C → Says) (methods : MethodsSay M) (old new other_old other_new : Environment E C M F J R)
+-- answered the same where they ask what their users brought, keep to the same limit and let undefined values do the same.
+pub record AgreeingHistories {E C M F J R : Type 0} (says : UserAnswers C M F J) (old new other_old other_new : Environment E C M F J R)
     : Type 0 where
   pub changes : List (Change Source)
   pub others : List (Change Source)
@@ -27,17 +26,17 @@ pub record AgreeingHistories {E C M F J R : Type 0} (says : C → Says) (methods
   pub agree : (name : List ℕ)
       → AgreeOn name changes others (source_at (registry_of old) name) (source_at (registry_of other_old) name)
   pub globals : (settings_of (registry_of new)).globals ≡ (settings_of (registry_of other_new)).globals
-  pub callables : callables_of says methods new ≡ callables_of says methods other_new
+  pub users : brought_of says new ≡ brought_of says other_new
   pub limit : (settings_of (registry_of new)).limit ≡ (settings_of (registry_of other_new)).limit
   pub undefined : (settings_of (registry_of new)).undefined ≡ (settings_of (registry_of other_new)).undefined
 
-module _ (E C M F J R : Type 0) (says : C → Says) (methods : MethodsSay M) where
+module _ (E C M F J R : Type 0) (says : UserAnswers C M F J) where
   -- They come to one setting,
   abbrev pub AgreeingComeToOneSetting : Type 0
-  AgreeingComeToOneSetting = (old new other_old other_new : Environment E C M F J R) → AgreeingHistories says methods old new other_old other_new
-      → setting_in says methods new ≡ setting_in says methods other_new
+  AgreeingComeToOneSetting = (old new other_old other_new : Environment E C M F J R) → AgreeingHistories says old new other_old other_new
+      → setting_in says new ≡ setting_in says other_new
 
   -- so each template renders to the same behind them.
   abbrev pub AgreeingRenderTheSame : Type 0
-  AgreeingRenderTheSame = (old new other_old other_new : Environment E C M F J R) → AgreeingHistories says methods old new other_old other_new
-      → RenderTheSame (callables_of says methods new) (callables_of says methods other_new) (registry_of new) (registry_of other_new)
+  AgreeingRenderTheSame = (old new other_old other_new : Environment E C M F J R) → AgreeingHistories says old new other_old other_new
+      → RenderTheSame (brought_of says new) (brought_of says other_new) (registry_of new) (registry_of other_new)

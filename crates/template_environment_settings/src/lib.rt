@@ -5,6 +5,7 @@
 //! asks for names where nothing of a user's own can be brought, are passed on, so that programs name this crate alone.
 #![tactic(auto)]
 
+ghost use Rattle.template_environment.specs.Extras.{user_answers};
 ghost use Rattle.template_environment_settings.specs.Alike.{AlikeHaveOneSetting, AlikeRenderTheSame};
 ghost use Rattle.template_environment_settings.specs.Histories.{AgreeingComeToOneSetting, AgreeingRenderTheSame};
 
@@ -14,7 +15,7 @@ pub use bounds::set_bounds;
 use template_callables::Extension;
 pub use template_environment::{Environment, Template, every_render_ends, none_ask_names};
 
-/// Environments where the same sources stand under the names, and that have the same globals, are answered the same where they call
+/// Environments where the same sources stand under the names, and that have the same globals, are answered the same where they ask
 /// what their users brought, keep to the same limit and let undefined values do the same, give their renders one setting. An
 /// environment's functions are known by its number, and can be called there alone: so the two have one number. A template of one
 /// name and one source renders to the same in both, in states of one number, under every bound and over every context.
@@ -25,6 +26,6 @@ pub fn one_setting()
 
 /// So do environments, with what users bring by the types of `E`, that histories of changes come to which agree on each name.
 pub fn agreeing_histories<E: Extension>()
-    ensures setting { AgreeingComeToOneSetting E E.Callable E.Method E.Formatter E.Join E.Rule E.Callable.answer E.Method.answer }
-    ensures renders { AgreeingRenderTheSame E E.Callable E.Method E.Formatter E.Join E.Rule E.Callable.answer E.Method.answer }
+    ensures setting { AgreeingComeToOneSetting E E.Callable E.Method E.Formatter E.Join E.Rule (user_answers E.Callable.answer E.Method.answer E.Formatter.answer E.Join.answer) }
+    ensures renders { AgreeingRenderTheSame E E.Callable E.Method E.Formatter E.Join E.Rule (user_answers E.Callable.answer E.Method.answer E.Formatter.answer E.Join.answer) }
 {}

@@ -6,7 +6,7 @@ use Rattle.template_example_callables.specs.declared.callables.Own.{Own}
 use Rattle.template_example_callables.specs.declared.callables.Own.TheVariants as owns
 
 -- the filter `label` puts the prefix in front
-pub record Labels {M R : Type 0} (prefix : List ℕ) (x : Extras Own M R) : Type 0 where
+pub record Labels {M F J R : Type 0} (prefix : List ℕ) (x : Extras Own M F J R) : Type 0 where
   pub label : Label
   pub stands : x.filters (codes "label") ≡ Some (owns.Label label)
   pub prefixed : string_bytes label.prefix ≡ prefix

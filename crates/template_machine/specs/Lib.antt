@@ -14,6 +14,8 @@ pub use Rattle.template_callables.specs.Callables
 pub use Rattle.template_callables.specs.Answers as CallableAnswers
 pub use Rattle.template_callables.specs.Eithers
 pub use Rattle.template_callables.specs.Faults as CallableFaults
+pub use Rattle.template_callables.specs.Formats
+pub use Rattle.template_callables.specs.Joins
 pub use Rattle.template_callables.specs.Views as CallViews
 pub use Rattle.template_process.specs.Process
 pub use Rattle.template_process.specs.Trace
@@ -31,6 +33,7 @@ pub use Rattle.template_code.specs.Steps
 pub use Rattle.template_code.specs.Prices
 pub use Rattle.template_code.specs.View as InstructionCodes
 pub use Rattle.template_code.specs.Listing
+pub use Rattle.template_code_blocks.specs.Streams as BlockStreams
 pub use Rattle.template_machine_fuel.specs.Paying
 pub use Rattle.template_machine_fuel.specs.Trackers
 pub use Rattle.template_machine_operands.specs.Operands
@@ -42,6 +45,10 @@ pub use Rattle.template_machine_meaning.specs.Undefined
 pub use Rattle.template_machine_meaning.specs.Replies
 pub use Rattle.template_machine_meaning.specs.Keys
 pub use Rattle.template_machine_meaning.specs.Plans
+pub use Rattle.template_machine_meaning.specs.Names as TemplateNames
+pub use Rattle.template_machine_meaning.specs.Bodies
+pub use Rattle.template_machine_meaning.specs.Blocks
+pub use Rattle.template_machine_meaning.specs.Captures
 pub use Rattle.template_machine_meaning.specs.Includes
 pub use Rattle.template_machine_meaning.specs.Surroundings
 pub use Rattle.template_machine_meaning.specs.Meaning
@@ -51,8 +58,15 @@ pub use Rattle.template_machine_globals.specs.Globals
 pub use Rattle.template_machine_loops.specs.Loops
 pub use Rattle.template_machine_frames.specs.Frames
 pub use Rattle.template_machine_frames.specs.Names as ExportedNames
+pub use Rattle.template_machine_blocks.specs.Streams as Homes
+pub use Rattle.template_machine_blocks.specs.Stack as BlockBodies
 pub use Rattle.template_machine_state.specs.Changes
+pub use Rattle.template_machine_state.specs.Loaded
 pub use Rattle.template_machine_calls.specs.Left as CallsLeft
+pub use Rattle.template_machine_calls.specs.Formatted
+pub use Rattle.template_machine_renders.specs.Laws as BlockRenders
+pub use Rattle.template_machine_renders.specs.Plans as BlockPlans
+pub use Rattle.template_machine_renders.specs.Joining
 pub use Rattle.template_compiler_syntax.specs.Syntax
 pub use Rattle.template_names.specs.Names as UsedNames
 pub use Rattle.template_compiled.specs.Sources

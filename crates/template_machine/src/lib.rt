@@ -27,6 +27,8 @@
 //! - [`Template::render`] gives its text over a context, and [`Template::render_captured_to`] writes it into a
 //!   [`Sink`]: a `String`, a [`WriteWrapper`] over a writer, or a [`NullWriter`]. [`Captured`] is what a render
 //!   leaves, with its [`State`], which knows the names that were stored.
+//! - [`State::render_block`] gives the text of a block over what a render left, and [`State::render_block_to_write`] writes
+//!   it into a [`Sink`]; [`State::get_template`] finds the template that a name means there.
 //! - [`Environment::render_str`] renders a source that does not stand.
 //! - [`Environment::compile_expression`] compiles an expression that stands alone, and [`Expression::eval`] gives its
 //!   value over a context, with a map for each namespace in it.
@@ -37,6 +39,9 @@
 //!   [`Callable`], and [`Environment::set_unknown_method_callback`] one that is an [`UnknownMethod`]. Each answers by an
 //!   [`Answer`], from its arguments and what it sees of the run, a [`CallView`]. [`State::apply_filter`] and
 //!   [`State::perform_test`] call filters and tests without a render.
+//! - There [`Environment::set_formatter`] takes a [`Formatter`] too: it says by a [`FormatAnswer`] what is printed in the
+//!   place of each value, and [`State::format`] gives that text. [`Environment::set_path_join_callback`] takes a
+//!   [`PathJoin`], which says which template a name means that stands in another template.
 //! - [`Environment::set_fuel`] bounds each render by its steps, and [`State::fuel_levels`] tells what one
 //!   consumed; [`Environment::set_recursion_limit`] bounds how deep it may be.
 //! - [`Environment::set_undefined_behavior`] says what may be done with undefined values, and
@@ -51,9 +56,9 @@
 //! A render writes the text and ends as the meaning of the template's tree says, for the templates that
 //! stand, the context, the escape of its name and the fuel. It may also want memory or meet a failing sink,
 //! and then a beginning of the text is written. [`every_run_ends`] and [`one_meaning`] say that every render
-//! ends, and in one way; [`isolation`] that it takes no more of its context than the names that are listed,
-//! and [`expression_isolation`] that an expression takes no more than those that stand in it, where nothing that a
-//! user brought asks for a name;
+//! ends, and in one way, and [`every_block_ends`] that each block ends that a state is asked for; [`isolation`] that a render
+//! takes no more of its context than the names that are listed, and [`expression_isolation`] that an expression takes no
+//! more than those that stand in it, where nothing that a user brought asks for a name;
 //! [`enough_is_enough`], [`fuel_adds_up`] and [`writes_beginning`] are the laws of fuel, and
 //! [`good_ends_well`] that of verified instructions. By [`faults_are_meant`] no fault of a template is told as want of
 //! memory, however many includes it happened in. An expression gives the value that its tree means under the fuel,
@@ -62,13 +67,16 @@
 #![tactic(auto)]
 
 pub use template_callables::{
-    Answer, CallView, Callable, Either, Extension, Further, NoCallable, NoExtension, NoFormatter,
-    NoJoin, NoMethod, UnknownMethod, copy_all,
+    Answer, CallView, Callable, Either, Extension, FormatAnswer, Formatter, Further, NoCallable,
+    NoExtension, NoFormatter, NoJoin, NoMethod, PathJoin, UnknownMethod, copy_all,
 };
+pub use template_code_blocks::CompiledBlock;
 pub use template_code_checked::{Checked, verify};
 pub use template_code_shapes::{StreamKind, certified_is_good, good_ends_well, good_goes_on};
 pub use template_compiler_syntax::{StartMarker, SyntaxConfig, SyntaxConfigBuilder};
-pub use template_environment::{Captured, Environment, Expression, State, Template};
+pub use template_environment::{
+    Captured, Environment, Expression, State, Template, every_block_ends,
+};
 pub use template_machine_frames::{Context, Frame, LoopState};
 pub use template_machine_fuel::FuelTracker;
 pub use template_machine_globals::Globals;
@@ -79,7 +87,7 @@ pub use template_machine_meaning::{
 };
 pub use template_machine_operands::Operands as Stack;
 pub use template_machine_output::{NullWriter, Sink, SinkFault, WriteWrapper, Writer, write_text};
-pub use template_machine_state::{Caller, State as MachineState};
+pub use template_machine_state::{Behind, Body, Caller, Home, State as MachineState};
 pub use template_machine_surroundings::{
     AutoEscapeRule, EscapeRule, NoRule, StateIds, default_auto_escape_callback, one_escape,
     one_rule,

@@ -13,14 +13,16 @@ use Rattle.template_process.specs.Trace.{Item, Run, text_of}
 use Rattle.template_machine_meaning.proofs.Isolated.{no_callables_ask}
 use Rattle.template_machine_meaning.specs.Meaning.{Standing, rendered}
 use Rattle.template_machine_meaning.specs.World.{World}
-use Rattle.template_environment_settings.specs.Isolation.{AgreesAt, IsolatesNames}
+use Rattle.template_environment.proofs.Importing.{source_imports, standing_import}
+use Rattle.template_environment_settings.specs.Extras.{nothing_brought}
+use Rattle.template_environment_settings.specs.Isolation.{AgreesAt, ImportsNames, IsolatesNames}
 use Rattle.template_environment_settings.specs.Plain.{IsRefusedForRoom}
 use Rattle.template_environment_settings.specs.Renders.{Renders}
 use Rattle.template_environment_settings.specs.Registry.{Registry}
 use Rattle.template_program_run.specs.Additions.{IsRefusedAddition, RefusesOne}
-use Rattle.template_program_run.specs.Answers.{HasNames, IsUntouched, Performed, Rendered, TellsNames, definitions_of}
+use Rattle.template_program_run.specs.Answers.{HasNames, IsTemplateOf, IsUntouched, Performed, Rendered, TellsNames, definitions_of}
 use Rattle.template_program_run.specs.Environments.{IsMade, plain_setting}
-use Rattle.template_program_run.specs.History.{standing}
+use Rattle.template_program_run.specs.History.{source_for, standing}
 use Rattle.template_program_run.specs.Ids.{IsLastId}
 use Rattle.template_program_run.specs.Lines.{lines_of}
 use Rattle.template_program_parts.specs.declared.outcome.Outcome.{Outcome}
@@ -89,13 +91,18 @@ of_number : (request : Request) (additions : List (List ℕ × List ℕ)) (e : R
     → IsMade request additions other e
 of_number request additions e same made = subst (λ (n : ℕ). IsMade request additions n e) same made
 
+-- a template of a source imports names
+template_imports : (name text : List ℕ) (t : Standing) → IsTemplateOf name text t → ImportsNames t.tree
+template_imports name text t is = subst ImportsNames (sym is.tree) (source_imports (source_for text))
+
 -- two renders of one template over contexts that agree, in states of one number
 renders_alike : IsolatesNames → (request : Request) (additions : List (List ℕ × List ℕ)) (a b : Answer) (e f : Registry)
-    → IsMade request additions a.next e → IsMade request additions b.next f → (t u : Standing) → t ≡ u → (c d : Val) → ((name : List ℕ) → AgreesAt c d name)
+    → IsMade request additions a.next e → IsMade request additions b.next f → (t u : Standing) → ImportsNames t.tree → t ≡ u
+    → (c d : Val) → ((name : List ℕ) → AgreesAt c d name)
     → Rendered e t c (a.next + 1) a.outcome a.before a.after a.failed a.fails
     → Rendered f u d (b.next + 1) b.outcome b.before b.after b.failed b.fails
     → a.next ≡ b.next → IsUnwanting a → IsUnwanting b → AreAlike a b
-renders_alike isolates request additions a b e f made more t u standing c d agree one other next ua ub =
+renders_alike isolates request additions a b e f made more t u imports standing c d agree one other next ua ub =
     let ra = one.1 ua.second_id in
     let rb = other.1 ub.second_id in
     let id = a.next + 1 in
@@ -103,7 +110,7 @@ renders_alike isolates request additions a b e f made more t u standing c d agre
     let too = of_number request additions f (sym next) more in
     let setting = one_setting request additions a.next e f made too in
     let fuel = one_fuel request additions a.next e f made too in
-    let isolated = isolates (plain_setting e) no_callables_ask id t c d (λ name can_matter. agree name) n in
+    let isolated = isolates (plain_setting e) no_callables_ask (standing_import nothing_brought e) id t imports c d (λ name can_matter. agree name) n in
     let there : rendered (plain_setting e) id n t d ≡ rendered (plain_setting f) (b.next + 1) n u d =
     λ i. rendered (setting i) (next i + 1) n (standing i) d in
     let finished : IsFinished (rendered (plain_setting f) (b.next + 1) n u d).end =
@@ -164,7 +171,7 @@ performed_alike isolates asked.Render request additions json a b p q next ua ub 
     let template = one_template main p.2.0 q.2.0 p.2.2.0 q.2.2.0 (same_Some _ _ (sym p.2.1 ∙ q.2.1)) p.2.2.1 q.2.2.1 in
     let one = p.2.2.2 in
     let other = q.2.2.2 in
-    renders_alike isolates request additions a b p.0 q.0 p.1 q.1 p.2.2.0 q.2.2.0 template one.0 other.0
+    renders_alike isolates request additions a b p.0 q.0 p.1 q.1 p.2.2.0 q.2.2.0 (template_imports main p.2.0 p.2.2.0 p.2.2.1) template one.0 other.0
     (agree_everywhere json (definitions_of request) one.0 other.0 one.1 other.1) one.2 other.2 next ua ub
 performed_alike isolates asked.Names request additions json a b p q next ua ub =
     let main = string_bytes request.main in

@@ -3,9 +3,9 @@ use Rattle.std.proofs.Common.{◌≡◌, ◌∙◌, ℕ, List, refl, sym, ap, su
 use Rattle.std.specs.BTreeSet.{BTreeSet, contains_text}
 use Rattle.std.specs.Prelude.{String}
 use Rattle.std.specs.declared.alloc.Global.{Global}
-use Rattle.template_callables.specs.Callables.{no_callables}
 use Rattle.template_machine_surroundings.proofs.OneRule.{one_rule}
 use Rattle.template_machine_meaning.specs.Meaning.{Setting, Standing}
+use Rattle.template_environment_settings.specs.Extras.{nothing_brought}
 use Rattle.template_environment_settings.specs.Isolation.{IsContextName}
 use Rattle.template_environment_settings.specs.Sources.{tree_in}
 use Rattle.template_environment_settings.specs.Registry.{Registry}
@@ -17,10 +17,10 @@ use Rattle.template_program_run.specs.declared.request.Request.{Request}
 
 pub one_setting : (request : Request) (additions : List (List ℕ × List ℕ)) (id : ℕ) (e other : Registry) → IsMade request additions id e
     → IsMade request additions id other → plain_setting e ≡ plain_setting other
-one_setting request additions id e other made more = settings.one_setting no_callables no_callables e other (record {
+one_setting request additions id e other made more = settings.one_setting nothing_brought nothing_brought e other (record {
   sources = λ name. made.sources name ∙ sym (more.sources name);
   globals = made.settings.globals ∙ sym more.settings.globals;
-  callables = refl;
+  users = refl;
   limit = made.settings.limit ∙ sym more.settings.limit;
   undefined = made.settings.undefined ∙ sym more.settings.undefined;
 })

@@ -2,10 +2,10 @@
 use Rattle.std.proofs.Common.{◌≡◌, ℕ, List, Option, Result, Ok, Err, subst}
 use Rattle.template_values_errors.specs.declared.ErrorKind.{ErrorKind}
 use Rattle.template_values_model.specs.Val.{Val}
-use Rattle.template_callables.specs.Callables.{Callables, no_callables}
 use Rattle.template_process.specs.Approximants.{IsFinished}
 use Rattle.template_process.specs.Fuel.{under}
 use Rattle.template_process.specs.Trace.{Run}
+use Rattle.template_environment_settings.specs.Extras.{Brought, nothing_brought}
 use Rattle.template_environment_settings.specs.Meaning.{Standing, rendered}
 use Rattle.template_environment_settings.specs.Renders.{Renders, whole, broken}
 use Rattle.template_environment_settings.specs.Standing.{setting_of}
@@ -23,20 +23,20 @@ renders_failed kinds before after r (whole ends text) = whole ends text
 renders_failed kinds before after r (broken wants text) = broken wants text
 
 -- what is told of a render where nothing is brought
-abbrev Tells : Callables → Registry → ℕ → Standing → Val → (X : Type 0) → Result X (List ErrorKind) → Option (List ℕ) → Option (List ℕ) → Type 0
+abbrev Tells : Brought → Registry → ℕ → Standing → Val → (X : Type 0) → Result X (List ErrorKind) → Option (List ℕ) → Option (List ℕ) → Type 0
 Tells k e id t context X result before after = ((n : ℕ) × IsFinished (rendered (setting_of k e) id n t context).end)
     × ((n : ℕ) → IsFinished (rendered (setting_of k e) id n t context).end
     → Renders {X = X} result before after (under e.fuel (rendered (setting_of k e) id n t context)))
 
-pub rendered_done : {X : Type 0} (v : X) (k : Callables) (e : Registry) (id : ℕ) (t : Standing) (context : Val) (before after : Option (List ℕ))
-    → k ≡ no_callables → Tells k e id t context X (Ok v) before after → IsRendered e id t context (Ok tt) before after
+pub rendered_done : {X : Type 0} (v : X) (k : Brought) (e : Registry) (id : ℕ) (t : Standing) (context : Val) (before after : Option (List ℕ))
+    → k ≡ nothing_brought → Tells k e id t context X (Ok v) before after → IsRendered e id t context (Ok tt) before after
 rendered_done {X} v k e id t context before after none tells =
-    let told = subst (λ (b : Callables). Tells b e id t context X (Ok v) before after) none tells in
+    let told = subst (λ (b : Brought). Tells b e id t context X (Ok v) before after) none tells in
     record { finished = told.0; renders = λ n done. renders_done v before after _ (told.1 n done) }
 
-pub rendered_failed : (X : Type 0) (kinds : List ErrorKind) (k : Callables) (e : Registry) (id : ℕ) (t : Standing) (context : Val)
-    (before after : Option (List ℕ)) → k ≡ no_callables → Tells k e id t context X (Err kinds) before after
+pub rendered_failed : (X : Type 0) (kinds : List ErrorKind) (k : Brought) (e : Registry) (id : ℕ) (t : Standing) (context : Val)
+    (before after : Option (List ℕ)) → k ≡ nothing_brought → Tells k e id t context X (Err kinds) before after
     → IsRendered e id t context (Err kinds) before after
 rendered_failed X kinds k e id t context before after none tells =
-    let told = subst (λ (b : Callables). Tells b e id t context X (Err kinds) before after) none tells in
+    let told = subst (λ (b : Brought). Tells b e id t context X (Err kinds) before after) none tells in
     record { finished = told.0; renders = λ n done. renders_failed kinds before after _ (told.1 n done) }

@@ -1,8 +1,8 @@
 -- The environment that a request is answered in.
 use Rattle.std.specs.Prelude.{◌≡◌, ℕ, List, min}
-use Rattle.template_callables.specs.Callables.{no_callables}
 use Rattle.template_compiler_syntax.specs.Syntax.{default_syntax}
 use Rattle.template_machine_surroundings.specs.declared.escape.EscapeRule.TheVariants.{ByName}
+use Rattle.template_environment_settings.specs.Extras.{nothing_brought}
 use Rattle.template_environment_settings.specs.Globals.{own_globals}
 use Rattle.template_environment_settings.specs.Meaning.{Setting}
 use Rattle.template_environment_settings.specs.Standing.{Settings, greatest_limit, setting_of, settings_of, source_at}
@@ -26,4 +26,4 @@ pub record IsMade (request : Request) (additions : List (List ℕ × List ℕ)) 
 
 -- the setting that its renders have: nothing is brought to it
 abbrev pub plain_setting : Registry → Setting
-plain_setting e = setting_of no_callables e
+plain_setting e = setting_of nothing_brought e

@@ -3,15 +3,22 @@ use Rattle.std.specs.Option.{option_map}
 use Rattle.template_values.specs.Answers.{text_in}
 use Rattle.template_values.specs.Val as values
 use Rattle.template_values.specs.Val.{Val}
-use Rattle.template_machine.specs.Callables.{finishes}
+use Rattle.template_machine.specs.Callables.{escapes, finishes}
+use Rattle.template_machine.specs.Extras.{UserAnswers, user_answers}
+use Rattle.template_machine.specs.Joins.{keeps_name}
 use Rattle.template_machine.specs.Reading.{extras_of}
 use Rattle.template_machine.specs.States.{around_in, environment_in, world_in}
 use Rattle.template_machine.specs.declared.Environment.{Environment}
 use Rattle.template_example_callables.specs.Says.{labelled, methods_say, own_says}
+use Rattle.template_example_callables.specs.declared.callables.FilterMethods.{FilterMethods}
 use Rattle.template_example_callables.specs.declared.callables.Own.{Own}
 use Rattle.template_example_callables.specs.declared.callables.Own.TheVariants as owns
 use Rattle.template_example_callables.proofs.Labels.{call_gives}
 use Rattle.template_example_callables.proofs.labelled.Goals as goal
+
+-- what each of them answers, where nothing says how values are printed, and which templates are meant
+abbrev shop_says : {F J : Type 0} → UserAnswers Own FilterMethods F J
+shop_says = user_answers own_says methods_say (λ formatter view v. escapes v) (λ join. keeps_name)
 
 pub returns : goal.returns
 returns c =
@@ -21,5 +28,5 @@ returns c =
     ∙ ap (λ (o : Option Own). option_map own_says o) shop.stands in
     let text = ap (λ (v : Val). labelled (string_bytes shop.label.prefix) (text_in v)) c.in_ok-text.ensures.made
     ∙ ap (λ (prefix : List ℕ). finishes [] (values.text (prefix ++ c.args.text.now))) shop.prefixed in
-    call_gives (around_in own_says methods_say s) (world_in s) (world_in c.apply_filter.new.self) (own_says (owns.Label shop.label)) (codes "label")
+    call_gives (around_in shop_says s) (world_in s) (world_in c.apply_filter.new.self) (own_says (owns.Label shop.label)) (codes "label")
     (c.in_ok-text.text ∷ []) _ c.apply_filter.result there text c.apply_filter.ensures.told

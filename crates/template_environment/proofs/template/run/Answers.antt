@@ -1,69 +1,66 @@
-use Rattle.std.proofs.Common.{rules, Some, refl, sym, ap, ◌∙◌}
+use Rattle.std.proofs.Common.{ℕ, Option, inl, refl, sym, subst, ◌∙◌}
 use Rattle.std.proofs.lemmas.Result.{err_from_is_err_and}
-use Rattle.template_values_errors.specs.declared.modes.AutoEscape.{AutoEscape}
-use Rattle.template_machine_meaning.specs.World.{first_world}
-use Rattle.template_machine_renders.specs.Renders.{whole}
-use Rattle.template_environment.specs.Reading.{callables_of}
-use Rattle.template_environment.specs.Standing.{unit_of}
-use Rattle.template_environment.proofs.Rendering.{ruled_programs, render_done, render_stopped}
+use Rattle.template_process.specs.Trace.{price_of}
+use Rattle.template_machine_going.specs.Paying.{Paid}
+use Rattle.template_machine_output.proofs.Beginnings.{beginning_none}
+use Rattle.template_machine_renders.specs.Renders.{broken, whole}
+use Rattle.template_environment.specs.Extras.{user_answers}
+use Rattle.template_environment.specs.Reading.{brought_of}
+use Rattle.template_environment.proofs.Rendering.{render_done, render_stopped, run_of}
 use Rattle.template_environment.proofs.template.run.Goals as goal
 
-pub levels-requires : goal.levels-requires
-levels-requires g c = let runs = c.in_ok-run_code.ensures.runs (Some (unit_of c.args.compiled.now)) in search rules
-
-pub returns-in_err-run_code-clause-renders : goal.returns-in_err-run_code-clause-renders
-returns-in_err-run_code-clause-renders g c = λ n finished.
-    let registry = c.args.environment.now.registry in
-    let brought = callables_of g.E.Callable.Callable.answer g.E.Method.UnknownMethod.answer c.args.environment.now in
-    let own = c.rules.ensures.name ∙ c.name.ensures in
-    let p = err_from_is_err_and c.from_residual-in_err-run_code.result c.from_residual-in_err-run_code.ensures.1 in
+pub returns-in_err-machine-clause-renders : goal.returns-in_err-machine-clause-renders
+returns-in_err-machine-clause-renders g c = λ n finished.
+    let p = err_from_is_err_and c.from_residual.result c.from_residual.ensures.1 in
     rw (p.1, p.2)
-    (render_stopped _ brought registry c.args.id c.args.compiled.now c.args.context _ _ _ _ registry.fuel _ _ _ _ _ refl
-    (record {
-      programs = ruled_programs brought registry (Some c.args.compiled.now) c.rules.result.name.now c.rules.result.limit c.rules.result.undefined own
-          c.rules.ensures.limit c.rules.ensures.undefined;
-      is_code = c.instructions.ensures.code;
-      start = c.in_ok-state.ensures.made ∙ ap (λ (e : AutoEscape). first_world c.args.id registry.globals e c.args.context) c.initial_auto_escape.ensures.escape;
-    }) (c.in_err-run_code.ensures.runs (Some (unit_of c.args.compiled.now))) n finished)
+    (broken (inl c.in_err-machine.ensures.refused) (beginning_none _ _))
+
+pub returns-in_err-run_template-clause-renders : goal.returns-in_err-run_template-clause-renders
+returns-in_err-run_template-clause-renders g c = λ n finished.
+    let registry = c.args.environment.now.registry in
+    let says = (user_answers g.E.Callable.Callable.answer g.E.Method.UnknownMethod.answer g.E.Formatter.Formatter.answer g.E.Join.PathJoin.answer) in
+    let programs = c.program.ensures in
+    let of = run_of says c.program.result.templates.now c.args.environment.now c.args.compiled.now _ c.program.result.rules.name.now c.program.result.rules.limit
+    c.program.result.rules.undefined c.args.id c.args.context _ programs.templates programs.root programs.name programs.limit programs.undefined
+    c.in_ok-machine.ensures.made in
+    let p = err_from_is_err_and c.from_residual-in_err-run_template.result c.from_residual-in_err-run_template.ensures.1 in
+    rw (p.1, p.2)
+    (render_stopped _ (brought_of says c.args.environment.now) registry c.args.id c.args.compiled.now c.args.context _ _ c.run_template.new.state registry.fuel _ _ _ _ _ refl of
+    c.in_err-run_template.ensures.runs n finished)
 
 pub returns-clause-renders : goal.returns-clause-renders
 returns-clause-renders g c = λ n finished.
     let registry = c.args.environment.now.registry in
-    let brought = callables_of g.E.Callable.Callable.answer g.E.Method.UnknownMethod.answer c.args.environment.now in
-    let own = c.rules.ensures.name ∙ c.name.ensures in
-    let done = render_done (tt {0}) brought registry c.args.id c.args.compiled.now c.args.context _ _ _ _ registry.fuel _ _ _ _ refl
-    (record {
-      programs = ruled_programs brought registry (Some c.args.compiled.now) c.rules.result.name.now c.rules.result.limit c.rules.result.undefined own
-          c.rules.ensures.limit c.rules.ensures.undefined;
-      is_code = c.instructions.ensures.code;
-      start = c.in_ok-state.ensures.made ∙ ap (λ (e : AutoEscape). first_world c.args.id registry.globals e c.args.context) c.initial_auto_escape.ensures.escape;
-    }) (c.in_ok-run_code.ensures.runs (Some (unit_of c.args.compiled.now))) n finished in
+    let says = (user_answers g.E.Callable.Callable.answer g.E.Method.UnknownMethod.answer g.E.Formatter.Formatter.answer g.E.Join.PathJoin.answer) in
+    let programs = c.program.ensures in
+    let of = run_of says c.program.result.templates.now c.args.environment.now c.args.compiled.now _ c.program.result.rules.name.now c.program.result.rules.limit
+    c.program.result.rules.undefined c.args.id c.args.context _ programs.templates programs.root programs.name programs.limit programs.undefined
+    c.in_ok-machine.ensures.made in
+    let done = render_done (tt {0}) (brought_of says c.args.environment.now) registry c.args.id c.args.compiled.now c.args.context _ _ _ registry.fuel _ _ _ _ refl of
+    c.in_ok-run_template.ensures.runs n finished in
     whole done.over done.text
 
-pub returns-clause-left : goal.returns-clause-left
-returns-clause-left g c = λ n finished.
+pub returns-clause-remains : goal.returns-clause-remains
+returns-clause-remains g c = λ n finished.
     let registry = c.args.environment.now.registry in
-    let brought = callables_of g.E.Callable.Callable.answer g.E.Method.UnknownMethod.answer c.args.environment.now in
-    let own = c.rules.ensures.name ∙ c.name.ensures in
-    let done = render_done (tt {0}) brought registry c.args.id c.args.compiled.now c.args.context _ _ _ _ registry.fuel _ _ _ _ refl
-    (record {
-      programs = ruled_programs brought registry (Some c.args.compiled.now) c.rules.result.name.now c.rules.result.limit c.rules.result.undefined own
-          c.rules.ensures.limit c.rules.ensures.undefined;
-      is_code = c.instructions.ensures.code;
-      start = c.in_ok-state.ensures.made ∙ ap (λ (e : AutoEscape). first_world c.args.id registry.globals e c.args.context) c.initial_auto_escape.ensures.escape;
-    }) (c.in_ok-run_code.ensures.runs (Some (unit_of c.args.compiled.now))) n finished in
-    c.levels.ensures.remaining ∙ done.left_is
+    let says = (user_answers g.E.Callable.Callable.answer g.E.Method.UnknownMethod.answer g.E.Formatter.Formatter.answer g.E.Join.PathJoin.answer) in
+    let programs = c.program.ensures in
+    let of = run_of says c.program.result.templates.now c.args.environment.now c.args.compiled.now _ c.program.result.rules.name.now c.program.result.rules.limit
+    c.program.result.rules.undefined c.args.id c.args.context _ programs.templates programs.root programs.name programs.limit programs.undefined
+    c.in_ok-machine.ensures.made in
+    let done = render_done (tt {0}) (brought_of says c.args.environment.now) registry c.args.id c.args.compiled.now c.args.context _ _ _ registry.fuel _ _ _ _ refl of
+    c.in_ok-run_template.ensures.runs n finished in
+    let runs = c.in_ok-run_template.ensures.runs in
+    c.spend.ensures.left (price_of runs.items) (subst (λ (f : Option ℕ). Paid (price_of runs.items) f c.run_template.new.left) (sym c.unspent.ensures.left) runs.pays) ∙ done.left_is
 
 pub returns-clause-world : goal.returns-clause-world
 returns-clause-world g c = λ n finished.
     let registry = c.args.environment.now.registry in
-    let brought = callables_of g.E.Callable.Callable.answer g.E.Method.UnknownMethod.answer c.args.environment.now in
-    let own = c.rules.ensures.name ∙ c.name.ensures in
-    let done = render_done (tt {0}) brought registry c.args.id c.args.compiled.now c.args.context _ _ _ _ registry.fuel _ _ _ _ refl
-    (record {
-      programs = ruled_programs brought registry (Some c.args.compiled.now) c.rules.result.name.now c.rules.result.limit c.rules.result.undefined own
-          c.rules.ensures.limit c.rules.ensures.undefined;
-      is_code = c.instructions.ensures.code;
-      start = c.in_ok-state.ensures.made ∙ ap (λ (e : AutoEscape). first_world c.args.id registry.globals e c.args.context) c.initial_auto_escape.ensures.escape;
-    }) (c.in_ok-run_code.ensures.runs (Some (unit_of c.args.compiled.now))) n finished in
+    let says = (user_answers g.E.Callable.Callable.answer g.E.Method.UnknownMethod.answer g.E.Formatter.Formatter.answer g.E.Join.PathJoin.answer) in
+    let programs = c.program.ensures in
+    let of = run_of says c.program.result.templates.now c.args.environment.now c.args.compiled.now _ c.program.result.rules.name.now c.program.result.rules.limit
+    c.program.result.rules.undefined c.args.id c.args.context _ programs.templates programs.root programs.name programs.limit programs.undefined
+    c.in_ok-machine.ensures.made in
+    let done = render_done (tt {0}) (brought_of says c.args.environment.now) registry c.args.id c.args.compiled.now c.args.context _ _ _ registry.fuel _ _ _ _ refl of
+    c.in_ok-run_template.ensures.runs n finished in
     sym done.world

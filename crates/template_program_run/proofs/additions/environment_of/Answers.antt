@@ -48,7 +48,7 @@ loop-name-preserved c =
     let name : c.as_str.result.now ≡ string_bytes (get_or xs i d).0 = c.as_str.ensures.value ∙ ap (λ x. string_bytes x.0) c.loop-name-item.is in
     let text : c.as_str-in-loop-name.result.now ≡ string_bytes (get_or xs i d).1 = c.as_str-in-loop-name.ensures.value ∙ ap (λ x. string_bytes x.1) c.loop-name-item.is in
     let source = read_there _ _ _ _ c.loop-name.invariant.settings.syntax c.loop-name.invariant.settings.escapes text in
-    let unset = ap (λ (x : Extras _ _ _). x.rule) c.loop-name.invariant.extras in
+    let unset = ap (λ (x : Extras _ _ _ _ _). x.rule) c.loop-name.invariant.extras in
     let ruled = ruled_there _ _ _ _ _ _ _ unset c.loop-name.invariant.settings.syntax c.loop-name.invariant.settings.escapes text in
     let before = registry_of c.loop-name.environment in
     record {

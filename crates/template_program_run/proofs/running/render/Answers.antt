@@ -1,6 +1,6 @@
 use Rattle.std.proofs.Common.{refl, Ok, Err, ap}
 use Rattle.template_environment_settings.specs.Compiled.{standing_of}
-use Rattle.template_environment_settings.specs.Extras.{Extras, callables_by, no_callable_says, no_method_says}
+use Rattle.template_environment_settings.specs.Extras.{Extras, brought_by, no_answers}
 use Rattle.template_environment_settings.specs.Reading.{registry_of}
 use Rattle.template_environment_settings.specs.Views.{compiled_in, environment_of}
 use Rattle.template_program_run.proofs.Rendering.{rendered_done, rendered_failed}
@@ -9,7 +9,7 @@ use Rattle.template_program_run.proofs.running.render.Goals as goal
 pub returns-in-Ok-clause-rendered : goal.returns-in-Ok-clause-rendered
 returns-in-Ok-clause-rendered g c =
     let t = c.args.template.now in
-    let none = ap (λ (x : Extras _ _ _). callables_by no_callable_says no_method_says x) c.requires in (
+    let none = ap (λ (x : Extras _ _ _ _ _). brought_by no_answers x) c.requires in (
       λ last. let never = (c.in-Ok.ensures.exhausted last).0 in cc,
       λ more. (
         Ok tt,
@@ -23,7 +23,7 @@ returns-in-Ok-clause-rendered g c =
 pub returns-in-Err-clause-rendered : goal.returns-in-Err-clause-rendered
 returns-in-Err-clause-rendered g c =
     let t = c.args.template.now in
-    let none = ap (λ (x : Extras _ _ _). callables_by no_callable_says no_method_says x) c.requires in (
+    let none = ap (λ (x : Extras _ _ _ _ _). brought_by no_answers x) c.requires in (
       λ last.
           let out = c.in-Err.ensures.exhausted last in
           let kinds = out.0 in

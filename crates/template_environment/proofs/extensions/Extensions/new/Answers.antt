@@ -8,5 +8,7 @@ returns g c = λ i. record {
   tests = λ name. none_there c.new-2.result c.new-2.ensures.empty name i;
   functions = c.new-3.ensures.items i;
   method = None;
+  formatter = None;
+  join = None;
   rule = None;
 }

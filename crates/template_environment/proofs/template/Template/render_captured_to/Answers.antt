@@ -5,8 +5,9 @@ use Rattle.template_process.specs.Trace.{Run}
 use Rattle.template_compiled.specs.Plain.{text_kept}
 use Rattle.template_machine_meaning.specs.World.{World}
 use Rattle.template_machine_renders.specs.Renders.{leaves}
-use Rattle.template_environment.specs.Reading.{callables_of}
-use Rattle.template_environment.specs.Renderings.{left_of}
+use Rattle.template_environment.specs.Extras.{user_answers}
+use Rattle.template_environment.specs.Reading.{brought_of}
+use Rattle.template_environment.specs.States.{fuel_left_in, world_in}
 use Rattle.template_environment.specs.Views.{compiled_in, source_of}
 use Rattle.template_environment.proofs.Capturing.{call_renders, call_stops, called}
 use Rattle.template_environment.proofs.Plain.{plain_writes}
@@ -15,54 +16,54 @@ use Rattle.template_environment.proofs.template.Template.render_captured_to.Goal
 pub returns-in_err-id-clause-isolated : goal.returns-in_err-id-clause-isolated
 returns-in_err-id-clause-isolated g c = c.isolated_renders.ensures c.args.context
 
-pub returns-in_err-machine-clause-isolated : goal.returns-in_err-machine-clause-isolated
-returns-in_err-machine-clause-isolated g c = c.isolated_renders.ensures c.args.context
+pub returns-in_err-state-clause-isolated : goal.returns-in_err-state-clause-isolated
+returns-in_err-state-clause-isolated g c = c.isolated_renders.ensures c.args.context
 
 pub returns-clause-isolated : goal.returns-clause-isolated
 returns-clause-isolated g c = c.isolated_renders.ensures c.args.context
 
-pub returns-in_err-machine-clause-renders : goal.returns-in_err-machine-clause-renders
-returns-in_err-machine-clause-renders g c = λ live n finished.
+pub returns-in_err-state-clause-renders : goal.returns-in_err-state-clause-renders
+returns-in_err-state-clause-renders g c = λ live n finished.
     let self = c.args.self.now in
-    let brought = callables_of g.E.Callable.Callable.answer g.E.Method.UnknownMethod.answer self.environment.now in
-    let p = err_from_is_err_and c.from_residual-in_err-machine.result c.from_residual-in_err-machine.ensures.1 in
+    let brought = brought_of (user_answers g.E.Callable.Callable.answer g.E.Method.UnknownMethod.answer g.E.Formatter.Formatter.answer g.E.Join.PathJoin.answer) self.environment.now in
+    let p = err_from_is_err_and c.from_residual-in_err-state.result c.from_residual-in_err-state.ensures.1 in
     rw (p.1, p.2)
     (call_stops _ _ _ brought self.environment.now.registry _ c.args.ids.now _ (compiled_in self.compiled) c.args.context _ _
-    c.in_ok-id.ensures.given c.get.ensures c.in_err-machine.ensures.renders n finished)
+    c.in_ok-id.ensures.given c.get.ensures c.in_err-state.ensures.renders n finished)
 
-pub returns-in_err-machine-clause-plain : goal.returns-in_err-machine-clause-plain
-returns-in_err-machine-clause-plain g c = λ live plain.
+pub returns-in_err-state-clause-plain : goal.returns-in_err-state-clause-plain
+returns-in_err-state-clause-plain g c = λ live plain.
     let self = c.args.self.now in
-    let brought = callables_of g.E.Callable.Callable.answer g.E.Method.UnknownMethod.answer self.environment.now in
+    let brought = brought_of (user_answers g.E.Callable.Callable.answer g.E.Method.UnknownMethod.answer g.E.Formatter.Formatter.answer g.E.Join.PathJoin.answer) self.environment.now in
     plain_writes brought self.environment.now.registry c.args.ids.now (compiled_in self.compiled) (text_kept (source_of self)) c.args.context _ _ _ (c.plain_renders.ensures plain)
-    (returns-in_err-machine-clause-renders g c live)
+    (returns-in_err-state-clause-renders g c live)
 
 pub returns-clause-renders : goal.returns-clause-renders
 returns-clause-renders g c = λ live n finished.
     let self = c.args.self.now in
-    let brought = callables_of g.E.Callable.Callable.answer g.E.Method.UnknownMethod.answer self.environment.now in
+    let brought = brought_of (user_answers g.E.Callable.Callable.answer g.E.Method.UnknownMethod.answer g.E.Formatter.Formatter.answer g.E.Join.PathJoin.answer) self.environment.now in
     call_renders _ _ brought self.environment.now.registry _ c.args.ids.now _ (compiled_in self.compiled) c.args.context _ _
-    c.in_ok-id.ensures.given c.get.ensures c.in_ok-machine.ensures.renders n finished
+    c.in_ok-id.ensures.given c.get.ensures c.in_ok-state.ensures.renders n finished
 
 pub returns-clause-remains : goal.returns-clause-remains
 returns-clause-remains g c =
     let self = c.args.self.now in
-    let brought = callables_of g.E.Callable.Callable.answer g.E.Method.UnknownMethod.answer self.environment.now in
+    let brought = brought_of (user_answers g.E.Callable.Callable.answer g.E.Method.UnknownMethod.answer g.E.Formatter.Formatter.answer g.E.Join.PathJoin.answer) self.environment.now in
     let fuel = self.environment.now.registry.fuel in
-    called (λ (r : Run World). left_of c.in_ok-machine.fuel ≡ leaves fuel r) brought self.environment.now.registry _ c.args.ids.now _ (compiled_in self.compiled)
-    c.args.context c.in_ok-id.ensures.given c.get.ensures c.in_ok-machine.ensures.left
+    called (λ (r : Run World). fuel_left_in c.in_ok-state.state ≡ leaves fuel r) brought self.environment.now.registry _ c.args.ids.now _ (compiled_in self.compiled)
+    c.args.context c.in_ok-id.ensures.given c.get.ensures c.in_ok-state.ensures.remains
 
 pub returns-clause-world : goal.returns-clause-world
 returns-clause-world g c =
     let self = c.args.self.now in
-    let brought = callables_of g.E.Callable.Callable.answer g.E.Method.UnknownMethod.answer self.environment.now in
+    let brought = brought_of (user_answers g.E.Callable.Callable.answer g.E.Method.UnknownMethod.answer g.E.Formatter.Formatter.answer g.E.Join.PathJoin.answer) self.environment.now in
     let fuel = self.environment.now.registry.fuel in
-    called (λ (r : Run World). c.in_ok-machine.machine ≡ (under fuel r).after) brought self.environment.now.registry _ c.args.ids.now _ (compiled_in self.compiled)
-    c.args.context c.in_ok-id.ensures.given c.get.ensures c.in_ok-machine.ensures.world
+    called (λ (r : Run World). world_in c.in_ok-state.state ≡ (under fuel r).after) brought self.environment.now.registry _ c.args.ids.now _ (compiled_in self.compiled)
+    c.args.context c.in_ok-id.ensures.given c.get.ensures c.in_ok-state.ensures.world
 
 pub returns-clause-plain : goal.returns-clause-plain
 returns-clause-plain g c = λ live plain.
     let self = c.args.self.now in
-    let brought = callables_of g.E.Callable.Callable.answer g.E.Method.UnknownMethod.answer self.environment.now in
+    let brought = brought_of (user_answers g.E.Callable.Callable.answer g.E.Method.UnknownMethod.answer g.E.Formatter.Formatter.answer g.E.Join.PathJoin.answer) self.environment.now in
     plain_writes brought self.environment.now.registry c.args.ids.now (compiled_in self.compiled) (text_kept (source_of self)) c.args.context _ _ (Ok _) (c.plain_renders.ensures plain)
     (returns-clause-renders g c live)
