@@ -1,16 +1,17 @@
 //! The code of templates.
 use crate::NAME;
+use crate::numbers::write_numbers;
 use crate::report::Report;
 use crate::runs::write_runs;
 use std::alloc::Global;
 use std::borrow::CowStr;
 use template_code::{CaptureMode, Instruction, Instructions, LOOP_FLAG_WITH_LOOP_VAR};
 use template_code_references::get_referenced_names;
-use template_compiled::{CompiledTemplate, CompiledTemplates, TemplateConfig};
+use template_compiled::{CompiledBlock, CompiledTemplate, CompiledTemplates, TemplateConfig};
 use template_values_core::{Content, Value};
 use template_values_errors::Error;
 
-/// What is asked of the code of a template: `code`, `owned`, `runs` or `references`.
+/// What is asked of the code of a template: `code`, `owned`, `blocks`, `numbers`, `runs` or `references`.
 pub(crate) fn about_code(alloc: Global, source: &str, ask: &str, out: &mut Report) {
     let compiled = compiled(alloc, source, ask == "owned");
     about_compiled(alloc, &compiled, ask, out)
@@ -43,9 +44,11 @@ fn write_code(alloc: Global, template: &CompiledTemplate<'_>, ask: &str, out: &m
     out.push_str(ask);
     let code = template.instructions();
     match ask {
+        "numbers" => write_numbers(code, out),
         "runs" => write_runs(template.source(), code, out),
         "references" => write_references(alloc, code, out),
         "owned" => write_owned(template, out),
+        "blocks" => write_blocks(template.blocks(), out),
         _ => write_instructions(code, out),
     }
     out.push(')')
@@ -56,6 +59,19 @@ fn write_owned(template: &CompiledTemplate<'_>, out: &mut Report) {
     out.word(template.name());
     out.tell(" ", &template.source());
     write_instructions(template.instructions(), out)
+}
+
+// The blocks, each with the instructions of its body.
+fn write_blocks(blocks: &[CompiledBlock<'_>], out: &mut Report) {
+    for block in blocks {
+        out.push_str(" (");
+        out.push_str(block.name.as_str());
+        if block.required {
+            out.push_str(" required")
+        }
+        write_instructions(&block.instructions, out);
+        out.push(')')
+    }
 }
 
 pub(crate) fn write_instructions(code: &Instructions<'_>, out: &mut Report) {
@@ -155,6 +171,19 @@ fn write_applied(instruction: &Instruction<'_>, out: &mut Report) {
         Instruction::BuildList(Some(count)) => out.group("list", count),
         Instruction::MergeKwargs(count) => out.group("merge", count),
         Instruction::Not => out.push_str("not"),
+        _ => write_placed(instruction, out),
+    }
+}
+
+// What runs a block or another template, or makes a module of what one stores.
+fn write_placed(instruction: &Instruction<'_>, out: &mut Report) {
+    match instruction {
+        Instruction::CallBlock(name) => write_named("(block", name.as_str(), out),
+        Instruction::FastSuper => out.push_str("super"),
+        Instruction::LoadBlocks => out.push_str("extends"),
+        Instruction::Include(false) => out.push_str("include"),
+        Instruction::ExportLocals => out.push_str("export"),
+        Instruction::BeginCapture(CaptureMode::Discard) => out.push_str("drop"),
         _ => out.push('?'),
     }
 }

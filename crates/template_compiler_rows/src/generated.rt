@@ -2,11 +2,12 @@
 use crate::NAME;
 use crate::code::write_instructions;
 use crate::listed::{added, line_in, span_from, write_places};
+use crate::numbers::write_numbers;
 use crate::report::{Report, unreadable};
 use serde_json::{Map, Value as Json};
 use std::alloc::Global;
 use std::borrow::CowStr;
-use template_code::Instruction;
+use template_code::{Instruction, Instructions};
 use template_compiler_generator::CodeGenerator;
 use template_compiler_runnable::{is_runnable, is_runnable_expr};
 use template_tree::{Expr, Span};
@@ -23,7 +24,15 @@ pub(crate) fn generated<'line>(
 ) {
     match (entries.get("calls"), entries.get("places")) {
         (Some(Json::Array(calls)), Some(Json::Array(places))) => {
-            generate(alloc, tree, calls.as_slice(), places.as_slice(), out)
+            let ask_numbers = entries.get("numbers").is_some();
+            generate(
+                alloc,
+                tree,
+                calls.as_slice(),
+                places.as_slice(),
+                ask_numbers,
+                out,
+            )
         }
         _ => out.refuse(ErrorKind::SyntaxError),
     }
@@ -34,6 +43,7 @@ fn generate<'line>(
     tree: &Stmt<'line>,
     calls: &'line [Json],
     places: &[Json],
+    ask_numbers: bool,
     out: &mut Report,
 ) {
     let mut generator = CodeGenerator::new(alloc, NAME, "");
@@ -42,12 +52,21 @@ fn generate<'line>(
         match generator.finish() {
             Ok(code) => {
                 write_places(&code, places, out);
-                write_instructions(&code, out)
+                write_generated(&code, ask_numbers, out)
             }
             Err(error) => out.refuse(error.kind()),
         }
     } else {
         out.refuse(ErrorKind::SyntaxError)
+    }
+}
+
+// The instructions, or the numbers of filters and tests among them.
+fn write_generated(code: &Instructions<'_>, ask_numbers: bool, out: &mut Report) {
+    if ask_numbers {
+        write_numbers(code, out)
+    } else {
+        write_instructions(code, out)
     }
 }
 

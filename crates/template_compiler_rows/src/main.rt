@@ -14,7 +14,10 @@
 //! and of the template under the default syntax for
 //!
 //! - `code`: the template's instructions, `?` for one that has no word here; `owned`: the same of a template with texts of
-//!   its own, behind its name and its source;
+//!   its own, behind its name and its source; `blocks`: those of each of its blocks, behind its name, and `required` where
+//!   a template that extends this one has to give a body of its own;
+//! - `numbers`: the names of the filters and of the tests among its instructions, each with the number that the code has
+//!   for it;
 //! - `runs`: where its instructions come from, as `(line count "text")` for each run of them that come from one place;
 //! - `references`: the names that the instructions up to each one refer to, and up to one past the last, the latest
 //!   first, as `(index name ..)`;
@@ -25,7 +28,7 @@
 //! - `generated`, with two more entries, `calls` of a generator and `places`: how many instructions come of the calls, the
 //!   hint of room for them and where those at the places come from, each with a `;` behind it, and then the instructions.
 //!   A call is its name, or an array of its name and a text, a line, or the line that a span starts in; `template`
-//!   compiles the source.
+//!   compiles the source. Where there is an entry `numbers`, those of filters and tests stand in place of the instructions.
 //!
 //! An object with `expression` is the text of an expression. Its `ask` is `value`: what the expression prints, if it is
 //! constant, else `-`; or it has `calls`, which the stream of its tokens answers in turn, with a `;` behind each answer. A
@@ -66,6 +69,7 @@ mod fuels;
 mod generated;
 mod listed;
 mod made;
+mod numbers;
 mod operands;
 mod report;
 mod runs;
@@ -154,7 +158,9 @@ fn about_source<'line>(
     let ask = text_in(entries, "ask").unwrap_or("");
     match ask {
         "tokens" | "stream" | "syntax" => about_syntax(alloc, source, ask, entries, out),
-        "code" | "owned" | "runs" | "references" => about_code(alloc, source, ask, out),
+        "code" | "owned" | "blocks" | "runs" | "references" | "numbers" => about_code(
+            alloc, source, ask, out,
+        ),
         _ => about_template(alloc, source, ask, entries, out),
     }
 }

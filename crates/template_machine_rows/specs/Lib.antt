@@ -1,2 +1,4 @@
 pub mod Brings
+pub mod Joins
+pub mod Prints
 pub mod Says

@@ -2,7 +2,7 @@
 use crate::brought::Brought;
 use crate::calls::ask;
 use crate::case::{Brings, Case, Escapes, Setting};
-use crate::described::brought_of;
+use crate::described::{brought_of, joined_of};
 use crate::own::{Made, Own};
 use crate::report::Report;
 use crate::steps::Step;
@@ -168,7 +168,24 @@ fn bring<E: Made>(
     for (_name, brought) in described(alloc, &brings.method)? {
         environment.set_unknown_method_callback(E::method(brought));
     }
+    bring_callbacks(alloc, environment, brings)?;
     remove(environment, brings);
+    Ok(())
+}
+
+// Sets what says how values are printed, and what names mean.
+fn bring_callbacks<E: Made>(
+    alloc: Global,
+    environment: &mut Environment<'_, E>,
+    brings: &Brings<'_>,
+) -> Result<(), Error> {
+    for (_name, brought) in described(alloc, &brings.formatter)? {
+        environment.set_formatter(E::formatter(brought));
+    }
+    for entry in brings.join.entries().unwrap_or(&[]) {
+        let joined = joined_of(alloc, &entry.value)?;
+        environment.set_path_join_callback(E::join(alloc, joined));
+    }
     Ok(())
 }
 

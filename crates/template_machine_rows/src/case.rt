@@ -9,13 +9,15 @@ use template_values_errors::{Error, ErrorKind, UndefinedBehavior};
 use template_values_json::context_from_json;
 
 // The names of a case's entries.
-const KNOWN: [&str; 28] = [
+const KNOWN: [&str; 30] = [
     "globals",
     "remove_globals",
     "filters",
     "tests",
     "functions",
     "method",
+    "formatter",
+    "join",
     "remove_filters",
     "remove_tests",
     "brings",
@@ -41,13 +43,15 @@ const KNOWN: [&str; 28] = [
 ];
 
 // The names of the entries that say what is brought.
-const BRINGS: [&str; 8] = [
+const BRINGS: [&str; 10] = [
     "globals",
     "remove_globals",
     "filters",
     "tests",
     "functions",
     "method",
+    "formatter",
+    "join",
     "remove_filters",
     "remove_tests",
 ];
@@ -83,6 +87,10 @@ pub(crate) struct Brings<'line> {
     pub(crate) functions: Value,
     /// A map of one, if what answers for methods is described.
     pub(crate) method: Value,
+    /// A map of one, if what says how values are printed is described.
+    pub(crate) formatter: Value,
+    /// A map of one, if it is described what names mean that stand in templates.
+    pub(crate) join: Value,
     pub(crate) removed_filters: Vec<&'line str>,
     pub(crate) removed_tests: Vec<&'line str>,
 }
@@ -254,6 +262,8 @@ impl<'line> Brings<'line> {
         let tests = object_of(alloc, entries.get("tests"));
         let functions = object_of(alloc, entries.get("functions"));
         let method = wrapped_of(alloc, entries.get("method"));
+        let formatter = wrapped_of(alloc, entries.get("formatter"));
+        let join = wrapped_of(alloc, entries.get("join"));
         let removed_filters = listed_of(alloc, entries.get("remove_filters"));
         let removed_tests = listed_of(alloc, entries.get("remove_tests"));
         Brings {
@@ -263,17 +273,21 @@ impl<'line> Brings<'line> {
             tests: out.or(tests, Value::none()),
             functions: out.or(functions, Value::none()),
             method: out.or(method, Value::none()),
+            formatter: out.or(formatter, Value::none()),
+            join: out.or(join, Value::none()),
             removed_filters: out.or(removed_filters, Vec::new(alloc)),
             removed_tests: out.or(removed_tests, Vec::new(alloc)),
         }
     }
 
-    // Whether no filter, test or function is brought, and nothing that answers for methods.
+    // Whether no filter, test or function is brought, and nothing that answers for methods, prints or names.
     fn is_nothing(&self) -> bool {
         is_empty(&self.filters)
             && is_empty(&self.tests)
             && is_empty(&self.functions)
             && is_empty(&self.method)
+            && is_empty(&self.formatter)
+            && is_empty(&self.join)
     }
 }
 

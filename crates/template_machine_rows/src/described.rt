@@ -1,5 +1,6 @@
 //! How a case describes what it brings.
 use crate::brought::Brought;
+use crate::joined::{Joined, Means};
 use crate::what::{First, Named, Seen, What};
 use std::alloc::Global;
 use template_rows::unreadable;
@@ -22,6 +23,34 @@ pub(crate) fn brought_of(alloc: Global, described: &Value) -> Result<Brought, Er
         counts,
         what,
     })
+}
+
+/// What a case says of the names in templates: an object of texts under `behind`, or a fault under `fails`; `SyntaxError` where it
+/// is none of these.
+pub(crate) fn joined_of(alloc: Global, described: &Value) -> Result<Joined, Error> {
+    let means = match (described.value_at("behind"), described.value_at("fails")) {
+        (Some(prefixes), None) => Means::Behind(prefixes_of(alloc, prefixes)?),
+        (None, Some(said)) => {
+            let (kind, cause) = kinds_of(said)?;
+            Means::Fails(kind, cause)
+        }
+        _ => return unreadable(),
+    };
+    Ok(Joined { alloc, means })
+}
+
+fn prefixes_of(alloc: Global, prefixes: &Value) -> Result<Vec<(String, String)>, Error> {
+    let mut texts = Vec::new(alloc);
+    for entry in prefixes.entries().unwrap_or(&[]) {
+        let (Some(name), Some(prefix)) = (entry.key.as_str(), entry.value.as_str()) else {
+            return unreadable();
+        };
+        texts.push((
+            String::from_str(alloc, name)?,
+            String::from_str(alloc, prefix)?,
+        ))?;
+    }
+    Ok(texts)
 }
 
 /// The text under a name of a map, if there is one.
@@ -135,12 +164,17 @@ fn place_of(said: &Value) -> Result<usize, Error> {
     }
 }
 
-// A kind, or a list of a kind and that of its cause.
 fn fault_of(said: &Value) -> Result<What, Error> {
+    let (kind, cause) = kinds_of(said)?;
+    Ok(What::Fails(kind, cause))
+}
+
+// A kind, or a list of a kind and that of its cause.
+fn kinds_of(said: &Value) -> Result<(ErrorKind, Option<ErrorKind>), Error> {
     if let Some([kind, cause]) = said.items() {
-        return Ok(What::Fails(kind_of(kind)?, Some(kind_of(cause)?)));
+        return Ok((kind_of(kind)?, Some(kind_of(cause)?)));
     }
-    Ok(What::Fails(kind_of(said)?, None))
+    Ok((kind_of(said)?, None))
 }
 
 const KINDS: [ErrorKind; 23] = [

@@ -3,7 +3,7 @@ use crate::described::text_at;
 use crate::report::Report;
 use crate::tellings::{tell_state, tell_temp};
 use template_callables::Extension;
-use template_environment::State;
+use template_environment::{State, Template};
 use template_values_core::Value;
 use template_values_errors::{Error, ErrorKind};
 
@@ -40,8 +40,23 @@ fn tell_call<E: Extension>(state: &mut State<'_, '_, E>, call: &Value, out: &mut
         tell_temp(&state.get_temp(name), out)
     } else if call.value_at("tell").is_some() {
         tell_state(state, out)
+    } else if let Some(value) = call.value_at("format") {
+        out.text(&state.format(value))
+    } else if let Some(name) = text_at(call, "render_block") {
+        out.text(&state.render_block(name))
+    } else if let Some(name) = text_at(call, "get_template") {
+        tell_name(&state.get_template(name), out)
+    } else if call.value_at("current_block").is_some() {
+        out.push_str(state.current_block().unwrap_or("-"))
     } else {
         set_temp(state, call, out)
+    }
+}
+
+fn tell_name<E: Extension>(template: &Result<Template<'_, '_, E>, Error>, out: &mut Report) {
+    match template {
+        Ok(template) => out.push_str(template.name()),
+        Err(error) => out.fault(error),
     }
 }
 

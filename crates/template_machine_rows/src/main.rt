@@ -4,15 +4,20 @@
 //! - `globals`: the values that are put under names before all else, an object;
 //! - `remove_globals`: the names that no value stands under behind that, an array of texts;
 //! - `filters`, `tests`, `functions`: what is brought under names then, objects, each in the order of its names; `method`:
-//!   what answers for methods that values do not have. How each is described stands below;
+//!   what answers for methods that values do not have; `formatter`: what is printed in the place of a value: a text that it
+//!   answers as it stands, another value under the escape in force, and the value itself where it asks for more. How each is
+//!   described stands below;
+//! - `join`: what names mean that stand in templates: `{"behind": object}`, with a text for each template's name, behind which
+//!   a name stands that is found there; or `{"fails": kind}`, `{"fails": [kind, cause]}`;
 //! - `remove_filters`, `remove_tests`: the names of those that are removed behind that, arrays of texts;
 //! - `brings`: objects with the entries that stand so far, which are brought in turn behind those of the case; `again`:
 //!   such objects, each of which is brought behind the answer, before the same is asked for again;
 //! - `held`: functions that the context has besides, an object of arrays of two numbers: that of an environment, and that of
 //!   a function; or namespaces, each an object with such an array under `namespace`: that of a state, and that of a namespace;
 //! - `calls`: calls on a state in place of a render, an array of objects: `apply_filter` or `perform_test`, a name, with
-//!   `args`, an array; `get_temp`, a name; `set_temp`, a name, with a `value`; or `tell`, which tells the state. The state is a
-//!   new one of the template `main`, where this is named, else one without a template;
+//!   `args`, an array; `get_temp`, a name; `set_temp`, a name, with a `value`; `format`, a value; `render_block`, a name;
+//!   `get_template`, a name; `current_block`; or `tell`, which tells the state. The state is a new one of the template `main`,
+//!   where this is named, else one without a template;
 //! - `temps`: the names of the temps that are told behind a render, an array of texts;
 //! - `templates`: what is done before the render, in order: `[name, source]` adds a template, `[name, null]` removes
 //!   the one of that name, `null` removes all, an object with `line_statement` and `line_comment` sets the prefixes of
@@ -68,7 +73,8 @@
 //! - the value of an expression, as JSON, or `undefined`, or `function N of M` for a function, N being its number and M that
 //!   of its environment; a value that a state knows may also be `namespace N of M`, M being the number of its state;
 //! - ` temps [name value, name -]` behind that, where temps are asked for, with `-` where there is none;
-//! - what each of the calls on a state gives, with `, ` between: a value, `true` or `false`, and `-` where there is no temp;
+//! - what each of the calls on a state gives, with `, ` between: a value, a text, `true` or `false`, the name of a template or of
+//!   a block, and `-` where there is no temp or no block;
 //! - `[name, name]` where names are asked for, and two such lists for those that are used: without what stands behind
 //!   dots, then with it;
 //! - `[name "source", name "source"]` for the templates that stand, and `[name value, name value]` for the globals;
@@ -89,7 +95,9 @@ mod brought;
 mod calls;
 mod case;
 mod described;
+mod formatted;
 mod invoked;
+mod joined;
 mod own;
 mod renders;
 mod report;

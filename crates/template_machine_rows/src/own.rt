@@ -1,5 +1,7 @@
 //! What a case may bring, by its types.
 use crate::brought::Brought;
+use crate::joined::Joined;
+use std::alloc::Global;
 use template_callables::{Extension, NoCallable, NoExtension, NoFormatter, NoJoin, NoMethod};
 use template_machine_surroundings::{AutoEscapeRule, NoRule};
 use template_values_errors::AutoEscape;
@@ -12,6 +14,10 @@ pub(crate) trait Made: Extension {
     fn callable(brought: Brought) -> Self::Callable;
 
     fn method(brought: Brought) -> Self::Method;
+
+    fn formatter(brought: Brought) -> Self::Formatter;
+
+    fn join(alloc: Global, joined: Joined) -> Self::Join;
 }
 
 impl Made for NoExtension {
@@ -26,6 +32,14 @@ impl Made for NoExtension {
     fn method(_brought: Brought) -> NoMethod {
         NoMethod
     }
+
+    fn formatter(_brought: Brought) -> NoFormatter {
+        NoFormatter
+    }
+
+    fn join(alloc: Global, _joined: Joined) -> NoJoin {
+        NoJoin::new(alloc)
+    }
 }
 
 /// All that a case may bring.
@@ -36,9 +50,9 @@ impl Extension for Own {
 
     type Method = Brought;
 
-    type Formatter = NoFormatter;
+    type Formatter = Brought;
 
-    type Join = NoJoin;
+    type Join = Joined;
 
     type Rule = ShortNames;
 }
@@ -54,6 +68,14 @@ impl Made for Own {
 
     fn method(brought: Brought) -> Brought {
         brought
+    }
+
+    fn formatter(brought: Brought) -> Brought {
+        brought
+    }
+
+    fn join(_alloc: Global, joined: Joined) -> Joined {
+        joined
     }
 }
 

@@ -232,7 +232,7 @@ fn behavior_name(behavior: UndefinedBehavior) -> &'static str
     }
 }
 
-fn fault(alloc: Global, kind: ErrorKind, cause: Option<ErrorKind>) -> Error
+pub(crate) fn fault(alloc: Global, kind: ErrorKind, cause: Option<ErrorKind>) -> Error
     ensures { (result ≡ kind ∷ option_to_list cause) ⊎ NoMemory result }
 {
     match cause {
