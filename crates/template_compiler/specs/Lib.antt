@@ -57,7 +57,7 @@ pub use Rattle.template_compiler_statement_codegen.specs.Listed
 pub use Rattle.template_compiler_generator.specs.Drafts
 pub use Rattle.template_compiler_generator.specs.View as DraftView
 pub use Rattle.template_compiler_generator.specs.Laws as DraftLaws
-pub use Rattle.template_compiler_runnable.specs.Runs
+pub use Rattle.template_compiler_runnable.specs.Laws as TreeLaws
 pub use Rattle.template_compiled.specs.Sources
 pub use Rattle.template_compiled.specs.Compiled
 pub use Rattle.template_compiled.specs.Streams as TemplateStreams

@@ -25,13 +25,13 @@ use Rattle.template_machine_meaning.proofs.Ends.{every_key_ends}
 use Rattle.template_machine_renders.specs.Laws.{block_run, named_so}
 use Rattle.template_machine_renders.specs.Plans.{end_of, run_of}
 use Rattle.template_compiled.specs.Compiled.{Compiled, standing_of}
-use Rattle.template_compiled.specs.Sources.{tree_in}
 use Rattle.template_compiled.specs.Standing.{compiled_at}
+use Rattle.template_compiled.proofs.Trees.{tree_runs}
 use Rattle.template_environment.specs.Extras.{Brought}
 use Rattle.template_environment.specs.Standing.{setting_of}
 use Rattle.template_environment.specs.States.{own_name}
 use Rattle.template_environment.specs.declared.registry.Registry.{Registry}
-use Rattle.template_environment.proofs.Rendering.{AllRun, all_run}
+use Rattle.template_environment.proofs.Rendering.{all_run}
 
 -- the names of templates
 abbrev pub names_of : List Compiled → List (List ℕ)
@@ -121,8 +121,8 @@ module _ (setting : Setting) (names : List (List ℕ)) (lists : ListsAll setting
 
 -- so does each block in the state of a template
 pub state_block_ends : (k : Brought) (e : Registry) (all : List Compiled) → ((name : List ℕ) → find (λ (c : Compiled). bytes_eq name c.name) all ≡ compiled_at e.templates name)
-    → AllRun e → (o : Option Compiled) (t : Compiled) → o ≡ Some t → IsRunnableTemplate (tree_in t.source) → (w : World) (block : List ℕ)
+    → (o : Option Compiled) (t : Compiled) → o ≡ Some t → (w : World) (block : List ℕ)
     → (n : ℕ) × IsFinished (block_run (named_so (own_name o) (walks_of (setting_of k e) (option_map standing_of o))) w block n).end
-state_block_ends k e all found running o t is runs w block =
+state_block_ends k e all found o t is w block =
     subst (λ (x : Option Compiled). (n : ℕ) × IsFinished (block_run (named_so (own_name x) (walks_of (setting_of k e) (option_map standing_of x))) w block n).end) (sym is)
-    (block_ends (setting_of k e) (names_of all) (lists_all k e all found) (all_run k e running) (standing_of t) runs w block)
+    (block_ends (setting_of k e) (names_of all) (lists_all k e all found) (all_run k e) (standing_of t) (tree_runs t.source) w block)

@@ -15,8 +15,6 @@ use Rattle.template_code.specs.Steps.{exec}
 use Rattle.template_code_blocks.specs.Streams.{BlockStream, heads_of, stream_among}
 use Rattle.template_compiler_codegen.specs.Statements.{template_code}
 use Rattle.template_compiler_numbers.proofs.Alike.{numbers_run_alike}
-use Rattle.template_compiler_runnable.specs.Running.{statements_run}
-use Rattle.template_compiler_runnable.proofs.Decided.{Decides-statements_run}
 use Rattle.template_machine_meaning.specs.World.{World, first_world}
 use Rattle.template_machine_meaning.specs.Surroundings.{Programs}
 use Rattle.template_machine_meaning.specs.Keys as keys
@@ -36,6 +34,7 @@ use Rattle.template_compiled.specs.Compiled.{Compiled, standing_of}
 use Rattle.template_compiled.specs.Sources as sources
 use Rattle.template_compiled.specs.Standing.{compiled_at}
 use Rattle.template_compiled.specs.Streams.{stream_of, streams_of}
+use Rattle.template_compiled.proofs.Trees.{tree_runs}
 use Rattle.template_environment.specs.Extras.{UserAnswers, Brought, joins_by}
 use Rattle.template_environment.specs.Reading.{brought_of, callables_of, extras_of, registry_of, setting_in}
 use Rattle.template_environment.specs.Renderings.{rendering}
@@ -177,28 +176,23 @@ render_stopped X k e id c context s w after set fuel left before taken kinds sam
     (subst (λ (p : Programs). KeyRuns {X = X} p top w fuel before (Err kinds) after left taken) of.programs runs))
     n finished)
 
--- all that stands runs
-abbrev pub AllRun : Registry → Type 0
-AllRun e = (name : List ℕ) (c : Compiled) → compiled_at e.templates name ≡ Some c → statements_run false (sources.tree_in c.source) ≡ true
-
 never : {t : Standing} → None ≡ Some t → ⊥
 never at = cc
 
 one : {t u : Standing} → Some t ≡ Some u → t ≡ u
 one at = cc
 
-runs_there : (o : Option Compiled) → ((c : Compiled) → o ≡ Some c → statements_run false (sources.tree_in c.source) ≡ true) → (t : Standing) → option_map standing_of o ≡ Some t
-    → IsRunnableTemplate t.tree
-runs_there None running t at = absurd (never at)
-runs_there (Some c) running t at =
-    subst (λ (u : Standing). IsRunnableTemplate u.tree) (one at) ((Decides-statements_run false (sources.tree_in c.source)).0 (running c refl))
+runs_there : (o : Option Compiled) (t : Standing) → option_map standing_of o ≡ Some t → IsRunnableTemplate t.tree
+runs_there None t at = absurd (never at)
+runs_there (Some c) t at = subst (λ (u : Standing). IsRunnableTemplate u.tree) (one at) (tree_runs c.source)
 
-pub all_run : (k : Brought) (e : Registry) → AllRun e → AreAllRunnable (setting_of k e)
-all_run k e running name t at = runs_there (compiled_at e.templates name) (running name) t at
+-- all that stands runs
+pub all_run : (k : Brought) (e : Registry) → AreAllRunnable (setting_of k e)
+all_run k e name t at = runs_there (compiled_at e.templates name) t at
 
 -- every render ends, where names list all that stands
-pub render_ends : (k : Brought) (e : Registry) (names : List (List ℕ)) (id : ℕ) (c : Compiled) (context : Val) → ListsAll (setting_of k e) names → AllRun e
-    → IsRunnableTemplate (sources.tree_in c.source) → (n : ℕ) × IsFinished (rendering k e id c n context).end
-render_ends k e names id c context lists running runs =
-    every_run_ends (setting_of k e) names lists (all_run k e running) (standing_of c) runs (first_world id e.globals (head_of (standing_of c)) context)
+pub render_ends : (k : Brought) (e : Registry) (names : List (List ℕ)) (id : ℕ) (c : Compiled) (context : Val) → ListsAll (setting_of k e) names
+    → (n : ℕ) × IsFinished (rendering k e id c n context).end
+render_ends k e names id c context lists =
+    every_run_ends (setting_of k e) names lists (all_run k e) (standing_of c) (tree_runs c.source) (first_world id e.globals (head_of (standing_of c)) context)
     (record { framed = omega arith; floor = omega arith; alone = refl })

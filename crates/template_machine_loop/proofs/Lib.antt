@@ -5,6 +5,8 @@ pub mod Wrapping
 pub mod Doing
 mod Finding
 mod Within
+mod Parts
+mod Turned
 mod Followed
 mod Entered
 mod Choosing

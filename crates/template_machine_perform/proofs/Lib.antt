@@ -5,5 +5,4 @@ mod Holding
 pub mod Scoping
 pub mod Straying
 mod Catching
-mod Unanswered
 mod Naming

@@ -1,20 +1,22 @@
 -- The names that a whole template needs.
-use Rattle.std.proofs.Common.{Result, Ok, Err, IfOk, OnErr, OnOk, ◌≡◌, ℕ, Bool, true, false, not, ◌&&◌, ◌||◌, List, [], ◌∷◌, String, Global, Bor, codes, bytes_eq, IsTrue, inl, inr, ◌↔◌, refl, sym, ap, subst, ◌∙◌}
+use Rattle.std.proofs.Common.{Result, Ok, Err, IfOk, OnErr, OnOk, ◌≡◌, ℕ, Bool, true, false, not, ◌&&◌, ◌||◌, List, [], ◌∷◌, String, Global, Bor, codes, bytes_eq, IsTrue, inl, inr, ◌↔◌, ◌++◌, refl, sym, ap, ap₂, subst, ◌∙◌}
 use Rattle.std.specs.BTreeSet.{BTreeSet, contains_text}
-use Rattle.template_tree.specs.Tree.{Statements}
+use Rattle.template_tree.specs.Tree.{Expression, Statement, Statements, template, for_loop, if_condition, with_block, set_block, auto_escape, filter_block, block, macro, call_block, no_statements, statements_more}
 use Rattle.template_tree_statements.specs.declared.statements.Block.{Block as BlockNode}
 use Rattle.template_tree_parts.specs.Listed.{statements_in}
 use Rattle.template_walk.specs.Blocks.{Block, blocks_in}
 use Rattle.template_walk.specs.Imported.{is_imported}
-use Rattle.template_machine_meaning.specs.Isolation.{is_needed, is_used_by_block}
+use Rattle.template_machine_meaning.specs.Isolation.{is_needed, is_used_by_block, is_used_by_rounds, is_used_by_rounds_of, used_of_rounds}
 use Rattle.template_compiler_blocks.specs.Seen.{trees_in}
 use Rattle.template_names.specs.Among.{Adds, Among, is_among, just, nothing}
 use Rattle.template_names.specs.Goes.{Goes, knows, no_place, tells}
-use Rattle.template_names.specs.Names.{IsToldFor, Places, anywhere, is_stored_everywhere, is_used, place_within}
+use Rattle.template_names.specs.Names.{IsToldFor, Places, anywhere, is_stored_everywhere, is_used, is_used_in, place_within}
 use Rattle.template_names.specs.declared.state.Names.{Names}
-use Rattle.template_names.proofs.Laws.{and_false, goes_then, turned, uses_then}
+use Rattle.template_names.proofs.Laws.{and_false, goes_then, or_assoc, or_false, turned, uses_then}
+use Rattle.template_names_closures.specs.Units.{Part, part_of, parts_in, place_in_rounds, rounds, rounds_of, units_among, units_of}
+use Rattle.template_names_closures.specs.declared.parts.Unit.{Unit}
 use Rattle.template_names_undeclared.specs.Found.{AddsSome}
-use Rattle.template_names_needed.specs.Needed.{needed_by, place_in_blocks}
+use Rattle.template_names_needed.specs.Needed.{is_used_by_one, needed_by, place_in_blocks, place_in_loops}
 
 -- nothing was found or known before
 from_nothing : (k s e u : Bool) → k ≡ false → IsTrue (not k && ((false || (not s && false)) || (not e && u))) ↔ IsTrue (not e && u)
@@ -62,18 +64,69 @@ blocks_use q (b ∷ nodes) =
     and_over (not (is_stored_everywhere q)) within (place_in_blocks (anywhere q) nodes) ∙
     ap (λ x. (not (is_stored_everywhere q) && within) || x) (blocks_use q nodes)
 
--- so of a template and its blocks
-pub told_needed : (tree : Statements) (nodes : List (Bor BlockNode)) (a b c d e : Names) → trees_in nodes ≡ blocks_in tree →
+-- the rounds of recursive loops, among the parts of a tree
+place_among : Places → List Part → Bool
+place_among q [] = false
+place_among q (part ∷ parts) = place_in_rounds q part || place_among q parts
+
+loops_among : (q : Places) (units : List Unit) → place_in_loops q units ≡ place_among q (parts_in units)
+loops_among q [] = refl
+loops_among q (u ∷ units) = ap (λ b. place_in_rounds q (part_of u) || b) (loops_among q units)
+
+both_among : (q : Places) (xs ys : List Part) → place_among q (xs ++ ys) ≡ (place_among q xs || place_among q ys)
+both_among q [] ys = refl
+both_among q (x ∷ xs) ys =
+    ap (λ b. place_in_rounds q x || b) (both_among q xs ys) ∙ or_assoc (place_in_rounds q x) (place_among q xs) (place_among q ys)
+
+rounds_among : (q : List ℕ) (recursive : Bool) (target : Expression) (body : Statements) →
+    place_among (anywhere q) (rounds_of recursive target body) ≡ (recursive && used_of_rounds q target (is_used_in q body))
+rounds_among q true target body = or_false (place_in_rounds (anywhere q) (rounds target body))
+rounds_among q false target body = refl
+
+mutual
+  units_use : (q : List ℕ) (s : Statement) → place_among (anywhere q) (units_of s) ≡ is_used_by_rounds_of q s
+  units_use q (template body) = all_use q body
+  units_use q (for_loop target e condition recursive body otherwise) =
+      both_among (anywhere q) (rounds_of recursive target body) (units_among body ++ units_among otherwise) ∙
+      ap₂ (λ a b. a || b) (rounds_among q recursive target body)
+      (both_among (anywhere q) (units_among body) (units_among otherwise) ∙ ap₂ (λ a b. a || b) (all_use q body) (all_use q otherwise)) ∙
+      or_assoc (recursive && used_of_rounds q target (is_used_in q body)) (is_used_by_rounds q body) (is_used_by_rounds q otherwise)
+  units_use q (if_condition e body otherwise) =
+      both_among (anywhere q) (units_among body) (units_among otherwise) ∙ ap₂ (λ a b. a || b) (all_use q body) (all_use q otherwise)
+  units_use q (with_block assignments body) = all_use q body
+  units_use q (set_block target filters body) = all_use q body
+  units_use q (auto_escape e body) = all_use q body
+  units_use q (filter_block e body) = all_use q body
+  units_use q (block id required body) = all_use q body
+  units_use q (macro id arguments defaults body) = all_use q body
+  units_use q (call_block callee passed arguments defaults body) = all_use q body
+  units_use q _ = refl
+
+  all_use : (q : List ℕ) (ss : Statements) → place_among (anywhere q) (units_among ss) ≡ is_used_by_rounds q ss
+  all_use q no_statements = refl
+  all_use q (statements_more s ss) =
+      both_among (anywhere q) (units_of s) (units_among ss) ∙ ap₂ (λ a b. a || b) (units_use q s) (all_use q ss)
+
+-- so of a template, its blocks and its recursive loops
+pub told_needed : (tree : Statements) (nodes : List (Bor BlockNode)) (units : List Unit) (a b c d e f : Names) → trees_in nodes ≡ blocks_in tree →
+    parts_in units ≡ units_among tree →
     a.nested ≡ false → ((q : List ℕ) → tells a q ≡ false) → ((q : List ℕ) → knows a q ≡ false) →
     Goes no_place (just (codes "self")) a b → Goes no_place (just (codes "super")) b c →
     Goes (λ p. place_within p tree) nothing c d → Goes (λ p. place_in_blocks p nodes) nothing d e →
-    (q : List ℕ) → tells e q ≡ (is_used q tree || is_used_by_block q (blocks_in tree))
-told_needed tree nodes a b c d e blocks mode fresh unknown self super goes more q =
+    Goes (λ p. place_in_loops p units) nothing e f →
+    (q : List ℕ) → tells f q ≡ is_used_by_one q tree
+told_needed tree nodes units a b c d e f blocks loops mode fresh unknown self super goes more rest q =
     let stored = not (is_stored_everywhere q) in
     let within = place_within (anywhere q) tree in
-    told (λ p. place_within p tree || place_in_blocks p nodes) a b c e mode fresh unknown self super (uses_then c d e goes more) q ∙
-    and_over stored within (place_in_blocks (anywhere q) nodes) ∙ ap (λ x. (stored && within) || x) (blocks_use q nodes) ∙
-    ap (λ (bs : List Block). is_used q tree || is_used_by_block q bs) blocks
+    let inside = place_in_blocks (anywhere q) nodes in
+    let again = place_in_loops (anywhere q) units in
+    told (λ p. (place_within p tree || place_in_blocks p nodes) || place_in_loops p units) a b c f mode fresh unknown self super
+    (uses_then c e f (uses_then c d e goes more) rest) q ∙
+    and_over stored (within || inside) again ∙
+    ap (λ x. x || (stored && again)) (and_over stored within inside ∙ ap (λ x. (stored && within) || x) (blocks_use q nodes) ∙
+    ap (λ (bs : List Block). is_used q tree || is_used_by_block q bs) blocks) ∙
+    ap (λ x. (is_used q tree || is_used_by_block q (blocks_in tree)) || (stored && x))
+    (loops_among (anywhere q) units ∙ ap (λ (ps : List Part). place_among (anywhere q) ps) loops ∙ all_use q tree)
 
 -- what is told is what is found
 pub found_as : {E : Type 0} (among : Among) (d : Names) (r : Result (BTreeSet (String Global)) E) → ((q : List ℕ) → tells d q ≡ among q) →
@@ -83,11 +136,11 @@ found_as among d (Err error) same is = tt
 
 -- with the names that are imported
 pub all_needed : (tree : Statements) (found new : BTreeSet (String Global)) (imported : List (Bor (List ℕ))) →
-    ((q : List ℕ) → contains_text found q ≡ (is_used q tree || is_used_by_block q (blocks_in tree))) →
+    ((q : List ℕ) → contains_text found q ≡ is_used_by_one q tree) →
     ((q : List ℕ) → is_among imported q ≡ is_imported q tree) → Adds (is_among imported) found new →
     (q : List ℕ) → contains_text new q ≡ is_needed q tree
 all_needed tree found new imported used named adds q =
-    adds q ∙ ap (λ b. b || is_among imported q) (used q) ∙ ap (λ b. (is_used q tree || is_used_by_block q (blocks_in tree)) || b) (named q)
+    adds q ∙ ap (λ b. b || is_among imported q) (used q) ∙ ap (λ b. is_used_by_one q tree || b) (named q)
 
 -- what is added to a set
 pub added : {T E : Type 0} (tree : Statements) (needed old new : BTreeSet (String Global)) (r : Result T E) →

@@ -1,0 +1,1 @@
+use Rattle.template_compiler_expression_codegen.proofs.calls.call_instruction.Goals as goal

@@ -1,0 +1,1 @@
+use Rattle.template_compiler_statement_codegen.proofs.prints.named_printing.Goals as goal

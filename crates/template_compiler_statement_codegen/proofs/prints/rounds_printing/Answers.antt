@@ -1,0 +1,1 @@
+use Rattle.template_compiler_statement_codegen.proofs.prints.rounds_printing.Goals as goal
