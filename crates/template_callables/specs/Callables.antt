@@ -21,6 +21,8 @@ pub data Asked : Type 0 where
   filter : List ℕ → List Val → Asked
   test : List ℕ → List Val → Asked
   lookup : List ℕ → Asked
+  call_macro : List ℕ → List Val → Asked
+  block : List ℕ → Asked
 
 -- an answer: a value, a fault by its kinds, or something to be asked of the machine; temps are set first, in turn
 pub data Stated : Type 0 where

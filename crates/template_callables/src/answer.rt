@@ -28,6 +28,11 @@ pub enum Further {
     Test(String, Vec<Value>),
     /// A name is looked up; it is undefined where it stands for nothing.
     Lookup(String),
+    /// What a name stands for is called with arguments; what that comes to is printed to a text, which is safe where an escape is
+    /// in force. A loop isn't called so.
+    Macro(String, Vec<Value>),
+    /// A block runs, whether or not the template extends another; its text is safe where an escape is in force.
+    Block(String),
 }
 
 /// The value, with no temps.

@@ -5,12 +5,14 @@ ghost use Rattle.template_code.specs.Laws.{CodeRises};
 
 mod instruction;
 mod listing;
+mod numbered;
 
 pub use instruction::{
     CaptureMode, CompareOp, Instruction, LOOP_FLAG_RECURSIVE, LOOP_FLAG_WITH_LOOP_VAR, LocalId,
     MACRO_CALLER, MAX_LOCALS,
 };
 pub use listing::Instructions;
+pub use numbered::Part;
 
 /// Code that may run for more instructions does what it did, as far as that went.
 pub fn code_rises()

@@ -5,9 +5,11 @@ ghost use Rattle.std.proofs.Math.ListN.{set};
 ghost use Rattle.template_values_errors.specs.Memory.{NoMemory};
 ghost use Rattle.template_code_marks.specs.Marked.{marks_in};
 ghost use Rattle.template_code.specs.View.{code_of};
+ghost use Rattle.template_code.specs.Counting.{AreNumbered, count_of, counts_before, place_from, places_from};
 ghost use Rattle.template_code.specs.Told.{told_span};
 
 use crate::instruction::{Instruction, owned};
+use crate::numbered::{Part, count_before, is_counted, place_at, places_of};
 use std::alloc::{AllocError, Global};
 use std::borrow::CowStr;
 use template_code_marks::{Mark, Marks};
@@ -27,6 +29,11 @@ pub struct Instructions<'source> {
     source: CowStr<'source>,
     code: Vec<Instruction<'source>>,
     marks: Marks,
+    // Where macros are made, and where loops are opened that may be called again, if that was listed.
+    macros: Vec<u32>,
+    rounds: Vec<u32>,
+    is_numbered: bool,
+    ghost numbered: { IsTrue is_numbered → AreNumbered macros.items rounds.items (map code_of code.items) },
     ghost small: { length code.items < 2 ^ 32 },
     ghost placed: { All (λ m. m.start < length code.items) (marks_in marks) },
 }
@@ -46,6 +53,9 @@ impl<'source> Instructions<'source> {
             source: CowStr::Borrowed(source),
             code: with_room(alloc, source.len() / BYTES_AN_INSTRUCTION),
             marks: Marks::with_room(alloc, source.len() / BYTES_A_MARK),
+            macros: Vec::new(alloc),
+            rounds: Vec::new(alloc),
+            is_numbered: false,
         }
     }
 
@@ -57,6 +67,55 @@ impl<'source> Instructions<'source> {
     {
         self.code.shrink_to_fit();
         self.marks.shrink_to_fit();
+    }
+
+    /// Lists where macros are made and where loops are opened that may be called again, where memory can be had for it: these are
+    /// found by their numbers without a pass over the code then, until it is changed. Takes time linear in the instructions.
+    pub fn number_parts(&mut self)
+        ensures code { code_in self.new ≡ code_in self.old }
+        ensures same { IsSameTemplate self.old self.new }
+        ensures places { places_in self.new ≡ places_in self.old }
+    {
+        let alloc = *self.code.allocator();
+        let macros = places_of(alloc, Part::Macro, self.code.as_slice());
+        let rounds = places_of(alloc, Part::Rounds, self.code.as_slice());
+        if let (Ok(macros), Ok(rounds)) = (macros, rounds) {
+            self.macros = macros;
+            self.rounds = rounds;
+            self.is_numbered = true;
+        }
+    }
+
+    /// How many parts of a kind stand before a place. Takes a search by halving where the parts are numbered, and else time linear
+    /// in the place.
+    pub fn parts_before(&self, part: Part, place: u32) -> usize
+        ensures { result ≡ count_of part (counts_before (code_in self.now) place) }
+    {
+        if self.is_numbered {
+            return count_before(self.places(part), place);
+        }
+        counted(part, self.code.as_slice(), place as usize)
+    }
+
+    /// Where the part of a kind stands that has this number among them. Takes constant time where the parts are numbered, and else
+    /// time linear in the instructions.
+    pub fn part_place(&self, part: Part, number: usize) -> Option<u32>
+        ensures { result ≡ place_from part 0 (code_in self.now) number }
+    {
+        if self.is_numbered {
+            return place_at(self.places(part), number);
+        }
+        found(part, self.code.as_slice(), number)
+    }
+
+    // The places that are listed of a kind.
+    fn places(&self, part: Part) -> &[u32]
+        ensures { IsTrue self.now.is_numbered → result.now ≡ places_from part 0 (code_in self.now) }
+    {
+        match part {
+            Part::Macro => self.macros.as_slice(),
+            Part::Rounds => self.rounds.as_slice(),
+        }
     }
 
     /// The same with texts of their own, which are copied where they were borrowed. Takes time and memory linear in the
@@ -77,12 +136,18 @@ impl<'source> Instructions<'source> {
             source,
             code,
             marks,
+            macros,
+            rounds,
+            is_numbered,
         } = self;
         Ok(Instructions {
             name: owned(alloc, name)?,
             source: owned(alloc, source)?,
             code: owned_code(alloc, code)?,
             marks,
+            macros,
+            rounds,
+            is_numbered,
         })
     }
 
@@ -175,6 +240,7 @@ impl<'source> Instructions<'source> {
         ensures full { IsFull (code_in self.old) → IsErrAnd result (λ kind. kind ≡ ErrorKind.TooLarge) }
         ensures unchanged { OnErr result (code_in self.new ≡ code_in self.old) }
     {
+        self.is_numbered = false;
         put_last(&mut self.code, instruction)
     }
 
@@ -204,7 +270,10 @@ impl<'source> Instructions<'source> {
             span: None,
         }) {
             Ok(()) => Ok(start),
-            Err(_refused) => Err(Error::new(taken_back(&mut self.code, start))),
+            Err(_refused) => {
+                self.is_numbered = false;
+                Err(Error::new(taken_back(&mut self.code, start)))
+            }
         }
     }
 
@@ -258,7 +327,10 @@ impl<'source> Instructions<'source> {
         let start = self.push(instruction)?;
         match mark_from(&mut self.marks, start, span) {
             Ok(()) => Ok(start),
-            Err(_refused) => Err(taken_back(&mut self.code, start)),
+            Err(_refused) => {
+                self.is_numbered = false;
+                Err(taken_back(&mut self.code, start))
+            }
         }
     }
 
@@ -269,6 +341,7 @@ impl<'source> Instructions<'source> {
         ensures same { IsSameTemplate self.old self.new }
         ensures places { places_in self.new ≡ places_in self.old }
     {
+        self.is_numbered = false;
         put_at(&mut self.code, index as usize, instruction);
     }
 
@@ -278,9 +351,47 @@ impl<'source> Instructions<'source> {
         ensures same { IsSameTemplate self.old self.new }
         ensures places { places_in self.new ≡ filter (λ m. ltb m.start len) (places_in self.old) }
     {
+        self.is_numbered = false;
         self.marks.truncate(len);
         self.code.truncate(len);
     }
+}
+
+// How many parts of a kind the first so many instructions hold.
+fn counted(part: Part, code: &[Instruction<'_>], count: usize) -> usize
+    ensures { result ≡ count_of part (counts_before (map code_of code.now) count) }
+{
+    let mut parts = 0;
+    let mut left = count;
+    for instruction in code {
+        if left == 0 {
+            return parts;
+        }
+        left -= 1;
+        if is_counted(part, instruction) {
+            parts += 1;
+        }
+    }
+    parts
+}
+
+// Where the part of a kind stands that has this number.
+fn found(part: Part, code: &[Instruction<'_>], number: usize) -> Option<u32>
+    requires { length code.now < 2 ^ 32 }
+    ensures { result ≡ place_from part 0 (map code_of code.now) number }
+{
+    let mut left = number;
+    let mut place = 0;
+    for instruction in code {
+        if is_counted(part, instruction) {
+            if left == 0 {
+                return Some(place);
+            }
+            left -= 1;
+        }
+        place += 1;
+    }
+    None
 }
 
 // Puts an item behind the others, of which there are fewer than 2^32 then too, and answers its place.

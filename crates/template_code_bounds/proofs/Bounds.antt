@@ -9,19 +9,20 @@ use Rattle.template_code_bounds.proofs.Tokens.{tokens_bound}
 use Rattle.template_code_bounds.proofs.Spelled.{spelled_bound}
 use Rattle.template_code_bounds.proofs.Lengths.{expression_most, statements_most}
 use Rattle.template_code_bounds.proofs.Blocks.{blocks_within}
+use Rattle.template_code_bounds.proofs.Depth.{tree_within, blocks_stand}
 
 pub templates_are_bounded : TemplatesAreBounded
 templates_are_bounded x source tokens tree usable spelled whole =
-    omega (arith, statements_most tree no_ways 0, template_bound whole, tokens_bound x source tokens usable spelled)
+    omega (arith, statements_most 150 tree (tree_within whole) no_ways 0, template_bound whole, tokens_bound x source tokens usable spelled)
 
 pub blocks_are_bounded : BlocksAreBounded
 blocks_are_bounded x source tokens tree usable spelled whole i d less =
     let b = get_or (blocks_in tree) i d in
-    omega (arith, statements_most b.body no_ways 0, blocks_within 0 tree i d less, template_bound whole, tokens_bound x source tokens usable spelled)
+    omega (arith, statements_most 150 b.body (blocks_stand 150 tree (tree_within whole) i d less) no_ways 0, blocks_within 0 tree i d less, template_bound whole, tokens_bound x source tokens usable spelled)
 
 pub expressions_are_bounded : ExpressionsAreBounded
 expressions_are_bounded source tokens e spelled whole =
-    omega (arith, expression_most e 0, expression_bound whole, spelled_bound spelled)
+    omega (arith, expression_most 150 e 0, expression_bound whole, spelled_bound spelled)
 
 pub short_texts_fit : ShortTextsFit
 short_texts_fit bytes short = omega arith

@@ -1,4 +1,6 @@
 mod Sizes
+mod Depth
+mod Names
 mod Blocks
 mod Weights
 mod Expressions

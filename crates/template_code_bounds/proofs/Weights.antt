@@ -3,7 +3,6 @@
 use Rattle.std.proofs.Common.{◌≡◌, ◌<◌, ◌≤◌, ℕ, suc, ◌+◌, ◌-◌, Bool, true, false, List, [], ◌∷◌, ◌++◌, length, drop, refl, ap, arith, length-drop, length-take}
 use Rattle.std.specs.Prelude.{nat_lt, ◌^◌, if◌then◌else◌, slice_index, take_while}
 use Rattle.std.specs.List.{prefix_len}
-use Rattle.template_tree.specs.Tree.{Expression}
 use Rattle.template_compiler_tokens.specs.Token.{Token, TokenFault, identifier, number, bad, bad_syntax, float_literal}
 use Rattle.template_compiler_tokens.specs.Numbers.{is_float, value_of, base_of, digits_at, number_at}
 use Rattle.template_compiler_tokens.specs.Texts.{IsText, closed_text, bad_text, open_text}
@@ -11,7 +10,7 @@ use Rattle.template_compiler_tokens.specs.Lexical.{is_name_part, IsSign, long, s
 use Rattle.template_compiler_segments.specs.Segments.{is_bad}
 use Rattle.template_compiler_segments.proofs.Bytes.{takes_bytes}
 use Rattle.template_compiler_grammar.specs.Grammar.{IsNameTail, name_end, name_more, IsName, name, IsTexts, texts_end, texts_more}
-use Rattle.template_compiler_grammar.specs.TemplateGrammar.{IsStored, stored, IsMore, more_end, more_next, IsWord, no_word, a_word, IsContext, no_context, with_context, IsMissing, not_ignored, ignored, IsBlockEnd, plain_end, named_end}
+use Rattle.template_compiler_grammar.specs.TemplateGrammar.{IsWord, no_word, a_word, IsContext, no_context, with_context, IsMissing, not_ignored, ignored, IsBlockEnd, plain_end, named_end}
 
 -- how many bytes a token has but for one, as far as they count
 abbrev pub letters : Token → ℕ
@@ -84,9 +83,6 @@ pub texts_weigh : {s all : List ℕ} {ts us : List Token} → IsTexts s ts all u
 texts_weigh texts_end = omega arith
 texts_weigh (texts_more t) = let p = texts_weigh t in omega arith
 
-pub stored_weighs : {e : Expression} {ts us : List Token} → IsStored ts e us → weight us < weight ts
-stored_weighs (stored e) = omega arith
-
 pub word_weighs : {w : List ℕ} {b : Bool} {ts us : List Token} → IsWord w ts b us → weight us ≤ weight ts
 word_weighs no_word = omega arith
 word_weighs a_word = omega arith
@@ -102,8 +98,3 @@ missing_weighs (ignored c e) = let k = context_weighs c in let l = context_weigh
 pub block_end_weighs : {w : List ℕ} {ts us : List Token} → IsBlockEnd w ts us → weight us ≤ weight ts
 block_end_weighs plain_end = omega arith
 block_end_weighs named_end = omega arith
-
-pub more_weigh : {A : Type 0} {item : A → List Token → A → List Token → Type 0} {a b : A} {ts us : List Token} →
-    ((x y : A) (vs ws : List Token) → item x vs y ws → weight ws ≤ weight vs) → IsMore item a ts b us → weight us ≤ weight ts
-more_weigh weighs more_end = omega arith
-more_weigh weighs (more_next i m) = let k = weighs _ _ _ _ i in let l = more_weigh weighs m in omega arith

@@ -1,4 +1,5 @@
--- How much code a text has at most: 51 instructions for each of its bytes, and for one more.
+-- How much code a text has at most: 201 instructions for each of its bytes, and for one more: a name may
+-- stand in 150 macros, each of which encloses it.
 use Rattle.std.specs.Prelude.{ℕ, ◌+◌, ◌*◌, ◌^◌, ◌<◌, ◌≤◌, List, [], length}
 use Rattle.std.specs.List.{All}
 use Rattle.template_tree.specs.Tree.{Expression, Statements}
@@ -13,7 +14,7 @@ use Rattle.template_compiler_codegen.specs.Statements.{template_code, standalone
 
 -- so many instructions a text of that length has at most
 abbrev pub code_bound : ℕ → ℕ
-code_bound bytes = 51 * (bytes + 1)
+code_bound bytes = 201 * (bytes + 1)
 
 -- The code of a template is bounded by the length of its source.
 abbrev pub TemplatesAreBounded : Type 0
@@ -30,6 +31,6 @@ abbrev pub ExpressionsAreBounded : Type 0
 ExpressionsAreBounded = (source : List ℕ) (tokens : List Token) (e : Expression) → IsSpelled source tokens →
     IsExpression 150 tokens e [] → length (standalone_code e) ≤ code_bound (length source)
 
--- A text of fewer than 2^26 bytes has fewer than 2^32 instructions.
+-- A text of fewer than 2^24 bytes has fewer than 2^32 instructions.
 abbrev pub ShortTextsFit : Type 0
-ShortTextsFit = (bytes : ℕ) → bytes < 2 ^ 26 → code_bound bytes < 2 ^ 32
+ShortTextsFit = (bytes : ℕ) → bytes < 2 ^ 24 → code_bound bytes < 2 ^ 32

@@ -3,7 +3,7 @@ use Rattle.std.proofs.Common.{◌≡◌, ℕ, suc, List, [], ◌∷◌, Option, 
 use Rattle.std.specs.List.{list_any}
 use Rattle.std.proofs.lemmas.List.{map-append}
 use Rattle.template_code.specs.Code.{Code}
-use Rattle.template_code_references.specs.References.{is_among, names_with, is_jump_to, names_behind}
+use Rattle.template_code_references.specs.References.{is_among, name_at, names_with, is_jump_to, is_return, names_behind, opens_body}
 
 -- a name is among others, of which each is lent
 is_among-lent : (name : List ℕ) (names : List (Bor (List ℕ)))
@@ -43,3 +43,17 @@ still_within code names wanted body end place left is at other h =
     let Q : ℕ → Type 0 = λ n. names_behind code names (Some end) n ≡ wanted in
     let R : Bool → Type 0 = λ b. names_behind code names (cond b None (Some end)) place ≡ wanted in
     subst R other (subst Q at (subst P is h))
+
+-- outside of bodies an instruction that neither ends one nor leads past one adds its name
+pub still_outside : (code : List Code) (names more wanted : List (List ℕ)) (body : Option ℕ) (place left : ℕ) → body ≡ None → left ≡ suc place
+    → is_return (slice_get code place) ≡ false → opens_body code (slice_get code place) ≡ false → more ≡ names_with names (name_at code place)
+    → names_behind code names body left ≡ wanted → names_behind code more body place ≡ wanted
+still_outside code names more wanted body place left is at inside closed added h =
+    let P : Option ℕ → Type 0 = λ o. names_behind code names o left ≡ wanted in
+    let Q : ℕ → Type 0 = λ n. names_behind code names None n ≡ wanted in
+    let behind = names_behind code (names_with names (name_at code place)) None place in
+    let R : Bool → Type 0 = λ b. cond b (names_behind code names (Some (suc place)) place) (cond (opens_body code (slice_get code place)) names behind) ≡ wanted in
+    let S : Bool → Type 0 = λ b. cond b names behind ≡ wanted in
+    let T : List (List ℕ) → Type 0 = λ ns. names_behind code ns None place ≡ wanted in
+    let U : Option ℕ → Type 0 = λ o. names_behind code more o place ≡ wanted in
+    subst U (sym is) (subst T (sym added) (subst S closed (subst R inside (subst Q at (subst P is h)))))

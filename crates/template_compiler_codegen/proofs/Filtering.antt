@@ -1,5 +1,5 @@
 -- The code of the filters of a block performs their walk, over the text that they are handed.
-use Rattle.std.proofs.Common.{ℕ, ◌+◌, List, [], ◌∷◌, length, refl, sym}
+use Rattle.std.proofs.Common.{ℕ, ◌+◌, List, ◌∷◌, length, refl}
 use Rattle.template_values_model.specs.Val.{Val}
 use Rattle.template_tree.specs.Tree.{Expression, Arguments, filtered, absent, given}
 use Rattle.template_process.specs.Process as events
@@ -11,6 +11,8 @@ use Rattle.template_compiler_codegen.specs.Core.{no_ways, flat}
 use Rattle.template_compiler_codegen.specs.Expressions.{Coded, then_code, no_number, passed_count, passed_core, positional_cores, keyword_cores, filter_code, filters_code}
 use Rattle.template_compiler_codegen.proofs.Standing.{behind_then, stands_first, stands_second}
 use Rattle.template_compiler_codegen.proofs.Expressions.{Over, moved}
+use Rattle.template_compiler_codegen.proofs.Plain.{plain_positional}
+use Rattle.template_compiler_codegen.proofs.Behind.{over_anywhere}
 use Rattle.template_compiler_codegen.proofs.Passing.{over_front}
 use Rattle.template_compiler_codegen.proofs.Performing.{takes, spreads_alike, merges_alike, performs_positional, performs_keyword}
 use Rattle.template_compiler_codegen.proofs.Storing.{Stores}
@@ -47,9 +49,10 @@ over_filter : (name : List ℕ) (args : Arguments) → Over (filter_code name ar
 over_filter name args =
     let pieces = positional_cores args in
     let named = keyword_cores args in
-    over_front (λ front. passed_walk front (positional_walks args) (keyword_walks args)) (flat no_ways (passed_core 1 pieces named)) (passed_count 1 pieces named)
-    (takes 1 pieces (positional_walks args) (performs_positional args) (spreads_alike args) named (keyword_walks args) (performs_keyword args) (merges_alike args))
-    (apply_filter name (passed_count 1 pieces named) no_number) (events.apply_filter name) (λ next before place operands. refl)
+    over_anywhere (filter_code name args) (filter_walk name args) (λ code before.
+    over_front code before (λ front. passed_walk front (positional_walks args) (keyword_walks args)) (flat no_ways (passed_core 1 pieces named)) (passed_count 1 pieces named)
+    (takes code before 1 pieces (positional_walks args) (performs_positional args) (plain_positional args) (spreads_alike args) named (keyword_walks args) (performs_keyword code before args) (merges_alike args))
+    (apply_filter name (passed_count 1 pieces named) no_number) (events.apply_filter name) (λ next so_many place operands. refl))
 
 pub over_filters : (e : Expression) → Over (filters_code e) (filters_walk e)
 over_filters (filtered name absent args) = over_filter name args

@@ -1,5 +1,8 @@
 pub mod Standing
+pub mod Plain
 pub mod Expressions
+pub mod Behind
+pub mod Counted
 pub mod Passing
 pub mod Performing
 pub mod Lengths
@@ -9,3 +12,8 @@ pub mod Gathering
 pub mod Importing
 pub mod Statements
 pub mod Whole
+pub mod Numbers
+pub mod Parts
+pub mod Macros
+pub mod Rounds
+pub mod Unfound

@@ -11,7 +11,9 @@ use Rattle.template_code.specs.Steps.{taken, handed, on_taken, act, exec}
 use Rattle.template_compiler_codegen.specs.Core.{Core, no_ways, flat}
 use Rattle.template_compiler_codegen.specs.Expressions.{Coded, then_code, one, nothing, listed_core, mapped_core, at_most_one, stretches_core, entries_stretches_core, list_count, rest_count, merged_core, merged_count, map_count, keywords_core, keyword_count, run_core, passed_core, passed_count}
 use Rattle.template_compiler_codegen.proofs.Standing.{StandsAt, instruction_at, below_at, behind_then, stands_first, stands_second}
-use Rattle.template_compiler_codegen.proofs.Expressions.{Performs, Over, behind_single, asks_at, performs_load, moved, pushed, pushed_twice, laid, laid_twice, builds_at, built_list, built_kwargs, built_merged, taken_all}
+use Rattle.template_compiler_codegen.proofs.Plain.{Plain, plain_counts, EachPlain, plain_mapped, plain_stretches}
+use Rattle.template_compiler_codegen.proofs.Behind.{PerformsBehind, OverBehind, still_behind}
+use Rattle.template_compiler_codegen.proofs.Expressions.{Gives, Performs, behind_single, asks_at, performs_load, moved, pushed, pushed_twice, laid, laid_twice, builds_at, built_list, built_kwargs, built_merged, taken_all}
 
 -- where nothing stands, nothing is passed
 stays : (code : List Code) (k place : ℕ) (operands : List Operand) (p : Process) → Below p (exec code k (place + length (nothing place)) operands) → Below p (exec code k place operands)
@@ -71,12 +73,14 @@ pub data EachPassed : List (Passing Core Core) → List (Passing Giving Giving) 
   spread_more : {piece : Core} {walk : Giving} {pieces : List (Passing Core Core)} {walks : List (Passing Giving Giving)}
       → Performs (flat no_ways piece) walk → EachPassed pieces walks → EachPassed (spreads piece ∷ pieces) (spreads walk ∷ walks)
 
-pub data EachNamed : List (Passing (List ℕ × Core) Core) → List (Passing (List ℕ × Giving) Giving) → Type 0 where
-  none_named : EachNamed [] []
+-- keyword arguments in this code, behind so many macros and loops; only the last one may count any
+pub data EachNamed (code : List Code) (first : Counts) : List (Passing (List ℕ × Core) Core) → List (Passing (List ℕ × Giving) Giving) → Type 0 where
+  none_named : EachNamed code first [] []
   named_more : {name : List ℕ} {piece : Core} {walk : Giving} {pieces : List (Passing (List ℕ × Core) Core)} {walks : List (Passing (List ℕ × Giving) Giving)}
-      → Performs (flat no_ways piece) walk → EachNamed pieces walks → EachNamed (alone (name, piece) ∷ pieces) (alone (name, walk) ∷ walks)
+      → Performs (flat no_ways piece) walk → Plain piece → EachNamed code first pieces walks → EachNamed code first (alone (name, piece) ∷ pieces) (alone (name, walk) ∷ walks)
   merged_more : {piece : Core} {walk : Giving} {pieces : List (Passing (List ℕ × Core) Core)} {walks : List (Passing (List ℕ × Giving) Giving)}
-      → Performs (flat no_ways piece) walk → EachNamed pieces walks → EachNamed (spreads piece ∷ pieces) (spreads walk ∷ walks)
+      → Performs (flat no_ways piece) walk → Plain piece → EachNamed code first pieces walks → EachNamed code first (spreads piece ∷ pieces) (spreads walk ∷ walks)
+  last_named : {name : List ℕ} {piece : Core} {walk : Giving} → PerformsBehind code first (flat no_ways piece) walk → EachNamed code first (alone (name, piece) ∷ []) (alone (name, walk) ∷ [])
 
 -- stretches behind so many values
 abbrev Stretches : ℕ → List (Passing Core Core) → List (Passing Giving Giving) → Type 0
@@ -128,27 +132,30 @@ gives_stretches n _ _ (spread_more {piece = c} {walk = walk} {pieces = args} {wa
           (behind_then first later place ∙ behind_then second more mid) (below (bs ++ v ∷ ls) us (omega (length-append bs (v ∷ ls), some, few, arith)) rest))))),
     )
 
--- so it is of entries
-abbrev EntriesStretches : ℕ → List (Passing (List ℕ × Core) Core) → List (Passing (List ℕ × Giving) Giving) → Type 0
-EntriesStretches n args walks = (code : List Code) (place : ℕ) → StandsAt code place (flat no_ways (entries_stretches_core n args) place) → (k : ℕ)
+-- so it is of entries, at a place
+abbrev EntriesAt : List Code → ℕ → List (Passing (List ℕ × Core) Core) → List (Passing (List ℕ × Giving) Giving) → ℕ → Type 0
+EntriesAt code n args walks place = (k : ℕ)
     → (j : ℕ) × ((es : List (Val × Val)) → length es ≡ n → (operands : List Operand) (go : List Val → List (Val × Val) → Process)
     → ((ms : List Val) (ds : List (Val × Val)) → length ms ≡ list_count n args → length ds ≡ rest_count n args → Below (go ms ds) (exec code k (place + length (flat no_ways (entries_stretches_core n args) place)) (pushed (laid ds) (pushed ms operands))))
     → Below (entries_stretches es walks go) (exec code j place (pushed (laid es) operands)))
 
-gives_entries : (n : ℕ) (args : List (Passing (List ℕ × Core) Core)) (walks : List (Passing (List ℕ × Giving) Giving)) → EachNamed args walks → EntriesStretches n args walks
+-- one entry, and the others
+entry_then : (code : List Code) (n : ℕ) (name : List ℕ) (c : Core) (walk : Giving) (args : List (Passing (List ℕ × Core) Core)) (walks : List (Passing (List ℕ × Giving) Giving)) (place : ℕ)
+    → StandsAt code place (one (load_const (text name)) place)
+    → Gives code walk (place + length (one (load_const (text name)) place)) ((place + length (one (load_const (text name)) place)) + length (flat no_ways c (place + length (one (load_const (text name)) place))))
+    → EntriesAt code (suc n) args walks ((place + length (one (load_const (text name)) place)) + length (flat no_ways c (place + length (one (load_const (text name)) place))))
+    → EntriesAt code n (alone (name, c) ∷ args) (alone (name, walk) ∷ walks) place
 unfolding pushed
-gives_entries n _ _ none_named code place h k = (k, λ es many operands go below. stays code k place (pushed (laid es) operands) (go [] es) (below [] es refl many))
-gives_entries n _ _ (named_more {name = name} {piece = c} {walk = walk} {pieces = args} {walks = walks} f each) code place h k =
+entry_then code n name c walk args walks place loads valued rest k =
     let first = one (load_const (text name)) in
     let second = flat no_ways c in
     let more = flat no_ways (entries_stretches_core (suc n) args) in
     let later = then_code second more in
     let mid = place + length (first place) in
     let more_at = mid + length (second mid) in
-    let behind = stands_second code place first later h in
-    let b = gives_entries (suc n) args walks each code more_at (stands_second code mid second more behind) k in
-    let a = f code mid (stands_first code mid second more behind) b.0 in
-    let l = performs_load (text name) code place (stands_first code place first later h) a.0 in (
+    let b = rest k in
+    let a = valued b.0 in
+    let l = performs_load (text name) code place loads a.0 in (
       l.0,
       λ es many operands go below.
           l.1 (pushed (laid es) operands) (λ key. walk (λ v. entries_stretches (es ++ (key, v) ∷ []) walks go))
@@ -162,17 +169,53 @@ gives_entries n _ _ (named_more {name = name} {piece = c} {walk = walk} {pieces 
           (λ ms ds few rest. moved code k (place + length (then_code first later place)) (more_at + length (more more_at)) (pushed (laid ds) (pushed ms operands)) (go ms ds)
           (behind_then first later place ∙ behind_then second more mid) (below ms ds few rest)))))),
     )
-gives_entries n _ _ (merged_more {piece = c} {walk = walk} {pieces = args} {walks = walks} f each) code place h k =
+
+-- nothing is left
+entries_over : (code : List Code) (n place : ℕ) → EntriesAt code n [] [] place
+unfolding pushed
+entries_over code n place k = (k, λ es many operands go below. stays code k place (pushed (laid es) operands) (go [] es) (below [] es refl many))
+
+gives_entries : (code : List Code) (before : Counts) (n : ℕ) (args : List (Passing (List ℕ × Core) Core)) (walks : List (Passing (List ℕ × Giving) Giving)) → EachNamed code before args walks
+    → (place : ℕ) → counts_before code place ≡ before → StandsAt code place (flat no_ways (entries_stretches_core n args) place) → EntriesAt code n args walks place
+unfolding pushed
+gives_entries code before n _ _ none_named place so_far h k = entries_over code n place k
+gives_entries code before n _ _ (named_more {name = name} {piece = c} {walk = walk} {pieces = args} {walks = walks} f plain each) place so_far h k =
+    let first = one (load_const (text name)) in
+    let second = flat no_ways c in
+    let more = flat no_ways (entries_stretches_core (suc n) args) in
+    let later = then_code second more in
+    let mid = place + length (first place) in
+    let more_at = mid + length (second mid) in
+    let loads = stands_first code place first later h in
+    let behind = stands_second code place first later h in
+    let valued = stands_first code mid second more behind in
+    let at_value = still_behind code place (first place) loads before so_far refl in
+    let at_more = still_behind code mid (second mid) valued before at_value (plain_counts plain no_ways mid) in
+    entry_then code n name c walk args walks place loads (f code mid valued) (gives_entries code before (suc n) args walks each more_at at_more (stands_second code mid second more behind)) k
+gives_entries code before n _ _ (last_named {name = name} {piece = c} {walk = walk} f) place so_far h k =
+    let first = one (load_const (text name)) in
+    let second = flat no_ways c in
+    let later = then_code second nothing in
+    let mid = place + length (first place) in
+    let loads = stands_first code place first later h in
+    let behind = stands_second code place first later h in
+    entry_then code n name c walk [] [] place loads (f mid (still_behind code place (first place) loads before so_far refl) (stands_first code mid second nothing behind))
+    (entries_over code (suc n) (mid + length (second mid))) k
+gives_entries code before n _ _ (merged_more {piece = c} {walk = walk} {pieces = args} {walks = walks} f plain each) place so_far h k =
     let first = flat no_ways (mapped_core n) in
     let second = flat no_ways c in
     let more = flat no_ways (entries_stretches_core 0 args) in
     let later = then_code second more in
     let mid = place + length (first place) in
     let more_at = mid + length (second mid) in
+    let maps_there = stands_first code place first later h in
     let behind = stands_second code place first later h in
-    let b = gives_entries 0 args walks each code more_at (stands_second code mid second more behind) k in
-    let a = f code mid (stands_first code mid second more behind) b.0 in
-    let l = maps n code place (stands_first code place first later h) a.0 in (
+    let valued = stands_first code mid second more behind in
+    let at_value = still_behind code place (first place) maps_there before so_far (plain_counts (plain_mapped n) no_ways place) in
+    let at_more = still_behind code mid (second mid) valued before at_value (plain_counts plain no_ways mid) in
+    let b = gives_entries code before 0 args walks each more_at at_more (stands_second code mid second more behind) k in
+    let a = f code mid valued b.0 in
+    let l = maps n code place maps_there a.0 in (
       l.0,
       λ es many operands go below.
           l.1 es many operands (λ bs. walk (λ v. entries_stretches [] walks (λ ms ds. go (bs ++ v ∷ ms) ds)))
@@ -201,14 +244,14 @@ merges true n code place h k = (
 )
 
 -- keyword arguments
-gives_keywords : (args : List (Passing (List ℕ × Core) Core)) (walks : List (Passing (List ℕ × Giving) Giving)) → EachNamed args walks → (several : Bool)
-    → (code : List Code) (place : ℕ) → StandsAt code place (then_code (flat no_ways (entries_stretches_core 0 args)) (then_code (flat no_ways (mapped_core (rest_count 0 args))) (flat no_ways (merged_core several (map_count args)))) place) → (k : ℕ)
+gives_keywords : (code : List Code) (before : Counts) (args : List (Passing (List ℕ × Core) Core)) (walks : List (Passing (List ℕ × Giving) Giving)) → EachNamed code before args walks → (several : Bool)
+    → (place : ℕ) → counts_before code place ≡ before → StandsAt code place (then_code (flat no_ways (entries_stretches_core 0 args)) (then_code (flat no_ways (mapped_core (rest_count 0 args))) (flat no_ways (merged_core several (map_count args)))) place) → (k : ℕ)
     → (j : ℕ) × ((operands : List Operand) (go : List Val → Process)
     → ((us : List Val) → length us ≡ merged_count several (map_count args)
     → Below (go us) (exec code k (place + length (then_code (flat no_ways (entries_stretches_core 0 args)) (then_code (flat no_ways (mapped_core (rest_count 0 args))) (flat no_ways (merged_core several (map_count args)))) place)) (pushed us operands)))
     → Below (entries_stretches [] walks (λ ms ds. mapped ds (λ more. merged_if several (ms ++ more) go))) (exec code j place operands))
 unfolding pushed
-gives_keywords args walks each several code place h k =
+gives_keywords code before args walks each several place so_far h k =
     let first = flat no_ways (entries_stretches_core 0 args) in
     let second = flat no_ways (mapped_core (rest_count 0 args)) in
     let third = flat no_ways (merged_core several (map_count args)) in
@@ -218,7 +261,7 @@ gives_keywords args walks each several code place h k =
     let behind = stands_second code place first later h in
     let c = merges several (map_count args) code third_at (stands_second code mid second third behind) k in
     let b = maps (rest_count 0 args) code mid (stands_first code mid second third behind) c.0 in
-    let a = gives_entries 0 args walks each code place (stands_first code place first later h) b.0 in (
+    let a = gives_entries code before 0 args walks each place so_far (stands_first code place first later h) b.0 in (
       a.0,
       λ operands go below.
           a.1 [] refl operands (λ ms ds. mapped ds (λ more. merged_if several (ms ++ more) go))
@@ -297,13 +340,13 @@ runs true lists_before n none code place h k =
     )
 
 -- all arguments, behind so many values at the front
-pub gives_passed : (n : ℕ) (args : List (Passing Core Core)) (walks : List (Passing Giving Giving)) → EachPassed args walks → (same : has_spread walks ≡ has_spread args)
-    → (named : List (Passing (List ℕ × Core) Core)) (named_walks : List (Passing (List ℕ × Giving) Giving)) → EachNamed named named_walks → (alike : has_spread named_walks ≡ has_spread named)
-    → (code : List Code) (place : ℕ) → StandsAt code place (flat no_ways (passed_core n args named) place) → (k : ℕ)
+pub gives_passed : (code : List Code) (before : Counts) (n : ℕ) (args : List (Passing Core Core)) (walks : List (Passing Giving Giving)) → EachPassed args walks → EachPlain args → (same : has_spread walks ≡ has_spread args)
+    → (named : List (Passing (List ℕ × Core) Core)) (named_walks : List (Passing (List ℕ × Giving) Giving)) → EachNamed code before named named_walks → (alike : has_spread named_walks ≡ has_spread named)
+    → (place : ℕ) → counts_before code place ≡ before → StandsAt code place (flat no_ways (passed_core n args named) place) → (k : ℕ)
     → (j : ℕ) × ((front : List Val) → length front ≡ n → (operands : List Operand) (go : List Val → Process)
     → ((vs : List Val) → AreSoMany (passed_count n args named) vs → Below (go vs) (exec code k (place + length (flat no_ways (passed_core n args named) place)) (handed_over (passed_count n args named) vs operands)))
     → Below (passed_walk front walks named_walks go) (exec code j place (pushed front operands)))
-gives_passed n args walks each same named named_walks others alike code place h k =
+gives_passed code before n args walks each plain same named named_walks others alike place so_far h k =
     let first = flat no_ways (stretches_core n args) in
     let second = flat no_ways (keywords_core named) in
     let count = rest_count n args + keyword_count named in
@@ -313,8 +356,10 @@ gives_passed n args walks each same named named_walks others alike code place h 
     let third_at = mid + length (second mid) in
     let behind = stands_second code place first later h in
     let c = runs (has_spread args) (list_count n args) count (no_lists n args) code third_at (stands_second code mid second third behind) k in
-    let b = gives_keywords named named_walks others (has_spread named) code mid (stands_first code mid second third behind) c.0 in
-    let a = gives_stretches n args walks each code place (stands_first code place first later h) b.0 in (
+    let stretched = stands_first code place first later h in
+    let at_names = still_behind code place (first place) stretched before so_far (plain_counts (plain_stretches n plain) no_ways place) in
+    let b = gives_keywords code before named named_walks others (has_spread named) mid at_names (stands_first code mid second third behind) c.0 in
+    let a = gives_stretches n args walks each code place stretched b.0 in (
       a.0,
       λ front many operands go below.
           let P : Bool → Type 0 = λ spread_one. Below (stretches_walk front walks (λ ls us. keywords_walk named_walks (λ last. run_if spread_one ls (us ++ last) go))) (exec code a.0 place (pushed front operands)) in
@@ -344,30 +389,30 @@ hands_at code place c count e is h k vs operands go fits below =
     (λ w. moved code k (place + length (one c place)) (suc place) (single w ∷ operands) (go w) (sym (behind_single place c)) (below w))
 
 -- what takes arguments, as an instruction says, where there is a value at the front or none
-abbrev pub Takes : (List Val → (List Val → Process) → Process) → Coded → ℕ → Option ℕ → Type 0
-Takes walk piece n count = (code : List Code) (place : ℕ) → StandsAt code place (piece place) → (k : ℕ) → (j : ℕ) × ((front : List Val) → length front ≡ n → (operands : List Operand) (go : List Val → Process)
+abbrev pub Takes : List Code → Counts → (List Val → (List Val → Process) → Process) → Coded → ℕ → Option ℕ → Type 0
+Takes code before walk piece n count = (place : ℕ) → counts_before code place ≡ before → StandsAt code place (piece place) → (k : ℕ) → (j : ℕ) × ((front : List Val) → length front ≡ n → (operands : List Operand) (go : List Val → Process)
     → ((vs : List Val) → AreSoMany count vs → Below (go vs) (exec code k (place + length (piece place)) (handed_over count vs operands))) → Below (walk front go) (exec code j place (pushed front operands)))
 
-pub performs_alone : (walk : List Val → (List Val → Process) → Process) (piece : Coded) (count : Option ℕ) → Takes walk piece 0 count → (c : Code) (e : List Val → Ask)
-    → ((next : ℕ → List Operand → Process) (before : Counts) (place : ℕ) (operands : List Operand) → act next before (Some c) place operands ≡ step (on_taken (handed count operands) (λ vs rest. asks (e vs) (on_value (λ w. next (suc place) (single w ∷ rest))))))
-    → Performs (then_code piece (one c)) (λ go. walk [] (λ vs. step (asks (e vs) (on_value go))))
+pub performs_alone : (code : List Code) (before : Counts) (walk : List Val → (List Val → Process) → Process) (piece : Coded) (count : Option ℕ) → Takes code before walk piece 0 count → (c : Code) (e : List Val → Ask)
+    → ((next : ℕ → List Operand → Process) (so_many : Counts) (place : ℕ) (operands : List Operand) → act next so_many (Some c) place operands ≡ step (on_taken (handed count operands) (λ vs rest. asks (e vs) (on_value (λ w. next (suc place) (single w ∷ rest))))))
+    → PerformsBehind code before (then_code piece (one c)) (λ go. walk [] (λ vs. step (asks (e vs) (on_value go))))
 unfolding pushed
-performs_alone walk piece count f c e is code place h k =
+performs_alone code before walk piece count f c e is place so_far h k =
     let mid = place + length (piece place) in
-    let earlier = f code place (stands_first code place piece (one c) h) (suc k) in (
+    let earlier = f place so_far (stands_first code place piece (one c) h) (suc k) in (
       earlier.0,
       λ operands go below. earlier.1 [] refl operands (λ vs. step (asks (e vs) (on_value go)))
           (λ vs fits. hands_at code mid c count e (λ next before o. is next before mid o) (stands_second code place piece (one c) h) k vs operands go fits
           (λ w. moved code k (place + length (then_code piece (one c) place)) (mid + length (one c mid)) (single w ∷ operands) (go w) (behind_then piece (one c) place) (below w))),
     )
 
-pub over_front : (walk : List Val → (List Val → Process) → Process) (piece : Coded) (count : Option ℕ) → Takes walk piece 1 count → (c : Code) (e : List Val → Ask)
-    → ((next : ℕ → List Operand → Process) (before : Counts) (place : ℕ) (operands : List Operand) → act next before (Some c) place operands ≡ step (on_taken (handed count operands) (λ vs rest. asks (e vs) (on_value (λ w. next (suc place) (single w ∷ rest))))))
-    → Over (then_code piece (one c)) (λ v go. walk (v ∷ []) (λ vs. step (asks (e vs) (on_value go))))
+pub over_front : (code : List Code) (before : Counts) (walk : List Val → (List Val → Process) → Process) (piece : Coded) (count : Option ℕ) → Takes code before walk piece 1 count → (c : Code) (e : List Val → Ask)
+    → ((next : ℕ → List Operand → Process) (so_many : Counts) (place : ℕ) (operands : List Operand) → act next so_many (Some c) place operands ≡ step (on_taken (handed count operands) (λ vs rest. asks (e vs) (on_value (λ w. next (suc place) (single w ∷ rest))))))
+    → OverBehind code before (then_code piece (one c)) (λ v go. walk (v ∷ []) (λ vs. step (asks (e vs) (on_value go))))
 unfolding pushed
-over_front walk piece count f c e is code place h k =
+over_front code before walk piece count f c e is place so_far h k =
     let mid = place + length (piece place) in
-    let earlier = f code place (stands_first code place piece (one c) h) (suc k) in (
+    let earlier = f place so_far (stands_first code place piece (one c) h) (suc k) in (
       earlier.0,
       λ v operands go below. earlier.1 (v ∷ []) refl operands (λ vs. step (asks (e vs) (on_value go)))
           (λ vs fits. hands_at code mid c count e (λ next before o. is next before mid o) (stands_second code place piece (one c) h) k vs operands go fits

@@ -21,6 +21,8 @@ use Rattle.template_compiler_codegen.specs.Core.{Core, no_ways, flat}
 use Rattle.template_compiler_codegen.specs.Expressions.{Coded, then_code, one, nothing, dropped, skipped, either_code, unary_code, binary_code, called_core, no_number, passed_count, passed_core, expression_core, object_core, positional_cores, keyword_cores, expression_code, optional_code, expressions_code, codes_of, entry_count, entries_code, chain_code, linked_code}
 use Rattle.template_compiler_codegen.proofs.Standing.{StandsAt, behind_one, instruction_at, below_at, behind_then, stands_first, stands_second}
 use Rattle.template_compiler_codegen.proofs.Expressions.{Performs, Over, GivesAll, gives_to, behind_single, asks_at, done_at, done_free, performs_load, performs_loaded, gives_then, moved, longer, over_one, over_two, tests_at, behind_skipped, over_and, over_or, over_either, pushed, performs_built, built_list, built_tuple, builds_at, laid, built_map}
+use Rattle.template_compiler_codegen.proofs.Plain.{Plain, plain_counts, EachPlain, plain_expression, plain_object, plain_positional}
+use Rattle.template_compiler_codegen.proofs.Behind.{PerformsBehind, gives_then_behind}
 use Rattle.template_compiler_codegen.proofs.Passing.{EachPassed, none_passed, alone_more, spread_more, EachNamed, none_named, named_more, merged_more, Takes, gives_passed, performs_alone, over_front}
 
 looks_up : (name : List ℕ) → Performs (one (lookup name)) (λ go. step (asks (events.look_up name) (on_value go)))
@@ -179,10 +181,10 @@ one_more first more f g count pf pg code place stands k =
     )
 
 -- arguments, with their walk
-pub takes : (n : ℕ) (args : List (Passing Core Core)) (walks : List (Passing Giving Giving)) → EachPassed args walks → has_spread walks ≡ has_spread args
-    → (named : List (Passing (List ℕ × Core) Core)) (named_walks : List (Passing (List ℕ × Giving) Giving)) → EachNamed named named_walks → has_spread named_walks ≡ has_spread named
-    → Takes (λ front. passed_walk front walks named_walks) (flat no_ways (passed_core n args named)) n (passed_count n args named)
-takes n args walks each same named named_walks others alike = gives_passed n args walks each same named named_walks others alike
+pub takes : (code : List Code) (before : Counts) (n : ℕ) (args : List (Passing Core Core)) (walks : List (Passing Giving Giving)) → EachPassed args walks → EachPlain args → has_spread walks ≡ has_spread args
+    → (named : List (Passing (List ℕ × Core) Core)) (named_walks : List (Passing (List ℕ × Giving) Giving)) → EachNamed code before named named_walks → has_spread named_walks ≡ has_spread named
+    → Takes code before (λ front. passed_walk front walks named_walks) (flat no_ways (passed_core n args named)) n (passed_count n args named)
+takes code before n args walks each plain same named named_walks others alike = gives_passed code before n args walks each plain same named named_walks others alike
 
 -- a block's text
 abbrev block_code : List ℕ → Coded
@@ -204,36 +206,36 @@ performs_block name code place h =
     ))
 
 -- a call
-performs_called : (callee : Callee) (whole object : Core) (f g : Giving) → Performs (flat no_ways whole) f → Performs (flat no_ways object) g
-    → (args : List (Passing Core Core)) (walks : List (Passing Giving Giving)) → EachPassed args walks → has_spread walks ≡ has_spread args
-    → (named : List (Passing (List ℕ × Core) Core)) (named_walks : List (Passing (List ℕ × Giving) Giving)) → EachNamed named named_walks → has_spread named_walks ≡ has_spread named
-    → Performs (flat no_ways (called_core callee whole object args named)) (called_walk callee f g (λ front. passed_walk front walks named_walks))
-performs_called (by_name name) whole object f g pf pg args walks each same named named_walks others alike =
-    performs_alone (λ front. passed_walk front walks named_walks) (flat no_ways (passed_core 0 args named)) (passed_count 0 args named) (takes 0 args walks each same named named_walks others alike)
-    (call_function name (passed_count 0 args named)) (events.call_function name) (λ next before place operands. refl)
-performs_called (by_method name) whole object f g pf pg args walks each same named named_walks others alike =
-    gives_then (flat no_ways object) (then_code (flat no_ways (passed_core 1 args named)) (one (call_method name (passed_count 1 args named)))) g
-    (λ v go. passed_walk (v ∷ []) walks named_walks (λ vs. step (asks (events.call_method name vs) (on_value go)))) pg
-    (over_front (λ front. passed_walk front walks named_walks) (flat no_ways (passed_core 1 args named)) (passed_count 1 args named) (takes 1 args walks each same named named_walks others alike)
-    (call_method name (passed_count 1 args named)) (events.call_method name) (λ next before place operands. refl))
-performs_called (by_block name) whole object f g pf pg args walks each same named named_walks others alike = performs_block name
-performs_called by_value whole object f g pf pg args walks each same named named_walks others alike =
-    gives_then (flat no_ways whole) (then_code (flat no_ways (passed_core 1 args named)) (one (call_object (passed_count 1 args named)))) f
-    (λ v go. passed_walk (v ∷ []) walks named_walks (λ vs. step (asks (events.call_value vs) (on_value go)))) pf
-    (over_front (λ front. passed_walk front walks named_walks) (flat no_ways (passed_core 1 args named)) (passed_count 1 args named) (takes 1 args walks each same named named_walks others alike)
-    (call_object (passed_count 1 args named)) events.call_value (λ next before place operands. refl))
+pub performs_called : (code : List Code) (before : Counts) (callee : Callee) (whole object : Core) (f g : Giving) → Performs (flat no_ways whole) f → Plain whole → Performs (flat no_ways object) g → Plain object
+    → (args : List (Passing Core Core)) (walks : List (Passing Giving Giving)) → EachPassed args walks → EachPlain args → has_spread walks ≡ has_spread args
+    → (named : List (Passing (List ℕ × Core) Core)) (named_walks : List (Passing (List ℕ × Giving) Giving)) → EachNamed code before named named_walks → has_spread named_walks ≡ has_spread named
+    → PerformsBehind code before (flat no_ways (called_core callee whole object args named)) (called_walk callee f g (λ front. passed_walk front walks named_walks))
+performs_called code before (by_name name) whole object f g pf whole_plain pg object_plain args walks each plain same named named_walks others alike =
+    performs_alone code before (λ front. passed_walk front walks named_walks) (flat no_ways (passed_core 0 args named)) (passed_count 0 args named) (takes code before 0 args walks each plain same named named_walks others alike)
+    (call_function name (passed_count 0 args named)) (events.call_function name) (λ next so_many place operands. refl)
+performs_called code before (by_method name) whole object f g pf whole_plain pg object_plain args walks each plain same named named_walks others alike =
+    gives_then_behind code before (flat no_ways object) (then_code (flat no_ways (passed_core 1 args named)) (one (call_method name (passed_count 1 args named)))) g
+    (λ v go. passed_walk (v ∷ []) walks named_walks (λ vs. step (asks (events.call_method name vs) (on_value go)))) pg (plain_counts object_plain no_ways)
+    (over_front code before (λ front. passed_walk front walks named_walks) (flat no_ways (passed_core 1 args named)) (passed_count 1 args named) (takes code before 1 args walks each plain same named named_walks others alike)
+    (call_method name (passed_count 1 args named)) (events.call_method name) (λ next so_many place operands. refl))
+performs_called code before (by_block name) whole object f g pf whole_plain pg object_plain args walks each plain same named named_walks others alike = λ place counted h. performs_block name code place h
+performs_called code before by_value whole object f g pf whole_plain pg object_plain args walks each plain same named named_walks others alike =
+    gives_then_behind code before (flat no_ways whole) (then_code (flat no_ways (passed_core 1 args named)) (one (call_object (passed_count 1 args named)))) f
+    (λ v go. passed_walk (v ∷ []) walks named_walks (λ vs. step (asks (events.call_value vs) (on_value go)))) pf (plain_counts whole_plain no_ways)
+    (over_front code before (λ front. passed_walk front walks named_walks) (flat no_ways (passed_core 1 args named)) (passed_count 1 args named) (takes code before 1 args walks each plain same named named_walks others alike)
+    (call_object (passed_count 1 args named)) events.call_value (λ next so_many place operands. refl))
 
 -- an instruction over a value and arguments
-performs_applied : (whole : Core) (f : Giving) → Performs (flat no_ways whole) f
-    → (args : List (Passing Core Core)) (walks : List (Passing Giving Giving)) → EachPassed args walks → has_spread walks ≡ has_spread args
-    → (named : List (Passing (List ℕ × Core) Core)) (named_walks : List (Passing (List ℕ × Giving) Giving)) → EachNamed named named_walks → has_spread named_walks ≡ has_spread named
+performs_applied : (code : List Code) (before : Counts) (whole : Core) (f : Giving) → Performs (flat no_ways whole) f → Plain whole
+    → (args : List (Passing Core Core)) (walks : List (Passing Giving Giving)) → EachPassed args walks → EachPlain args → has_spread walks ≡ has_spread args
+    → (named : List (Passing (List ℕ × Core) Core)) (named_walks : List (Passing (List ℕ × Giving) Giving)) → EachNamed code before named named_walks → has_spread named_walks ≡ has_spread named
     → (c : Code) (e : List Val → Ask)
-    → ((next : ℕ → List Operand → Process) (before : Counts) (place : ℕ) (operands : List Operand) → act next before (Some c) place operands ≡ step (on_taken (handed (passed_count 1 args named) operands) (λ vs rest. asks (e vs) (on_value (λ w. next (suc place) (single w ∷ rest))))))
-    → Performs (then_code (flat no_ways whole) (then_code (flat no_ways (passed_core 1 args named)) (one c))) (λ go. f (λ v. passed_walk (v ∷ []) walks named_walks (λ vs. step (asks (e vs) (on_value go)))))
-performs_applied whole f pf args walks each same named named_walks others alike c e is =
-    gives_then (flat no_ways whole) (then_code (flat no_ways (passed_core 1 args named)) (one c)) f
-    (λ v go. passed_walk (v ∷ []) walks named_walks (λ vs. step (asks (e vs) (on_value go)))) pf
-    (over_front (λ front. passed_walk front walks named_walks) (flat no_ways (passed_core 1 args named)) (passed_count 1 args named) (takes 1 args walks each same named named_walks others alike) c e is)
+    → ((next : ℕ → List Operand → Process) (so_many : Counts) (place : ℕ) (operands : List Operand) → act next so_many (Some c) place operands ≡ step (on_taken (handed (passed_count 1 args named) operands) (λ vs rest. asks (e vs) (on_value (λ w. next (suc place) (single w ∷ rest))))))
+    → PerformsBehind code before (then_code (flat no_ways whole) (then_code (flat no_ways (passed_core 1 args named)) (one c))) (λ go. f (λ v. passed_walk (v ∷ []) walks named_walks (λ vs. step (asks (e vs) (on_value go)))))
+performs_applied code before whole f pf whole_plain args walks each plain same named named_walks others alike c e is =
+    gives_then_behind code before (flat no_ways whole) (then_code (flat no_ways (passed_core 1 args named)) (one c)) f
+    (λ v go. passed_walk (v ∷ []) walks named_walks (λ vs. step (asks (e vs) (on_value go)))) pf (plain_counts whole_plain no_ways)
+    (over_front code before (λ front. passed_walk front walks named_walks) (flat no_ways (passed_core 1 args named)) (passed_count 1 args named) (takes code before 1 args walks each plain same named named_walks others alike) c e is)
 
 -- no links are left: what the last comparison gave stays
 linked_over : LinkedPerforms no_links
@@ -350,20 +352,23 @@ mutual
   performs (map_literal ks vs) =
       performs_loaded (constant_of (map_literal ks vs)) (then_code (entries_code ks (codes_of vs)) (one (build_map (entry_count ks (codes_of vs))))) (λ go. entries_walk ks (walks_of vs) (λ entries. step (asks (events.build_map entries) (on_value go))))
       (performs_map (entries_code ks (codes_of vs)) (entries_walk ks (walks_of vs)) (entry_count ks (codes_of vs)) (performs_entries ks (codes_of vs) (walks_of vs) (performs_each vs)))
-  performs (call callee args) =
-      performs_called (callee_of callee args) (expression_core callee) (object_core callee) (expression_walk callee) (object_walk callee) (performs callee) (performs_object callee)
-      (positional_cores args) (positional_walks args) (performs_positional args) (spreads_alike args) (keyword_cores args) (keyword_walks args) (performs_keyword args) (merges_alike args)
-  performs (filtered name (given e) args) =
-      performs_applied (expression_core e) (expression_walk e) (performs e)
-      (positional_cores args) (positional_walks args) (performs_positional args) (spreads_alike args) (keyword_cores args) (keyword_walks args) (performs_keyword args) (merges_alike args)
-      (apply_filter name (passed_count 1 (positional_cores args) (keyword_cores args)) no_number) (events.apply_filter name) (λ next before place operands. refl)
-  performs (tested name e args) =
-      performs_applied (expression_core e) (expression_walk e) (performs e)
-      (positional_cores args) (positional_walks args) (performs_positional args) (spreads_alike args) (keyword_cores args) (keyword_walks args) (performs_keyword args) (merges_alike args)
-      (perform_test name (passed_count 1 (positional_cores args) (keyword_cores args)) no_number) (events.perform_test name) (λ next before place operands. refl)
+  performs (call callee args) = λ code place h.
+      let so_many = counts_before code place in
+      performs_called code so_many (callee_of callee args) (expression_core callee) (object_core callee) (expression_walk callee) (object_walk callee) (performs callee) (plain_expression callee) (performs_object callee) (plain_object callee)
+      (positional_cores args) (positional_walks args) (performs_positional args) (plain_positional args) (spreads_alike args) (keyword_cores args) (keyword_walks args) (performs_keyword code so_many args) (merges_alike args) place refl h
+  performs (filtered name (given e) args) = λ code place h.
+      let so_many = counts_before code place in
+      performs_applied code so_many (expression_core e) (expression_walk e) (performs e) (plain_expression e)
+      (positional_cores args) (positional_walks args) (performs_positional args) (plain_positional args) (spreads_alike args) (keyword_cores args) (keyword_walks args) (performs_keyword code so_many args) (merges_alike args)
+      (apply_filter name (passed_count 1 (positional_cores args) (keyword_cores args)) no_number) (events.apply_filter name) (λ next before place operands. refl) place refl h
+  performs (tested name e args) = λ code place h.
+      let so_many = counts_before code place in
+      performs_applied code so_many (expression_core e) (expression_walk e) (performs e) (plain_expression e)
+      (positional_cores args) (positional_walks args) (performs_positional args) (plain_positional args) (spreads_alike args) (keyword_cores args) (keyword_walks args) (performs_keyword code so_many args) (merges_alike args)
+      (perform_test name (passed_count 1 (positional_cores args) (keyword_cores args)) no_number) (events.perform_test name) (λ next before place operands. refl) place refl h
   performs _ = unwalked _
 
-  performs_object : (e : Expression) → Performs (flat no_ways (object_core e)) (object_walk e)
+  pub performs_object : (e : Expression) → Performs (flat no_ways (object_core e)) (object_walk e)
   performs_object (attribute e name) = performs e
   performs_object _ = unwalked _
 
@@ -373,11 +378,11 @@ mutual
   performs_positional (arguments_more (positional_spread e) args) = spread_more (performs e) (performs_positional args)
   performs_positional (arguments_more _ args) = performs_positional args
 
-  pub performs_keyword : (args : Arguments) → EachNamed (keyword_cores args) (keyword_walks args)
-  performs_keyword no_arguments = none_named
-  performs_keyword (arguments_more (keyword name e) args) = named_more (performs e) (performs_keyword args)
-  performs_keyword (arguments_more (keyword_spread e) args) = merged_more (performs e) (performs_keyword args)
-  performs_keyword (arguments_more _ args) = performs_keyword args
+  pub performs_keyword : (code : List Code) (before : Counts) (args : Arguments) → EachNamed code before (keyword_cores args) (keyword_walks args)
+  performs_keyword code before no_arguments = none_named
+  performs_keyword code before (arguments_more (keyword name e) args) = named_more (performs e) (plain_expression e) (performs_keyword code before args)
+  performs_keyword code before (arguments_more (keyword_spread e) args) = merged_more (performs e) (plain_expression e) (performs_keyword code before args)
+  performs_keyword code before (arguments_more _ args) = performs_keyword code before args
 
   performs_optional : (o : Optional) (missing : Val) → Performs (optional_code missing o) (optional_walk missing o)
   performs_optional absent missing = performs_load missing

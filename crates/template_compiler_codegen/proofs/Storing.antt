@@ -50,12 +50,12 @@ over_none : (code : List Code) (k place : ℕ) (vs : List Val) → length vs ≡
 over_none code k place [] none operands go below = below
 over_none code k place (v ∷ vs) none operands go below = absurd (omega (arith, none))
 
-no_targets : StoresAll nothing (λ vs go. go) 0
+pub no_targets : StoresAll nothing (λ vs go. go) 0
 no_targets code place h k =
     let same : place + length (nothing place) ≡ place = omega arith in
     (k, λ vs none operands go below. over_none code k place vs none operands go (moved code k (place + length (nothing place)) place operands go same below))
 
-over_more : (code : List Code) (j place : ℕ) (all : List Val → Process → Process) (count : ℕ) (operands : List Operand) (go : Process)
+pub over_more : (code : List Code) (j place : ℕ) (all : List Val → Process → Process) (count : ℕ) (operands : List Operand) (go : Process)
     → ((v : Val) (vs : List Val) → length vs ≡ count → Below (all (v ∷ vs) go) (exec code j place (single v ∷ (map single vs ++ operands))))
     → (vs : List Val) → length vs ≡ suc count → Below (all vs go) (exec code j place (map single vs ++ operands))
 over_more code j place all count operands go h [] many = absurd (omega (arith, many))

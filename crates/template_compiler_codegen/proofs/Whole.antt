@@ -1,7 +1,7 @@
 -- Whole code, from its first place on.
 use Rattle.std.proofs.Common.{◌≡◌, ℕ, ◌+◌, List, [], ◌∷◌, length, refl, sym, ap, subst, append-nil, arith}
 use Rattle.std.proofs.lemmas.Option.{slice_get_past}
-use Rattle.template_process.specs.Process.{Process, over, Below}
+use Rattle.template_process.specs.Process.{no_counts, Process, over, Below}
 use Rattle.template_process.proofs.Below.{below-cut_short, below-over}
 use Rattle.template_walk.specs.Statements.{outside}
 use Rattle.template_code.specs.Code.{Operand, single, Code}
@@ -10,11 +10,16 @@ use Rattle.template_code.specs.Steps.{values_in, act, exec}
 use Rattle.template_compiler_codegen.specs.Statements.{no_ways, template_code, standalone_code}
 use Rattle.template_compiler_codegen.specs.Laws.{TemplatesPerform, ExpressionsPerform}
 use Rattle.template_compiler_codegen.proofs.Standing.{StandsAt}
+use Rattle.template_compiler_codegen.proofs.Behind.{none_before}
 use Rattle.template_compiler_codegen.proofs.Performing.{performs}
 use Rattle.template_compiler_codegen.proofs.Statements.{performs_statements}
 
-stands_whole : (code : List Code) → StandsAt code 0 code
+pub stands_whole : (code : List Code) → StandsAt code 0 code
 stands_whole code = record { front = []; back = []; is = sym (append-nil code); at = refl }
+
+pub at_beginning : (code : List Code) → counts_before code 0 ≡ no_counts
+unfolding stands_whole
+at_beginning code = none_before code (stands_whole code) refl
 
 -- behind the last instruction
 over_at_end : (code : List Code) (place : ℕ) (operands : List Operand) → place ≡ length code → Below (over (values_in operands)) (exec code 1 place operands)
@@ -25,7 +30,7 @@ over_at_end code place operands e =
 pub templates_perform : TemplatesPerform
 templates_perform tree n =
     let code = template_code tree in
-    let done = performs_statements n tree no_ways code 0 (stands_whole code) 1 in
+    let done = performs_statements n tree no_ways refl code 0 no_counts (at_beginning code) (stands_whole code) 1 in
     (done.0, done.1 [] outside (over []) (over_at_end code (0 + length code) [] (omega arith)) (record { on_break = λ place h. below-cut_short _; on_continue = λ place h. below-cut_short _ }))
 
 pub expressions_perform : ExpressionsPerform

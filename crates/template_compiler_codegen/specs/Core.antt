@@ -1,7 +1,7 @@
 -- A core: a structured program between a tree and its code, and the flat code that it is laid out as.
 use Rattle.std.specs.Prelude.{ℕ, ◌+◌, suc, Bool, true, false, List, [], ◌∷◌, ◌++◌, length, Option, None, Some}
 use Rattle.template_values_model.specs.Val.{Val}
-use Rattle.template_code.specs.Code.{Code, load_const, jump, jump_if_false, iterate}
+use Rattle.template_code.specs.Code.{Code, load_const, jump, jump_if_false, iterate, return}
 
 -- code that begins at any place
 abbrev pub Coded : Type 0
@@ -62,6 +62,11 @@ rounds_code target body place =
     let ends_at = suc (begins + length (body 0 0 begins)) in
     iterate ends_at ∷ (stored ++ (body ends_at place begins ++ (jump place ∷ [])))
 
+-- a body that runs elsewhere, which ends by itself and is leapt over; another piece; and an instruction that is told where the
+-- body begins
+abbrev pub aside_code : Coded → Coded → (ℕ → Code) → Coded
+aside_code body rest make place = then_code (skipped jump (then_code body (one return))) (then_code rest (one (make (suc place)))) place
+
 abbrev pub left_by : List Code → ℕ → Coded
 left_by closings to place = closings ++ (jump to ∷ [])
 
@@ -84,6 +89,7 @@ pub data Core : Type 0 where
   sealed : Core → Core  -- nothing in it leaves the loop
   loading : Option Val → Core → Core  -- a constant is loaded; what is none has its own code
   chosen : Bool → Core → Core → Core  -- the one where it is so, else the other
+  aside : Core → Core → (ℕ → Code) → Core  -- a body that runs elsewhere; then a piece, and what is told where the body begins
 
 -- the code of a core from any place on, and where it is left
 abbrev pub flat : Ways → Core → Coded
@@ -99,3 +105,4 @@ flat ways (leave false) = left_by ways.closings ways.continue_to
 flat ways (sealed c) = flat no_ways c
 flat ways (loading o c) = loaded o (flat no_ways c)
 flat ways (chosen holds a b) = choose holds (flat ways a) (flat ways b)
+flat ways (aside body rest make) = aside_code (flat no_ways body) (flat no_ways rest) make

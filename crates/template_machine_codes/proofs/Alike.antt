@@ -1,5 +1,7 @@
 -- A run of trees that is finished is the run of their codes, and of whatever goes as far.
-use Rattle.std.proofs.Common.{◌≡◌, ℕ, ◌+◌, ◌≤◌, ◌⊎◌, inl, inr, zero, suc, List, [], ◌∷◌, Option, None, Some, option_map, refl, sym, ap, subst, ◌∙◌, arith}
+use Rattle.std.proofs.Common.{◌≡◌, ℕ, ◌+◌, ◌==◌, ◌≤◌, ◌⊎◌, inl, inr, zero, suc, Bool, true, false, if◌then◌else◌, List, [], ◌∷◌, length, map, Option, None, Some, option_map, refl, sym, ap, subst, ◌∙◌, arith}
+use Rattle.std.specs.Option.{option_and_then}
+use Rattle.std.proofs.lemmas.Bool.Decides.{nat_tests}
 use Rattle.template_values_errors.specs.declared.ErrorKind.{ErrorKind}
 use Rattle.template_values_model.specs.Val.{Val}
 use Rattle.template_tree.specs.Tree.{Statements}
@@ -8,19 +10,26 @@ use Rattle.template_process.specs.Drive.{End, ends, faults, breaks, waits, mista
 use Rattle.template_process.specs.Trace.{paid, Reply, Run, run, behind, ended, go_on, replied}
 use Rattle.template_process.specs.Approximants.{IsFinished}
 use Rattle.template_process.proofs.Below.{below-trans}
-use Rattle.template_walk.specs.Statements.{standalone_walk, template_walk}
+use Rattle.template_walk.specs.Counting.{MacroBody, LoopRounds, macro_numbered, rounds_numbered}
+use Rattle.template_walk.specs.Statements.{number_of, standalone_walk, template_walk, macro_walk, rounds_walk}
+use Rattle.template_code.specs.Code.{Code, Operand, single}
 use Rattle.template_code.specs.Steps.{exec}
 use Rattle.template_code.proofs.Rising.{exec_more}
 use Rattle.template_compiler_codegen.specs.Statements.{standalone_code, template_code}
 use Rattle.template_compiler_codegen.proofs.Whole.{expressions_perform, templates_perform}
+use Rattle.template_compiler_codegen.proofs.Macros.{macros_perform}
+use Rattle.template_compiler_codegen.proofs.Rounds.{rounds_perform}
+use Rattle.template_compiler_codegen.proofs.Unfound.{numbers_agree}
 use Rattle.template_machine_meaning.specs.World.{World}
-use Rattle.template_machine_meaning.specs.Keys.{standing, own, Part, whole, Key, whole_of, Around}
-use Rattle.template_machine_meaning.specs.Plans.{Within, Plan, replies, enters, caller_of, given, told_by, Runners, ran, restarted, beneath, with_beneath, parent_run, went_on, followed_at, followed, came_from, settled}
+use Rattle.template_machine_meaning.specs.Keys.{standing, own, Part, whole, body_of, rounds_of, Key, whole_of, Around}
+use Rattle.template_machine_meaning.specs.Turnings.{turned}
+use Rattle.template_machine_meaning.specs.Plans.{Within, Plan, replies, enters, caller_of, after_by, given, told_by, Runners, ran, restarted, beneath, with_beneath, parent_run, went_on, followed_at, followed, came_from, settled}
 use Rattle.template_machine_meaning.specs.Surroundings.{plan, Programs, runners, answer}
-use Rattle.template_machine_meaning.specs.Meaning.{Standing, Setting, tree_at, walks_of, top}
+use Rattle.template_machine_meaning.specs.Meaning.{Standing, Setting, tree_of, body_walk, part_walk, walks_of, top}
+use Rattle.template_machine_meaning.proofs.Bounds.{turned_broken}
 use Rattle.template_machine_meaning.proofs.Entering.{Finds, found_run}
 use Rattle.template_machine_meaning.proofs.Ends.{found_parent}
-use Rattle.template_machine_codes.specs.Codes.{codes_of}
+use Rattle.template_machine_codes.specs.Codes.{body_coded, part_coded, codes_of}
 use Rattle.template_machine_codes.specs.Laws.{CodeMeansExpression, CodeMeansTree, CodesMeanKeys}
 
 -- where there is a process there is one, under every bound that is great enough, that goes as far; where there is none there never is
@@ -60,7 +69,9 @@ module _ (s t : Programs) (follows : ProgramsFollow s t) where
   from_alike w x (Some runs) later alike =
       elim (finished_or x.wraps (given x.purpose (caller_of w) (runs x.begins).after) (runs x.begins).end) [
         | inl finished ↦ let same = alike finished in inr (same.0, λ m le. found_run w x (later m) (runs x.begins) (same.1 m le))
-        | inr broken ↦ inl broken
+        | inr broken ↦
+            let after = after_by x.purpose (caller_of w) (runs x.begins).after in
+            inl (ap (turned after x.behind) broken ∙ turned_broken after x.behind)
       ]
 
   settled_alike : (n : ℕ) → RunnersAlike n → (w : World) (p : Plan) → SameReply (settled (runners s n) w p) (λ m. settled (runners t m) w p)
@@ -230,21 +241,60 @@ module _ (s t : Programs) (follows : ProgramsFollow s t) where
       → (least : ℕ) × ((m : ℕ) → least ≤ m → ran (runners t m key) w ≡ ran (runners s n key) w)
   keys_alike key w n finished = ran_alike w (runners s n key) (λ m. runners t m key) (runners_alike n key w) finished
 
--- a tree's code, where it may run for long enough
-code_follows : (n : ℕ) (o : Option Statements) → FollowedBy (option_map (template_walk n) o) (λ m. option_map (λ (t : Statements). exec (template_code t) m 0 []) o)
-code_follows n None = λ m. refl
-code_follows n (Some t) =
-    let performed = templates_perform t n in (
-      performed.0,
-      λ m le. (
-        exec (template_code t) m 0 [],
-        refl,
-        below-trans (template_walk n t) (exec (template_code t) performed.0 0 []) (exec (template_code t) m 0 []) performed.1 (exec_more (template_code t) performed.0 m le 0 []),
-      ),
-    )
+-- code that goes as far as a process, where it may run for long enough
+goes_on : (p : Process) (code : List Code) (j place : ℕ) (operands : List Operand) → Below p (exec code j place operands)
+    → FollowedBy (Some p) (λ m. Some (exec code m place operands))
+goes_on p code j place operands below =
+    (j, λ m le. (exec code m place operands, refl, below-trans p (exec code j place operands) (exec code m place operands) below (exec_more code j m le place operands)))
+
+same_later : (o : Option Process) (f g : ℕ → Option Process) → ((m : ℕ) → f m ≡ g m) → FollowedBy o g → FollowedBy o f
+same_later None f g same follow = λ m. same m ∙ follow m
+same_later (Some p) f g same follow = (follow.0, λ m le. let at = follow.1 m le in (at.0, same m ∙ at.1, at.2))
+
+same_number : (a b : ℕ) → (a == b) ≡ true → b ≡ a
+same_number a b e = grind (arith, nat_tests)
+
+-- of each part of a tree
+module _ (t : Statements) (n : ℕ) where
+  body_follows : (number : ℕ) (vs : List Val) (b : MacroBody) (offset : ℕ)
+      → ((n : ℕ) → (j : ℕ) × ((us : List Val) → length us ≡ number_of b.arguments → Below (macro_walk n b us) (exec (template_code t) j offset (map single us))))
+      → (same : Bool) → (number_of b.arguments == length vs) ≡ same
+      → FollowedBy (if same then Some (macro_walk n b vs) else None) (λ m. if same then Some (exec (template_code t) m offset (map single vs)) else None)
+  body_follows number vs b offset performed true e =
+      let at = performed n in
+      goes_on (macro_walk n b vs) (template_code t) at.0 offset (map single vs) (at.1 vs (same_number (number_of b.arguments) (length vs) e))
+  body_follows number vs b offset performed false e = λ m. refl
+
+  macro_follows : (number : ℕ) (vs : List Val) (o : Option MacroBody) → macro_numbered number t ≡ o
+      → FollowedBy (option_and_then (body_walk n vs) o) (λ m. part_coded m (body_of number vs) t)
+  macro_follows number vs None none = λ m. ap (option_and_then (body_coded m vs t)) ((numbers_agree t number).0 none)
+  macro_follows number vs (Some b) found =
+      let performed = macros_perform t number b found in
+      same_later (body_walk n vs b) (λ m. part_coded m (body_of number vs) t) (λ m. if number_of b.arguments == length vs then Some (exec (template_code t) m performed.0 (map single vs)) else None)
+      (λ m. ap (option_and_then (body_coded m vs t)) performed.1)
+      (body_follows number vs b performed.0 performed.2 (number_of b.arguments == length vs) refl)
+
+  loop_follows : (number : ℕ) (o : Option LoopRounds) → rounds_numbered number t ≡ o
+      → FollowedBy (option_map (rounds_walk n) o) (λ m. part_coded m (rounds_of number) t)
+  loop_follows number None none = λ m. ap (option_map (λ (place : ℕ). exec (template_code t) m place [])) ((numbers_agree t number).1 none)
+  loop_follows number (Some r) found =
+      let performed = rounds_perform t number r found in
+      let at = performed.2 n in
+      same_later (Some (rounds_walk n r)) (λ m. part_coded m (rounds_of number) t) (λ m. Some (exec (template_code t) m performed.0 []))
+      (λ m. ap (option_map (λ (place : ℕ). exec (template_code t) m place [])) performed.1)
+      (goes_on (rounds_walk n r) (template_code t) at.0 performed.0 [] at.1)
+
+  part_follows : (part : Part) → FollowedBy (part_walk n part t) (λ m. part_coded m part t)
+  part_follows whole = let performed = templates_perform t n in goes_on (template_walk n t) (template_code t) performed.0 0 [] performed.1
+  part_follows (body_of number vs) = macro_follows number vs (macro_numbered number t) refl
+  part_follows (rounds_of number) = loop_follows number (rounds_numbered number t) refl
+
+code_follows : (n : ℕ) (part : Part) (o : Option Statements) → FollowedBy (option_and_then (part_walk n part) o) (λ m. option_and_then (part_coded m part) o)
+code_follows n part None = λ m. refl
+code_follows n part (Some t) = part_follows t n part
 
 pub codes_follow : (setting : Setting) (root : Option Standing) → ProgramsFollow (walks_of setting root) (codes_of setting root)
-codes_follow setting root = record { around = refl; follow = λ n key. code_follows n (tree_at setting root key) }
+codes_follow setting root = record { around = refl; follow = λ n key. code_follows n key.part (tree_of setting root key.stream) }
 
 pub codes_mean_keys : CodesMeanKeys
 codes_mean_keys setting root key w n finished = keys_alike (walks_of setting root) (codes_of setting root) (codes_follow setting root) key w n finished

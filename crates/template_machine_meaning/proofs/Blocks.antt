@@ -1,31 +1,36 @@
 -- Calls of blocks and of what stands behind them settle, where keys come to their ends one frame deeper; and so does what is
 -- loaded to be extended.
-use Rattle.std.proofs.Common.{◌≡◌, ℕ, inr, suc, ◌+◌, ◌<◌, ◌≤◌, Bool, true, false, ◌||◌, List, [], ◌∷◌, ◌++◌, length, slice_get, Option, None, Some, Result, Ok, Err, is_some, refl, ap, ◌∙◌, arith}
+use Rattle.std.proofs.Common.{◌≡◌, ℕ, inr, suc, ◌+◌, ◌<◌, ◌≤◌, Bool, true, false, ◌||◌, List, [], ◌∷◌, ◌++◌, length, slice_get, Option, None, Some, Result, Ok, Err, is_some, refl, sym, ap, subst, ◌∙◌, arith}
 use Rattle.std.specs.Prelude.{if◌then◌else◌}
 use Rattle.std.proofs.lemmas.Bool.Decides.{nat_tests}
 use Rattle.std.proofs.lemmas.List.{length-map}
 use Rattle.template_values_errors.specs.declared.ErrorKind.{ErrorKind}
-use Rattle.template_values_errors.specs.declared.ErrorKind.TheVariants.{InvalidOperation, TemplateNotFound, UnknownBlock}
+use Rattle.template_values_errors.specs.declared.ErrorKind.TheVariants.{InvalidOperation, UnknownFunction, TemplateNotFound, UnknownBlock}
 use Rattle.template_values_model.specs.Val.{Val}
 use Rattle.template_values_core.specs.Answers.{text_in}
+use Rattle.template_values_operators.specs.Iterated.{iterated}
 use Rattle.template_callables.specs.Faults.{stated_kinds}
 use Rattle.template_process.specs.Process as events
 use Rattle.template_process.specs.Process.{Ask, begin_capture, end_capture, load_blocks, Answer, done, value, tells, fails, breaks_off, Process, step, asks, on_done, on_value}
 use Rattle.template_process.specs.Trace.{Reply}
 use Rattle.template_walk.specs.Expressions.{block_walk}
-use Rattle.template_machine_meaning.specs.World.{Loop, Frame, Capture, keeps, drops, World, empty_frame, depth_of, has_room}
-use Rattle.template_machine_meaning.specs.Captures.{captured, innermost, is_dropping}
+use Rattle.template_machine_meaning.specs.World.{Rounds, Loop, Frame, Capture, keeps, drops, World, empty_frame, loop_frame, seen_frames, depth_of, has_room}
+use Rattle.template_machine_meaning.specs.Captures.{captured, innermost, around_innermost, is_dropping}
 use Rattle.template_machine_meaning.specs.Bodies.{Bodies, bodies_at, with_bodies}
 use Rattle.template_machine_meaning.specs.Names.{name_of}
-use Rattle.template_machine_meaning.specs.Replies.{told, changed, refused}
+use Rattle.template_machine_meaning.specs.Replies.{told, changed, refused, kinded, guarded}
+use Rattle.template_machine_meaning.specs.Records.{known_of}
+use Rattle.template_machine_meaning.specs.Undefined.{forbids_iterating}
 use Rattle.template_machine_meaning.specs.Keys.{Home, standing, Head}
-use Rattle.template_machine_meaning.specs.Plans.{calls_block, calls_super, Within, Plan, replies, enters, outermost, caller_of, after_by, settled}
-use Rattle.template_machine_meaning.specs.Blocks.{block_within, lacks_body, body_plan, bodies_plan, block_plan, super_within, behind_plan, super_in, super_from, super_called, is_among, loaded_head, loaded_as, loaded_named, load_plan}
+use Rattle.template_machine_meaning.specs.Plans.{calls_block, takes_block, calls_super, calls_macro, runs_rounds, Within, Plan, replies, enters, room_for, outermost, caller_of, after_by, settled}
+use Rattle.template_machine_meaning.specs.Blocks.{captured_if, block_within, lacks_body, body_plan, bodies_plan, block_plan, super_within, behind_plan, super_in, super_from, super_called, is_among, loaded_head, loaded_as, loaded_named, load_plan}
+use Rattle.template_machine_meaning.specs.Rounds.{loop_again, rounds_within, rounds_over, rounds_from, innermost_loop, recursed}
+use Rattle.template_machine_meaning.specs.Laws.{MayGoRound}
 use Rattle.template_machine_meaning.specs.Surroundings.{plan, Programs, runners, answer}
-use Rattle.template_machine_meaning.proofs.Outermost.{length_outermost, outermost_all, outermost_behind, outermost_map}
+use Rattle.template_machine_meaning.proofs.Outermost.{length_outermost, outermost_all, outermost_append, outermost_behind, outermost_map}
 use Rattle.template_machine_meaning.proofs.Settling.{Settles, answered, settles_then, settles_now, settles_step, settles_given, settles_done, settles_refused, settles_to}
 use Rattle.template_machine_meaning.proofs.Keeping.{Keeps, Ran, keeps_itself, keeps_on, loops_of, met, unloaded, one_fewer, IsFramed, same_depth, capturing_in, caught}
-use Rattle.template_machine_meaning.proofs.Entering.{KeyComes, AllCome, settles_entered}
+use Rattle.template_machine_meaning.proofs.Entering.{KeyComes, Rounded, AllCome, settles_entered}
 
 -- what is given leaves a world that keeps what the base has
 abbrev pub Kept : {O : Type 0} → List (List ℕ) → World → O → World → Type 0
@@ -50,22 +55,60 @@ loops_back w v loop e =
     outermost_map (λ (f : Frame). f.loop) (length w.frames) v.frames ∙ ap (λ (loops : List (Option Loop)). outermost (length w.frames) loops) e
     ∙ outermost_behind (length w.frames) loop (loops_of w.frames) all ∙ outermost_all (length w.frames) (loops_of w.frames) many
 
-module _ (names : List (List ℕ)) (w v : World) (loops : loops_of v.frames ≡ None ∷ loops_of w.frames) (captures : length w.captures ≤ length v.captures)
-    (loads : unloaded names v.loaded ≤ unloaded names w.loaded) (added : (more : List (List ℕ)) × (v.loaded ≡ more ++ w.loaded)) where
-  many_captures : length (outermost (length w.captures) v.captures) + met w.parent ≡ length w.captures + met w.parent
-  many_captures = ap (λ n. n + met w.parent) (length_outermost (length w.captures) v.captures captures)
+module _ (names : List (List ℕ)) (w v : World) (loop : Option Loop) (loops : loops_of v.frames ≡ loop ∷ loops_of w.frames) where
+  module _ (captures : length w.captures ≤ length v.captures) where
+    many_captures : length (outermost (length w.captures) v.captures) + met w.parent ≡ length w.captures + met w.parent
+    many_captures = ap (λ n. n + met w.parent) (length_outermost (length w.captures) v.captures captures)
 
-  meets : met w.parent ≤ met w.parent
-  meets = omega arith
+    meets : met w.parent ≤ met w.parent
+    meets = omega arith
 
-  fewer : unloaded names v.loaded + met w.parent ≤ unloaded names w.loaded + met w.parent
-  fewer = omega (arith, loads)
+    module _ (loads : unloaded names v.loaded ≤ unloaded names w.loaded) (added : (more : List (List ℕ)) × (v.loaded ≡ more ++ w.loaded)) where
+      fewer : unloaded names v.loaded + met w.parent ≤ unloaded names w.loaded + met w.parent
+      fewer = omega (arith, loads)
 
-  block_back : Keeps names w (after_by calls_block (caller_of w) v)
-  block_back = record { loops = loops_back w v None loops; outer = refl; floor = refl; saved = refl; captures = many_captures; meets = meets; loads = fewer; added = added }
+      block_back : Keeps names w (after_by calls_block (caller_of w) v)
+      block_back = record { loops = loops_back w v loop loops; outer = refl; floor = refl; saved = refl; captures = many_captures; meets = meets; loads = fewer; added = added }
 
-  super_back : (named : Bool) (name : List ℕ) (place : ℕ) → Keeps names w (after_by (calls_super named name place) (caller_of w) v)
-  super_back named name place = record { loops = loops_back w v None loops; outer = refl; floor = refl; saved = refl; captures = many_captures; meets = meets; loads = fewer; added = added }
+      pub text_back : Keeps names w (after_by takes_block (caller_of w) v)
+      text_back = record { loops = loops_back w v loop loops; outer = refl; floor = refl; saved = refl; captures = many_captures; meets = meets; loads = fewer; added = added }
+
+      super_back : (named : Bool) (name : List ℕ) (place : ℕ) → Keeps names w (after_by (calls_super named name place) (caller_of w) v)
+      super_back named name place = record { loops = loops_back w v loop loops; outer = refl; floor = refl; saved = refl; captures = many_captures; meets = meets; loads = fewer; added = added }
+
+    -- what a macro loaded is put back
+    pub macro_back : (added : (more : List (List ℕ)) × (v.loaded ≡ more ++ w.loaded)) → Keeps names w (after_by calls_macro (caller_of w) v)
+    macro_back added =
+        let same : outermost (length w.loaded) v.loaded ≡ w.loaded =
+        ap (λ (xs : List (List ℕ)). outermost (length w.loaded) xs) added.1 ∙ outermost_append (length w.loaded) added.0 w.loaded refl in
+        let as_many : unloaded names w.loaded + met w.parent ≤ unloaded names w.loaded + met w.parent = omega arith in
+        record {
+          loops = loops_back w v loop loops;
+          outer = refl;
+          floor = refl;
+          saved = refl;
+          captures = many_captures;
+          meets = meets;
+          loads = subst (λ (xs : List (List ℕ)). unloaded names xs + met w.parent ≤ unloaded names w.loaded + met w.parent) (sym same) as_many;
+          added = ([], same);
+        }
+
+  -- rounds that are called belong to the run that calls them; by a name they write into a capture
+  inner_one : (captures : List Capture) (n : ℕ) → suc n ≤ length captures → length (around_innermost captures) + 1 ≡ length captures
+  inner_one [] n some = absurd (omega (arith, some))
+  inner_one (c ∷ captures) n some = omega arith
+
+  pub rounds_kept : (named : Bool) → length v.captures + met w.parent ≡ length (captured_if named w.captures) + met v.parent → met w.parent ≤ met v.parent
+      → unloaded names v.loaded + met v.parent ≤ unloaded names w.loaded + met w.parent → (more : List (List ℕ)) × (v.loaded ≡ more ++ w.loaded)
+      → Keeps names w (after_by (runs_rounds named) (caller_of w) v)
+  rounds_kept false captures meet_more loads added =
+      record { loops = loops_back w v loop loops; outer = refl; floor = refl; saved = refl; captures = captures; meets = meet_more; loads = loads; added = added }
+  rounds_kept true captures meet_more loads added =
+      let written : length v.captures + met w.parent ≡ suc (length w.captures) + met v.parent = captures in
+      let some : suc (length w.captures) ≤ length v.captures = omega (arith, written, meet_more) in
+      let one : length (around_innermost v.captures) + 1 ≡ length v.captures = inner_one v.captures (length w.captures) some in
+      let same : length (around_innermost v.captures) + met w.parent ≡ length w.captures + met v.parent = omega (arith, one, written) in
+      record { loops = loops_back w v loop loops; outer = refl; floor = refl; saved = refl; captures = same; meets = meet_more; loads = loads; added = added }
 
 -- where there is room, the run within begins deeper
 is_deeper : (limit depth : ℕ) (w : World) → depth ≤ depth_of w → depth < suc (length w.frames) + w.outer
@@ -96,11 +139,26 @@ module _ (names : List (List ℕ)) (s : Programs) (depth : ℕ) (deeper : AllCom
     roomy_settles x false room settle = refused_settles InvalidOperation
 
   -- it begins in a frame of its own
-  begun_framed : (begins : World) → begins.frames ≡ empty_frame ∷ w.frames → begins.floor ≡ suc (length w.frames) → IsFramed begins
-  begun_framed begins frames floor =
+  pub begun_framed : (begins : World) (f : Frame) → begins.frames ≡ f ∷ w.frames → begins.floor ≡ suc (length w.frames) → IsFramed begins
+  begun_framed begins f frames floor =
       let many : length begins.frames ≡ suc (length w.frames) = ap (λ (fs : List Frame). length fs) frames in
       let floored : begins.floor ≤ length begins.frames = omega (arith, many, floor) in
-      record { loop = None; others = loops_of w.frames; loops = ap loops_of frames; floor = floored }
+      record { loop = f.loop; others = loops_of w.frames; loops = ap loops_of frames; floor = floored }
+
+  -- rounds are called in the place of a print
+  pub rounds_begin : (named : Bool) (l : Loop) (rounds : Rounds) (vs : List Val) → MayGoRound (rounds_within w named l rounds vs).begins
+  rounds_begin named l rounds vs =
+      record { frame = loop_frame (loop_again w l rounds vs); frames = w.frames; is = refl; floor = refl; loop = loop_again w l rounds vs; looping = refl; called = refl }
+
+  pub rounds_come : (named : Bool) (l : Loop) (rounds : Rounds) (vs : List Val) → depth < s.around.limit
+      → KeyComes s (rounds_within w named l rounds vs).key (rounds_within w named l rounds vs).begins (Rounded names (rounds_within w named l rounds vs).begins)
+  rounds_come named l rounds vs room =
+      let x = rounds_within w named l rounds vs in
+      deeper x.key x.begins (rounds_begin named l rounds vs) (is_deeper s.around.limit depth w deep) room
+
+  pub rounds_return : (named : Bool) (l : Loop) (rounds : Rounds) (vs : List Val) (v : World) → Rounded names (rounds_within w named l rounds vs).begins v
+      → Keeps names w (after_by (runs_rounds named) (caller_of w) v)
+  rounds_return named l rounds vs v k = rounds_kept names w v (Some k.0) k.1.loops named k.1.captures k.1.meets k.1.loads k.1.added
 
   -- a block
   abbrev done_read : (Unit {0} → Process) → Answer → Process
@@ -109,12 +167,14 @@ module _ (names : List (List ℕ)) (s : Programs) (depth : ℕ) (deeper : AllCom
   block_entered : (name : List ℕ) (home : Home) → depth < s.around.limit → PlanSettles (Unit {0}) (events.call_block name) done_read (enters (block_within w name home))
   block_entered name home room planned =
       let x = block_within w name home in
-      settles_entered (Unit {0}) s w (events.call_block name) x planned (Kept names w) done_read (λ v. tt) (Ran names x.begins)
-      (deeper x.key x.begins (begun_framed x.begins refl refl) refl (is_deeper s.around.limit depth w deep) room)
-      (λ v k. block_back names w v k.loops (let many : length w.captures ≤ length v.captures = omega (arith, k.captures) in many) k.loads k.added)
-      (λ v go. refl)
+      settles_entered (Unit {0}) s w (events.call_block name) (Kept names w) done_read x planned (Ran names x.begins)
+      (deeper x.key x.begins (begun_framed x.begins empty_frame refl refl, refl) (is_deeper s.around.limit depth w deep) room)
+      (λ v k. (tt, block_back names w v None k.loops (let many : length w.captures ≤ length v.captures = omega (arith, k.captures) in many) k.loads k.added, λ go. refl))
 
-  body_settles : (name : List ℕ) (b : Bodies) (o : Option Home) → PlanSettles (Unit {0}) (events.call_block name) done_read (body_plan s.around w name b o)
+  abbrev block_entering : List ℕ → Home → Plan
+  block_entering name home = room_for s.around.limit 1 w (block_within w name home)
+
+  body_settles : (name : List ℕ) (b : Bodies) (o : Option Home) → PlanSettles (Unit {0}) (events.call_block name) done_read (body_plan s.around w name (block_entering name) b o)
   body_settles name b None = refused_settles (Unit {0}) (events.call_block name) done_read UnknownBlock
   body_settles name b (Some home) =
       let x = block_within w name home in
@@ -123,7 +183,7 @@ module _ (names : List (List ℕ)) (s : Programs) (depth : ℕ) (deeper : AllCom
       (refused_settles (Unit {0}) (events.call_block name) done_read InvalidOperation)
       (roomy_settles (Unit {0}) (events.call_block name) done_read x (has_room s.around.limit 1 w) refl (block_entered name home))
 
-  bodies_settle : (name : List ℕ) (o : Option Bodies) → PlanSettles (Unit {0}) (events.call_block name) done_read (bodies_plan s.around w name o)
+  bodies_settle : (name : List ℕ) (o : Option Bodies) → PlanSettles (Unit {0}) (events.call_block name) done_read (bodies_plan s.around w name (block_entering name) o)
   bodies_settle name None = refused_settles (Unit {0}) (events.call_block name) done_read UnknownBlock
   bodies_settle name (Some b) = body_settles name b (slice_get b.homes b.place)
 
@@ -140,23 +200,24 @@ module _ (names : List (List ℕ)) (s : Programs) (depth : ℕ) (deeper : AllCom
       → KeyComes s (super_within w named name place home).key (super_within w named name place home).begins (Ran names (super_within w named name place home).begins)
   super_room named name place home room =
       let x = super_within w named name place home in
-      deeper x.key x.begins (begun_framed x.begins refl refl) refl (is_deeper s.around.limit depth w deep) room
+      deeper x.key x.begins (begun_framed x.begins empty_frame refl refl, refl) (is_deeper s.around.limit depth w deep) room
 
   printed_entered : (name : List ℕ) (place : ℕ) (home : Home) → depth < s.around.limit
       → PlanSettles (Unit {0}) events.super_block done_read (enters (super_within w false name place home))
   printed_entered name place home room planned =
       let x = super_within w false name place home in
-      settles_entered (Unit {0}) s w events.super_block x planned (Kept names w) done_read (λ v. tt) (Ran names x.begins) (super_room false name place home room)
-      (λ v k. super_back names w v k.loops (let many : length w.captures ≤ length v.captures = omega (arith, k.captures) in many) k.loads k.added false name place)
-      (λ v go. refl)
+      settles_entered (Unit {0}) s w events.super_block (Kept names w) done_read x planned (Ran names x.begins) (super_room false name place home room)
+      (λ v k. (tt, super_back names w v None k.loops (let many : length w.captures ≤ length v.captures = omega (arith, k.captures) in many) k.loads k.added false name place, λ go. refl))
 
   named_entered : (e : Ask) (name : List ℕ) (place : ℕ) (home : Home) → depth < s.around.limit → PlanSettles Val e on_value (enters (super_within w true name place home))
   named_entered e name place home room planned =
       let x = super_within w true name place home in
-      settles_entered Val s w e x planned (Kept names w) on_value
-      (λ v. captured w.escape (innermost (outermost (suc (length w.captures)) v.captures))) (Ran names x.begins) (super_room true name place home room)
-      (λ v k. super_back names w v k.loops (let many : length w.captures ≤ length v.captures = omega (arith, k.captures) in many) k.loads k.added true name place)
-      (λ v go. refl)
+      settles_entered Val s w e (Kept names w) on_value x planned (Ran names x.begins) (super_room true name place home room)
+      (λ v k. (
+        captured w.escape (innermost (outermost (suc (length w.captures)) v.captures)),
+        super_back names w v None k.loops (let many : length w.captures ≤ length v.captures = omega (arith, k.captures) in many) k.loads k.added true name place,
+        λ go. refl,
+      ))
 
   module _ (O : Type 0) (e : Ask) (read : (O → Process) → Answer → Process) (named : Bool)
       (entered : (name : List ℕ) (place : ℕ) (home : Home) → depth < s.around.limit → PlanSettles O e read (enters (super_within w named name place home))) where
@@ -175,6 +236,28 @@ module _ (names : List (List ℕ)) (s : Programs) (depth : ℕ) (deeper : AllCom
 
   pub settles_super_block : Settles {O = Unit {0}} s w (Kept names w) (λ m go. asks events.super_block (on_done (go tt)))
   settles_super_block = super_settles (Unit {0}) events.super_block done_read false printed_entered w.block refl
+
+  -- the rounds of the innermost loop, printed
+  rounds_entered : (e : Ask) (l : Loop) (rounds : Rounds) (vs : List Val) → depth < s.around.limit → PlanSettles (Unit {0}) e done_read (enters (rounds_within w false l rounds vs))
+  rounds_entered e l rounds vs room planned =
+      let x = rounds_within w false l rounds vs in
+      settles_entered (Unit {0}) s w e (Kept names w) done_read x planned (Rounded names x.begins) (rounds_come false l rounds vs room)
+      (λ v k. (tt, rounds_return false l rounds vs v k, λ go. refl))
+
+  over_settles : (e : Ask) (l : Loop) (rounds : Rounds) (r : Result (List Val) ErrorKind) → PlanSettles (Unit {0}) e done_read (rounds_over s.around w false l rounds r)
+  over_settles e l rounds (Ok vs) = roomy_settles (Unit {0}) e done_read (rounds_within w false l rounds vs) (has_room s.around.limit 1 w) refl (rounds_entered e l rounds vs)
+  over_settles e l rounds (Err kind) = failed_settles (Unit {0}) e done_read (InvalidOperation ∷ kind ∷ [])
+
+  from_settles : (e : Ask) (v : Val) (l : Loop) (o : Option Rounds) → PlanSettles (Unit {0}) e done_read (rounds_from s.around w false v l o)
+  from_settles e v l None = refused_settles (Unit {0}) e done_read InvalidOperation
+  from_settles e v l (Some rounds) = over_settles e l rounds (guarded (forbids_iterating s.around.undefined v) (kinded (iterated (known_of w) v)))
+
+  recursed_settles : (v : Val) (o : Option Loop) → PlanSettles (Unit {0}) (events.recurse v) done_read (recursed s.around w v o)
+  recursed_settles v None = refused_settles (Unit {0}) (events.recurse v) done_read UnknownFunction
+  recursed_settles v (Some l) = from_settles (events.recurse v) v l l.rounds
+
+  pub settles_recurse : (v : Val) → Settles {O = Unit {0}} s w (Kept names w) (λ m go. asks (events.recurse v) (on_done (go tt)))
+  settles_recurse v = recursed_settles v (innermost_loop (seen_frames w)) refl
 
   pub settles_super : (e : Ask) (vs : List Val) → plan s.around w e ≡ super_called s.around w vs → Settles {O = Val} s w (Kept names w) (λ m go. asks e (on_value go))
   settles_super e [] planned = super_settles Val e on_value true (named_entered e) w.block planned

@@ -2,7 +2,7 @@
 use Rattle.std.proofs.Common.{◌≡◌, ℕ, Bool, true, false, List, [], ◌∷◌, ◌++◌, Option, Some, option_map, subst}
 use Rattle.std.specs.Prelude.{if◌then◌else◌}
 use Rattle.std.specs.Str.{bytes_eq}
-use Rattle.template_tree.specs.Tree.{Statement, Statements, raw, print, for_loop, if_condition, with_block, set, set_block, auto_escape, filter_block, block, import, from_import, extends, include, continue_loop, break_loop, do_call, absent, given, no_statements, statements_more}
+use Rattle.template_tree.specs.Tree.{Statement, Statements, raw, print, for_loop, if_condition, with_block, set, set_block, auto_escape, filter_block, block, import, from_import, extends, include, macro, call_block, continue_loop, break_loop, do_call, absent, given, no_statements, statements_more}
 use Rattle.template_walk.specs.Blocks.{Block, blocks_by, blocks_in, block_among, block_named}
 use Rattle.template_walk.specs.Runnable.{IsRunnableStatement, AreRunnableStatements, IsRunnableTemplate}
 
@@ -18,7 +18,7 @@ mutual
   one_runnable : (looping : Bool) (st : Statement) → IsRunnableStatement looping st → AreRunnableBlocks (blocks_by st)
   one_runnable looping (raw text) h = tt
   one_runnable looping (print e) h = tt
-  one_runnable looping (for_loop target e condition false body otherwise) h =
+  one_runnable looping (for_loop target e condition recursive body otherwise) h =
       both_runnable (blocks_in body) (blocks_in otherwise) (all_runnable true body h.3) (all_runnable looping otherwise h.4)
   one_runnable looping (if_condition e body otherwise) h =
       both_runnable (blocks_in body) (blocks_in otherwise) (all_runnable looping body h.1) (all_runnable looping otherwise h.2)
@@ -33,6 +33,8 @@ mutual
   one_runnable looping (from_import e names) h = tt
   one_runnable looping (extends e) h = tt
   one_runnable looping (include e ignore_missing) h = tt
+  one_runnable looping (macro name arguments defaults body) h = tt
+  one_runnable looping (call_block callee passed arguments defaults body) h = tt
   one_runnable looping (do_call callee args) h = tt
   one_runnable looping continue_loop h = tt
   one_runnable looping break_loop h = tt

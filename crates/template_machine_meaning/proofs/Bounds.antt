@@ -1,5 +1,6 @@
 -- Greater bounds give runs that extend.
-use Rattle.std.proofs.Common.{◌≡◌, ℕ, ◌≤◌, inl, inr, zero, suc, List, [], ◌++◌, Option, None, Some, option_map, map, refl, sym, ap, subst, ◌∙◌, append_assoc, append-nil, arith}
+use Rattle.std.proofs.Common.{◌≡◌, ℕ, ◌==◌, ◌≤◌, inl, inr, zero, suc, Bool, true, false, if◌then◌else◌, List, [], ◌∷◌, length, ◌++◌, Option, None, Some, option_map, map, refl, sym, ap, subst, ◌∙◌, append_assoc, append-nil, arith}
+use Rattle.std.specs.Option.{option_and_then}
 use Rattle.std.proofs.lemmas.List.{map-append}
 use Rattle.template_values_errors.specs.declared.ErrorKind.{ErrorKind}
 use Rattle.template_tree.specs.Tree.{Statements}
@@ -10,13 +11,15 @@ use Rattle.template_process.specs.Trace.{Item, Run, run, ended, behind}
 use Rattle.template_process.specs.Fuel.{Begins}
 use Rattle.template_process.specs.Approximants.{IsUnfinished, Extends, RepliesMore}
 use Rattle.template_process.proofs.Approximants.{runs_further}
-use Rattle.template_walk.specs.Statements.{template_walk}
-use Rattle.template_walk.proofs.Rising.{walks_rise}
+use Rattle.template_walk.specs.Statements.{number_of, macro_walk, rounds_walk}
+use Rattle.template_walk.specs.Counting.{MacroBody, LoopRounds, macro_numbered, rounds_numbered}
+use Rattle.template_walk.proofs.Rising.{walks_rise, macros_rise, rounds_rise}
 use Rattle.template_machine_meaning.specs.World.{World}
-use Rattle.template_machine_meaning.specs.Keys.{standing, own, Part, whole, Key, whole_of, Around}
-use Rattle.template_machine_meaning.specs.Plans.{Within, Plan, replies, enters, caller_of, given, wrapped_by, told_by, came, Runners, ran, restarted, beneath, with_beneath, parent_run, went_on, followed_at, followed, came_from, settled}
+use Rattle.template_machine_meaning.specs.Keys.{standing, own, Part, whole, body_of, rounds_of, Key, whole_of, Around}
+use Rattle.template_machine_meaning.specs.Turnings.{Turning, turned}
+use Rattle.template_machine_meaning.specs.Plans.{Within, Plan, replies, enters, caller_of, after_by, given, wrapped_by, told_by, came, Runners, ran, restarted, beneath, with_beneath, parent_run, went_on, followed_at, followed, came_from, settled}
 use Rattle.template_machine_meaning.specs.Surroundings.{plan, respond, Programs, runners, answer}
-use Rattle.template_machine_meaning.specs.Meaning.{Standing, Setting, tree_at, walks_of, top}
+use Rattle.template_machine_meaning.specs.Meaning.{Standing, Setting, tree_of, body_walk, part_walk, walks_of, top}
 use Rattle.template_machine_meaning.specs.Laws.{ProcessGoesFurther, Rises, BoundsExtend, KeysExtend, MeaningsExtend}
 
 -- the second runs further
@@ -33,12 +36,17 @@ broken_off wraps a breaks h = refl
 broken_off wraps a cuts h = refl
 broken_off wraps a _ h = absurd h
 
+pub turned_broken : (w : World) (ts : List Turning) → turned w ts breaks_off ≡ breaks_off
+turned_broken w [] = refl
+turned_broken w (t ∷ ts) = turned_broken w ts
+
 -- what comes of a run within, whatever was planned
 came_more : (w : World) (x : Within) (r q : Run World) → Extends r q → RepliesMore (came w x r) (came w x q)
 came_more w x r q (inl same) = inl (ap (came w x) same)
 came_more w x r q (inr more) =
     let a = given x.purpose (caller_of w) r.after in
-    inr (broken_off x.wraps a r.end more.0, (map (wrapped_by x.wraps) more.1.0, ap (map (wrapped_by x.wraps)) more.1.1 ∙ map-append (wrapped_by x.wraps) r.items more.1.0))
+    let after = after_by x.purpose (caller_of w) r.after in
+    inr (ap (turned after x.behind) (broken_off x.wraps a r.end more.0) ∙ turned_broken after x.behind, (map (wrapped_by x.wraps) more.1.0, ap (map (wrapped_by x.wraps)) more.1.1 ∙ map-append (wrapped_by x.wraps) r.items more.1.0))
 
 came_from_more : (w : World) (x : Within) (o p : Option (World → Run World)) → RunsMore o p → RepliesMore (came_from w x o) (came_from w x p)
 came_from_more w x None None more = inl refl
@@ -149,12 +157,31 @@ ran_more None None more w = inl refl
 ran_more (Some r) (Some q) more w = more w
 ran_more _ _ more w = absurd more
 
-tree_rises : (o : Option Statements) (n m : ℕ) → n ≤ m → ProcessGoesFurther (option_map (template_walk n) o) (option_map (template_walk m) o)
-tree_rises None n m less = tt
-tree_rises (Some t) n m less = walks_rise t n m less
+-- each part of a tree rises
+body_rises : (n m : ℕ) → n ≤ m → (vs : List Val) (b : MacroBody) (same : Bool)
+    → ProcessGoesFurther (if same then Some (macro_walk n b vs) else None) (if same then Some (macro_walk m b vs) else None)
+body_rises n m less vs b true = macros_rise b vs n m less
+body_rises n m less vs b false = tt
+
+macro_rises : (n m : ℕ) → n ≤ m → (vs : List Val) (o : Option MacroBody) → ProcessGoesFurther (option_and_then (body_walk n vs) o) (option_and_then (body_walk m vs) o)
+macro_rises n m less vs None = tt
+macro_rises n m less vs (Some b) = body_rises n m less vs b (number_of b.arguments == length vs)
+
+loop_rises : (n m : ℕ) → n ≤ m → (o : Option LoopRounds) → ProcessGoesFurther (option_map (rounds_walk n) o) (option_map (rounds_walk m) o)
+loop_rises n m less None = tt
+loop_rises n m less (Some r) = rounds_rise r n m less
+
+part_rises : (n m : ℕ) → n ≤ m → (part : Part) (t : Statements) → ProcessGoesFurther (part_walk n part t) (part_walk m part t)
+part_rises n m less whole t = walks_rise t n m less
+part_rises n m less (body_of number vs) t = macro_rises n m less vs (macro_numbered number t)
+part_rises n m less (rounds_of number) t = loop_rises n m less (rounds_numbered number t)
+
+tree_rises : (n m : ℕ) → n ≤ m → (part : Part) (o : Option Statements) → ProcessGoesFurther (option_and_then (part_walk n part) o) (option_and_then (part_walk m part) o)
+tree_rises n m less part None = tt
+tree_rises n m less part (Some t) = part_rises n m less part t
 
 pub walks_of_rise : (setting : Setting) (root : Option Standing) → Rises (walks_of setting root)
-walks_of_rise setting root n m key less = tree_rises (tree_at setting root key) n m less
+walks_of_rise setting root n m key less = tree_rises n m less key.part (tree_of setting root key.stream)
 
 pub keys_extend : KeysExtend
 keys_extend setting root n m less key w =

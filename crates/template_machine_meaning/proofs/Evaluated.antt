@@ -1,5 +1,7 @@
 -- Over contexts that agree on the names that stand in an expression its evaluation leaves the same, and the same is handed out.
 use Rattle.std.proofs.Common.{◌≡◌, ℕ, inl, List, [], ◌∷◌, Option, None, Some, option_map, refl, sym, ap, ◌∙◌}
+use Rattle.template_names.specs.Among.{Among, nothing}
+use Rattle.template_walk.specs.Counting.{MacroBody}
 use Rattle.std.specs.Prelude.{IsTrue}
 use Rattle.template_values_model.specs.Val.{Val}
 use Rattle.template_values_forms.specs.Known as forms
@@ -14,27 +16,35 @@ use Rattle.template_process.proofs.Fuels.{cut_alike}
 use Rattle.template_walk.specs.Statements.{standalone_walk}
 use Rattle.template_machine_meaning.specs.World.{World, first_world}
 use Rattle.template_machine_meaning.specs.Replies.{kinded}
-use Rattle.template_machine_meaning.specs.Keys.{Key}
+use Rattle.template_machine_meaning.specs.Keys as keys
+use Rattle.template_machine_meaning.specs.Keys.{Stream, own, Key}
 use Rattle.template_machine_meaning.specs.Surroundings.{runners}
 use Rattle.template_machine_meaning.specs.Meaning.{Setting, no_head, around_of, walks_of, evaluation, alone, handed, evaluated}
 use Rattle.template_machine_meaning.specs.Isolation.{AgreesAt, AskNoNames, IsolatesExpressions}
-use Rattle.template_machine_meaning.proofs.Known.{base}
-use Rattle.template_machine_meaning.proofs.Turned.{over_context, same_known}
-use Rattle.template_machine_meaning.proofs.Walks.{in_expression}
-use Rattle.template_machine_meaning.proofs.Replies.{RunsSo, runs_so}
+use Rattle.template_machine_meaning.proofs.Known.{base, unmade}
+use Rattle.template_machine_meaning.proofs.Turned.{over_context, grown_itself, Fits, same_known}
+use Rattle.template_machine_meaning.proofs.Walks.{used_of, in_expression}
+use Rattle.template_machine_meaning.proofs.Replies.{begun_at, RunsSo, runs_so}
 
 module _ (names : List ℕ → Type 0) (d : Val) (setting : Setting) (ask : AskNoNames setting.callables) where
-  -- no key runs
-  none_so : (o : Option Process) → RunsSo names d (option_map (λ (p : Process) (w : World). ended breaks w) o)
-  none_so None = tt
-  none_so (Some p) = λ k w fits. record { same = refl; fits = λ h. absurd h }
+  -- there are no macros
+  abbrev no_body : ℕ → Option MacroBody
+  no_body number = None
 
-  runners_so : (key : Key) → RunsSo names d (runners (walks_of setting None) 0 key)
-  runners_so key = none_so ((walks_of setting None).process 0 key)
+  abbrev uses : Stream → ℕ → Among
+  uses stream number = used_of (no_body number)
+
+  -- no key runs
+  none_so : (key : Key) (o : Option Process) → RunsSo names uses d key (option_map (λ (p : Process) (w : World). ended breaks w) o)
+  none_so key None = tt
+  none_so key (Some p) = λ since under k w fits. record { same = refl; fits = λ h. absurd h }
+
+  runners_so : (key : Key) → RunsSo names uses d key (runners (walks_of setting None) 0 key)
+  runners_so key = none_so key ((walks_of setting None).process 0 key)
 
   -- what is handed out is the same, as what is known of records is
   same_handed : (w : World) (e : End) → handed (over_context d w) e ≡ handed w e
-  same_handed w (ends (v ∷ [])) = ap (λ (known : forms.Known). alone (kinded (frozen known v))) (same_known names d w)
+  same_handed w (ends (v ∷ [])) = ap (λ (known : forms.Known). alone (kinded (frozen known v))) (same_known names uses d w)
   same_handed w _ = refl
 
   same_evaluation : (id : ℕ) (e : Expression) → ((name : List ℕ) → IsTrue (stands_in name e) → names name) → (c : Val) → ((name : List ℕ) → names name → AgreesAt d c name)
@@ -42,8 +52,11 @@ module _ (names : List ℕ → Type 0) (d : Val) (setting : Setting) (ask : AskN
   same_evaluation id e listed c agrees =
       let w = first_world id setting.globals no_head c in
       let r = evaluation setting e w in
-      let at = runs_so names d (around_of setting None) ask (runners (walks_of setting None) 0) runners_so (base []) (standalone_walk e) (base []) w
-      (λ name i. absurd i, agrees) (in_expression names (base []) (base []) e (λ name i. inl (listed name i)) (λ v. over (v ∷ [])) (λ v name i. i)) in
+      let begins : Fits names uses d (begun_at (own keys.rendered) [] []) (base nothing) w =
+      record { framed = (λ name i. absurd (cc), refl, agrees); count = refl; held = tt; grown = grown_itself []; there = refl } in
+      let at = runs_so names uses d (begun_at (own keys.rendered) [] []) (around_of setting None) ask (runners (walks_of setting None) 0) runners_so (base nothing) (standalone_walk e)
+      (base nothing) unmade w begins tt
+      (in_expression names no_body (base nothing) (base nothing) e (λ name i. inl (listed name i)) (λ v. over (v ∷ [])) (λ v name i. i)) in
       (sym (ap (λ (q : Run World). q.items) at.same), sym (ap (λ (q : Run World). handed q.after q.end) at.same ∙ same_handed r.after r.end))
 
 pub isolates_expressions : IsolatesExpressions

@@ -1,6 +1,6 @@
 -- An expression does the same under every bound, and comes to its value or to a fault.
-use Rattle.std.proofs.Common.{◌≡◌, ℕ, zero, suc, ◌≤◌, inl, inr, Bool, true, false, ◌||◌, List, [], ◌∷◌, ◌++◌, Option, None, Some, is_some, Result, Ok, Err, refl, sym, ap, subst, ◌∙◌, arith}
-use Rattle.std.specs.Prelude.{if◌then◌else◌}
+use Rattle.std.proofs.Common.{◌≡◌, ℕ, zero, suc, ◌+◌, ◌≤◌, inl, inr, Bool, true, false, ◌||◌, List, [], ◌∷◌, ◌++◌, Option, None, Some, is_some, Result, Ok, Err, refl, sym, ap, subst, ◌∙◌, arith}
+use Rattle.std.specs.Prelude.{if◌then◌else◌, ◌==◌, slice_get}
 use Rattle.template_values_errors.specs.declared.ErrorKind.{ErrorKind}
 use Rattle.template_values_errors.specs.declared.ErrorKind.TheVariants.{InvalidOperation, UnknownBlock}
 use Rattle.template_values_model.specs.Val.{Val, text}
@@ -19,32 +19,34 @@ use Rattle.template_walk.specs.Containers.{tuple_made, map_made, kwargs_made}
 use Rattle.template_walk.specs.Operators.{operated, compared, inverted, negated}
 use Rattle.template_walk.specs.Statements.{is_super_name, standalone_walk}
 use Rattle.template_walk.specs.Expressions.{folded, unary_ask, binary_walk, Giving, Passing, alone, spreads, listed, stretches_walk, mapped, entries_stretches, has_spread, merged_if, keywords_walk, run_if, passed_walk, Callee, by_name, by_method, by_block, by_value, callee_of, called_walk, expression_walk, object_walk, positional_walks, keyword_walks, optional_walk, expressions_walk, walks_of, entries_walk, chain_walk, linked_walk}
-use Rattle.template_machine_meaning.specs.World.{Capture, World, looked_up, value_named, depth_of}
+use Rattle.template_machine_meaning.specs.World.{Loop, Macro, Capture, World, looked_up, value_named, depth_of}
 use Rattle.template_machine_meaning.specs.Bodies.{Bodies, bodies_at}
 use Rattle.template_machine_meaning.specs.Captures.{capture_begun, captured, is_dropping}
-use Rattle.template_machine_meaning.specs.Records.{known_of}
+use Rattle.template_machine_meaning.specs.Records.{loop_numbered, all_loops, known_of}
 use Rattle.template_machine_meaning.specs.Undefined.{forbids_truth, forbids_operator, forbids_link, forbids_slicing}
 use Rattle.template_machine_meaning.specs.Replies.{told, changed, refused, guarded, kinded, replied_with}
 use Rattle.template_machine_meaning.specs.Functions.{filter_named, test_named, Called, invokes, name_called, first_method, first_called}
-use Rattle.template_machine_meaning.specs.Calls.{call_reply}
+use Rattle.template_machine_meaning.specs.Calls.{call_plan}
 use Rattle.template_machine_meaning.specs.Spreads.{items_of_each, merged_keywords}
-use Rattle.template_machine_meaning.specs.Keys.{Key, Around}
-use Rattle.template_machine_meaning.specs.Plans.{Plan, replies, Runners, settled}
-use Rattle.template_machine_meaning.specs.Blocks.{bodies_plan, super_in, super_from, super_called}
+use Rattle.template_machine_meaning.specs.Keys.{Home, Key, Around}
+use Rattle.template_machine_meaning.specs.Plans.{Within, Plan, replies, enters, room_for, Runners, settled}
+use Rattle.template_machine_meaning.specs.Blocks.{block_within, bodies_plan, text_within, super_in, super_from, super_called}
+use Rattle.template_machine_meaning.specs.Macros.{macro_plan}
+use Rattle.template_machine_meaning.specs.Rounds.{again_plan}
 use Rattle.template_machine_meaning.specs.Surroundings.{Programs, attribute_given, item_given, capture_ended, plan, respond, runners, answer}
 use Rattle.template_machine_meaning.specs.Meaning.{Setting, evaluation}
 use Rattle.template_machine_meaning.specs.Meaning as meanings
-use Rattle.template_machine_meaning.specs.Laws.{GivesOne, EveryEvaluationGives, EvaluationsNeedNoBound}
+use Rattle.template_machine_meaning.specs.Laws.{GivesOne, IsAlone, EveryEvaluationGives, EvaluationsNeedNoBound}
 use Rattle.template_machine_meaning.proofs.Settling.{Settles}
 use Rattle.template_machine_meaning.proofs.Keeping.{keeps_itself}
-use Rattle.template_machine_meaning.proofs.Calling.{Stands, Tells, call_comes}
+use Rattle.template_machine_meaning.proofs.Calling.{Stands, Tells, PlanComes, Entries, call_comes}
 use Rattle.template_machine_meaning.proofs.Blocks.{Kept}
 use Rattle.template_machine_meaning.proofs.Expressions.{itself, value_walk, settles_expression}
 
 -- whoever runs the templates that stand
 module _ (around : Around) (r q : Runners) where
   abbrev Same : Process → Type 0
-  Same p = (w : World) → w.blocks ≡ [] → run (respond around r) p w ≡ run (respond around q) p w
+  Same p = (w : World) → IsAlone w → run (respond around r) p w ≡ run (respond around q) p w
 
   -- a walk that is the same where what follows is
   abbrev Stays : ((Val → Process) → Process) → Type 0
@@ -62,20 +64,20 @@ module _ (around : Around) (r q : Runners) where
   stepped : (p : Process) → Same p → Same (step p)
   stepped p same w none = ap (behind (paid [] ∷ [])) (same w none)
 
-  -- an answer leaves no blocks
+  -- an answer leaves nothing that runs
   abbrev LeavesNone : World → Told → Type 0
-  LeavesNone after (tells a) = after.blocks ≡ []
+  LeavesNone after (tells a) = IsAlone after
   LeavesNone after _ = Unit {0}
 
-  -- an event that starts no run, where there are no blocks
+  -- an event that starts no run, where nothing that runs can be called
   record IsQuiet (w : World) (e : Ask) : Type 0 where
     alike : respond around r w e ≡ respond around q w e
     after : LeavesNone (respond around q w e).after (respond around q w e).told
 
   abbrev Quiet : Ask → Type 0
-  Quiet e = (w : World) → w.blocks ≡ [] → IsQuiet w e
+  Quiet e = (w : World) → IsAlone w → IsQuiet w e
 
-  gone_on : (f g : Answer → World → Run World) (after : World) (t : Told) → LeavesNone after t → ((a : Answer) → after.blocks ≡ [] → f a after ≡ g a after)
+  gone_on : (f g : Answer → World → Run World) (after : World) (t : Told) → LeavesNone after t → ((a : Answer) → IsAlone after → f a after ≡ g a after)
       → go_on f after t ≡ go_on g after t
   gone_on f g after (tells a) none h = h a none
   gone_on f g after (fails kinds) none h = refl
@@ -91,7 +93,7 @@ module _ (around : Around) (r q : Runners) where
       (λ a still. same a reply.after still))
 
   -- what is given or refused
-  left_with : {X : Type 0} (w : World) → w.blocks ≡ [] → (answer : X → Answer) (result : Result X ErrorKind) → LeavesNone (replied_with w answer result).after (replied_with w answer result).told
+  left_with : {X : Type 0} (w : World) → IsAlone w → (answer : X → Answer) (result : Result X ErrorKind) → LeavesNone (replied_with w answer result).after (replied_with w answer result).told
   left_with w none answer (Ok x) = none
   left_with w none answer (Err kind) = tt
 
@@ -108,23 +110,63 @@ module _ (around : Around) (r q : Runners) where
     after = subst (λ (x : Reply World). LeavesNone x.after x.told) (sym (ap (settled q w) planned)) left;
   }
 
-  -- calls
-  abbrev HasNone : World → Type 0
-  HasNone w = w.blocks ≡ []
+  -- by what is planned: nothing is entered
+  abbrev PlansNone : Plan → Type 0
+  PlansNone p = PlanComes IsAlone (λ (x : Within). ⊥) p
 
-  none_stands : Stands HasNone
-  none_stands = record { temps = λ w temps none. none; makes = λ w entries none. none; compares = λ w pairs none. none }
-
-  come_leaves : (after : World) (t : Told) → Tells HasNone after t → LeavesNone after t
+  come_leaves : (after : World) (t : Told) → Tells IsAlone after t → LeavesNone after t
   come_leaves after (tells (value v)) none = none
   come_leaves after (fails kinds) none = tt
   come_leaves after _ none = absurd none
 
-  call_leaves : (w : World) → w.blocks ≡ [] → (c : Called) → LeavesNone (call_reply around w c).after (call_reply around w c).told
-  call_leaves w none c = come_leaves (call_reply around w c).after (call_reply around w c).told (call_comes HasNone none_stands around w none c).told
+  plan_quiet : (w : World) (e : Ask) (p : Plan) → plan around w e ≡ p → PlansNone p → IsQuiet w e
+  plan_quiet w e (replies reply) planned comes = planned_quiet w e reply planned (come_leaves reply.after reply.told comes.told)
+  plan_quiet w e (enters x) planned none = absurd none
 
-  call_quiet : (e : Ask) (c : World → Called) → ((w : World) → plan around w e ≡ replies (call_reply around w (c w))) → Quiet e
-  call_quiet e c is w none = planned_quiet w e (call_reply around w (c w)) (is w) (call_leaves w none (c w))
+  refused_none : (w : World) (kind : ErrorKind) → PlansNone (replies (refused w kind))
+  refused_none w kind = record { items = refl; told = tt }
+
+  -- calls
+  none_stands : Stands IsAlone
+  none_stands = record {
+    temps = λ w temps none. record { blocks = none.blocks; macros = none.macros; loops = none.loops };
+    makes = λ w entries none. record { blocks = none.blocks; macros = none.macros; loops = none.loops };
+    compares = λ w pairs none. record { blocks = none.blocks; macros = none.macros; loops = none.loops };
+  }
+
+  -- there is no macro, no loop and no block
+  no_macro : (w : World) → w.macros ≡ [] → (number : ℕ) (b : Bool) → (if b then slice_get w.macros number else None) ≡ None
+  no_macro w none number true = ap (λ (ms : List Macro). slice_get ms number) none
+  no_macro w none number false = refl
+
+  no_loop : (w : World) → ((number : ℕ) → loop_numbered number (all_loops w) ≡ None) → (number : ℕ) (b : Bool) → (if b then loop_numbered number (all_loops w) else None) ≡ None
+  no_loop w none number true = none number
+  no_loop w none number false = refl
+
+  again_none : (w : World) (vs : List Val) → PlansNone (again_plan around w vs None)
+  again_none w [] = refused_none w InvalidOperation
+  again_none w (v ∷ []) = refused_none w InvalidOperation
+  again_none w (v ∷ u ∷ vs) = refused_none w InvalidOperation
+
+  abbrev text_entering : World → ℕ → List ℕ → Home → Plan
+  text_entering w pending name home = room_for around.limit (1 + pending) w (text_within w pending name home)
+
+  entries_none : Entries IsAlone (λ (x : Within). ⊥) around
+  entries_none = record {
+    turns = λ x t none. none;
+    macros = λ pending w none vs id number.
+        subst (λ (o : Option Macro). PlansNone (macro_plan around.limit pending w vs o)) (sym (no_macro w none.macros number (id == w.id))) (refused_none w InvalidOperation);
+    rounds = λ w none vs id number.
+        subst (λ (o : Option Loop). PlansNone (again_plan around w vs o)) (sym (no_loop w none.loops number (id == w.id))) (again_none w vs);
+    texts = λ pending w none name.
+        subst (λ (blocks : List (List ℕ × Bodies)). PlansNone (bodies_plan around w name (text_entering w pending name) (bodies_at name blocks))) (sym none.blocks) (refused_none w UnknownBlock);
+  }
+
+  call_none : (w : World) → IsAlone w → (c : Called) → PlansNone (call_plan around w c)
+  call_none w none c = call_comes IsAlone none_stands (λ (x : Within). ⊥) around entries_none w none c
+
+  call_quiet : (e : Ask) (c : World → Called) → ((w : World) → plan around w e ≡ call_plan around w (c w)) → Quiet e
+  call_quiet e c is w none = plan_quiet w e (call_plan around w (c w)) (is w) (call_none w none (c w))
 
   -- there is nothing behind a block
   super_refused : (w : World) → w.blocks ≡ [] → (o : Option (List ℕ)) → super_from around w true o ≡ replies (refused w InvalidOperation)
@@ -136,33 +178,38 @@ module _ (around : Around) (r q : Runners) where
   super_none w none (v ∷ vs) = refl
 
   abbrev named_plan : World → List ℕ → List Val → Bool → Plan
-  named_plan w name vs b = if b then super_called around w vs else replies (call_reply around w (name_called w.globals (looked_up name w) vs))
+  named_plan w name vs b = if b then super_called around w vs else call_plan around w (name_called w.globals (looked_up name w) vs)
 
   named_quiet : (name : List ℕ) (vs : List Val) (b : Bool) → is_super_name name ≡ b → Quiet (call_function name vs)
   named_quiet name vs true is w none =
-      planned_quiet w (call_function name vs) (refused w InvalidOperation) (ap (named_plan w name vs) is ∙ super_none w none vs) tt
+      planned_quiet w (call_function name vs) (refused w InvalidOperation) (ap (named_plan w name vs) is ∙ super_none w none.blocks vs) tt
   named_quiet name vs false is w none =
-      planned_quiet w (call_function name vs) (call_reply around w (name_called w.globals (looked_up name w) vs)) (ap (named_plan w name vs) is)
-      (call_leaves w none (name_called w.globals (looked_up name w) vs))
+      plan_quiet w (call_function name vs) (call_plan around w (name_called w.globals (looked_up name w) vs)) (ap (named_plan w name vs) is)
+      (call_none w none (name_called w.globals (looked_up name w) vs))
 
   -- nor is there a block
   abbrev block_or : World → List ℕ → Bool → List (List ℕ × Bodies) → Plan
-  block_or w name b blocks = if b then replies (told w (tells done)) else bodies_plan around w name (bodies_at name blocks)
+  block_or w name b blocks =
+      if b then replies (told w (tells done))
+      else bodies_plan around w name (λ home. room_for around.limit 1 w (block_within w name home)) (bodies_at name blocks)
 
-  block_by : (w : World) (name : List ℕ) (b : Bool) → w.blocks ≡ [] → plan around w (call_block name) ≡ block_or w name b [] → IsQuiet w (call_block name)
+  block_by : (w : World) (name : List ℕ) (b : Bool) → IsAlone w → plan around w (call_block name) ≡ block_or w name b [] → IsQuiet w (call_block name)
   block_by w name true none is = planned_quiet w (call_block name) (told w (tells done)) is none
   block_by w name false none is = planned_quiet w (call_block name) (refused w UnknownBlock) is tt
 
   block_quiet : (name : List ℕ) → Quiet (call_block name)
   block_quiet name w none =
-      block_by w name (is_some w.parent || is_dropping w.captures) none (ap (block_or w name (is_some w.parent || is_dropping w.captures)) none)
+      block_by w name (is_some w.parent || is_dropping w.captures) none (ap (block_or w name (is_some w.parent || is_dropping w.captures)) none.blocks)
 
   abbrev ended_among : World → List Capture → Reply World
   ended_among w captures = elim captures [ [] ↦ told w breaks_off | c ∷ cs ↦ changed (record w { captures = cs }) (value (captured w.escape c)) ]
 
-  end_leaves : (w : World) → w.blocks ≡ [] → (captures : List Capture) → LeavesNone (ended_among w captures).after (ended_among w captures).told
+  with_captures : (w : World) (captures : List Capture) → IsAlone w → IsAlone (record w { captures = captures })
+  with_captures w captures none = record { blocks = none.blocks; macros = none.macros; loops = none.loops }
+
+  end_leaves : (w : World) → IsAlone w → (captures : List Capture) → LeavesNone (ended_among w captures).after (ended_among w captures).told
   end_leaves w none [] = tt
-  end_leaves w none (c ∷ cs) = none
+  end_leaves w none (c ∷ cs) = with_captures w cs none
 
   at_done : (go : Process) → Same go → (a : Answer) → Same (on_done go a)
   at_done go same done = same
@@ -259,7 +306,7 @@ module _ (around : Around) (r q : Runners) where
       g _ (λ v. passed_same (v ∷ []) args each named others (λ vs. step (asks (call_method name vs) (on_value go))) (λ vs. value_same (call_method name vs) (call_quiet (call_method name vs) (λ w. first_method w.globals (known_of w) name vs) (λ w. refl)) go same))
   called_same (by_block name) whole object f g args each named others go same =
       asked (begin_capture true) (on_done (step (asks (call_block name) (on_done (step (asks end_capture (on_value go)))))))
-      (λ w none. planned_quiet w (begin_capture true) (changed (record w { captures = capture_begun true ∷ w.captures }) done) refl none)
+      (λ w none. planned_quiet w (begin_capture true) (changed (record w { captures = capture_begun true ∷ w.captures }) done) refl (with_captures w (capture_begun true ∷ w.captures) none))
       (at_done (step (asks (call_block name) (on_done (step (asks end_capture (on_value go))))))
       (stepped (asks (call_block name) (on_done (step (asks end_capture (on_value go)))))
       (asked (call_block name) (on_done (step (asks end_capture (on_value go)))) (block_quiet name)
@@ -364,11 +411,11 @@ module _ (setting : Setting) where
   abbrev alone_run : ℕ → Expression → World → Run World
   alone_run n e w = run (answer nothing_runs n) (standalone_walk e) w
 
-  same_alone : (n : ℕ) (e : Expression) (w : World) → w.blocks ≡ [] → alone_run n e w ≡ evaluation setting e w
+  same_alone : (n : ℕ) (e : Expression) (w : World) → IsAlone w → alone_run n e w ≡ evaluation setting e w
   same_alone n e w none =
       let s = meanings.walks_of setting None in stays s.around (runners nothing_runs n) (runners s 0) e (λ v. over (v ∷ [])) (λ v x still. refl) w none
 
-  given_end : (e : Expression) (w : World) → w.blocks ≡ [] → Settles {O = Val} nothing_runs w (Kept [] w) (λ m go. expression_walk e go) → GivesOne (evaluation setting e w).end
+  given_end : (e : Expression) (w : World) → IsAlone w → Settles {O = Val} nothing_runs w (Kept [] w) (λ m go. expression_walk e go) → GivesOne (evaluation setting e w).end
   given_end e w none (inl p) =
       let P : Run World → Type 0 = λ r. GivesOne r.end in
       subst P (sym (p.is p.least p.least (omega arith) (omega arith) (λ v. over (v ∷ []))) ∙ same_alone p.least e w none) tt
@@ -380,4 +427,4 @@ pub every_evaluation_gives : EveryEvaluationGives
 every_evaluation_gives setting e h w none =
     let deep : 0 ≤ depth_of w = omega arith in
     given_end setting e w none
-    (settles_expression [] (nothing_runs setting) 0 (λ key v framed by_itself below few. inl (λ n. no_runs setting n key)) w deep e h w (keeps_itself [] w))
+    (settles_expression [] (nothing_runs setting) 0 (λ key v starts below few. inl (λ n. no_runs setting n key)) w deep e h w (keeps_itself [] w))

@@ -21,18 +21,20 @@ use Rattle.template_walk.specs.Statements.{is_super_name}
 use Rattle.template_walk.specs.Operators.{operated, compared, inverted, negated}
 use Rattle.template_walk.specs.Runnable.{IsRunnable, IsRunnableIfGiven, AreRunnableArguments, AreRunnable, IsRunnableChain, AreRunnableLinks, AreFilters}
 use Rattle.template_machine_meaning.specs.World.{World, looked_up, value_named, depth_of}
+use Rattle.template_machine_meaning.specs.Plans.{caller_of}
 use Rattle.template_machine_meaning.specs.Records.{known_of}
 use Rattle.template_machine_meaning.specs.Undefined.{forbids_truth, forbids_operator, forbids_link, forbids_slicing}
 use Rattle.template_machine_meaning.specs.Replies.{guarded, replied_with, kinded}
 use Rattle.template_machine_meaning.specs.Functions.{Invoked, filter_named, test_named, Called, invokes, name_called, first_method, first_called}
-use Rattle.template_machine_meaning.specs.Calls.{call_reply}
+use Rattle.template_machine_meaning.specs.Calls.{call_plan}
 use Rattle.template_machine_meaning.specs.Spreads.{items_of_each, merged_keywords}
-use Rattle.template_machine_meaning.specs.Plans.{Plan, replies, settled}
+use Rattle.template_machine_meaning.specs.Plans.{Plan}
 use Rattle.template_machine_meaning.specs.Blocks.{super_called}
-use Rattle.template_machine_meaning.specs.Surroundings.{Programs, runners, attribute_given, item_given, answer}
+use Rattle.template_machine_meaning.specs.Surroundings.{Programs, plan, attribute_given, item_given, answer}
 use Rattle.template_machine_meaning.proofs.Settling.{Walk, Settles, settles_then, settles_now, settles_step, settles_value, settles_items}
 use Rattle.template_machine_meaning.proofs.Keeping.{Keeps, keeps_on, same_depth}
-use Rattle.template_machine_meaning.proofs.Calling.{keeps_stands, settles_come, call_comes}
+use Rattle.template_machine_meaning.proofs.Calling.{KeepsFor, keeps_stands, Entered, settles_plan, call_comes}
+use Rattle.template_machine_meaning.proofs.Within.{entries}
 use Rattle.template_machine_meaning.proofs.Entering.{AllCome}
 use Rattle.template_machine_meaning.proofs.Blocks.{Kept, settles_super, settles_block_text}
 
@@ -64,7 +66,7 @@ abbrev walk_of : Expression → Walk Val
 walk_of e m go = expression_walk e go
 
 module _ (names : List (List ℕ)) (s : Programs) (depth : ℕ) (deeper : AllCome names s depth) (base : World) (deep : depth ≤ depth_of base) where
-  abbrev Gives : World → Walk Val → Type 0
+  abbrev pub Gives : World → Walk Val → Type 0
   Gives w P = Settles {O = Val} s w (Kept names base) P
 
   -- a step, and an event that gives a value
@@ -72,10 +74,15 @@ module _ (names : List (List ℕ)) (s : Programs) (depth : ℕ) (deeper : AllCom
   given_by w kept e r is = settles_step s w (Kept names base) (λ m go. asks e (on_value go)) (settles_value s w (Kept names base) e r (λ v. kept) is)
 
   -- a step, and a call
-  called_by : (w : World) → Keeps names base w → (e : Ask) (c : Called) → ((n : ℕ) → answer s n w e ≡ call_reply s.around w c)
+  call_settles : (w : World) → Keeps names base w → (e : Ask) (c : Called) → plan s.around w e ≡ call_plan s.around w c → Gives w (λ m go. asks e (on_value go))
+  call_settles w kept e c planned =
+      let holds : World → Type 0 = KeepsFor names base (caller_of w) in
+      settles_plan s holds (Keeps names base) (λ y held. held.0) w e (call_plan s.around w c) planned
+      (call_comes holds (keeps_stands names base (caller_of w)) (Entered s (caller_of w) (Keeps names base)) s.around (entries names s depth deeper base deep (caller_of w)) w (kept, refl) c)
+
+  called_by : (w : World) → Keeps names base w → (e : Ask) (c : Called) → plan s.around w e ≡ call_plan s.around w c
       → Gives w (λ m go. step (asks e (on_value go)))
-  called_by w kept e c is =
-      settles_step s w (Kept names base) (λ m go. asks e (on_value go)) (settles_come s (Keeps names base) w e (call_reply s.around w c) (call_comes (Keeps names base) (keeps_stands names base) s.around w kept c) is)
+  called_by w kept e c planned = settles_step s w (Kept names base) (λ m go. asks e (on_value go)) (call_settles w kept e c planned)
 
   -- a step, and a test of a value
   decided_by : (w : World) (v : Val) (P Q : Walk Val) → Gives w P → Gives w Q → Gives w (λ m go. step (asks (truth_of v) (on_truth (P m go) (Q m go))))
@@ -90,7 +97,7 @@ module _ (names : List (List ℕ)) (s : Programs) (depth : ℕ) (deeper : AllCom
   given_folded (Some v) w kept P p = settles_now s w (Kept names base) v kept
 
   -- what settles from every world that keeps what the base has
-  abbrev Always : Walk Val → Type 0
+  abbrev pub Always : Walk Val → Type 0
   Always P = (w : World) → Keeps names base w → Gives w P
 
   given_then : (w : World) (P : Walk Val) (Q : Val → Walk Val) → Gives w P → ((v : Val) → Always (Q v)) → Gives w (λ m go. P m (λ v. Q v m go))
@@ -116,7 +123,7 @@ module _ (names : List (List ℕ)) (s : Programs) (depth : ℕ) (deeper : AllCom
     none_left : EachGives []
     each_more : {walk : (Val → Process) → Process} {walks : List ((Val → Process) → Process)} → Always (λ m go. walk go) → EachGives walks → EachGives (walk ∷ walks)
 
-  data EachPassed {X : Type 0} (walk_in : X → Giving) : List (Passing X Giving) → Type 0 where
+  pub data EachPassed {X : Type 0} (walk_in : X → Giving) : List (Passing X Giving) → Type 0 where
     none_passed : EachPassed walk_in []
     alone_more : {x : X} {args : List (Passing X Giving)} → Always (λ m go. walk_in x go) → EachPassed walk_in args → EachPassed walk_in (alone x ∷ args)
     spread_more : {walk : Giving} {args : List (Passing X Giving)} → Always (λ m go. walk go) → EachPassed walk_in args → EachPassed walk_in (spreads walk ∷ args)
@@ -195,7 +202,7 @@ module _ (names : List (List ℕ)) (s : Programs) (depth : ℕ) (deeper : AllCom
       (λ last y l. settles_run (has_spread args) o.0 (o.1 ++ last) y l))
 
   -- a method has an object
-  abbrev ObjectGives : Callee → Giving → Type 0
+  abbrev pub ObjectGives : Callee → Giving → Type 0
   ObjectGives (by_method name) object = Always (λ m go. object go)
   ObjectGives _ object = Unit {0}
 
@@ -205,7 +212,7 @@ module _ (names : List (List ℕ)) (s : Programs) (depth : ℕ) (deeper : AllCom
 
   -- a call by a name: of what stands behind a block, or of what the name stands for
   abbrev called_plan_of : World → List ℕ → List Val → Bool → Plan
-  called_plan_of w name vs b = if b then super_called s.around w vs else replies (call_reply s.around w (name_called w.globals (looked_up name w) vs))
+  called_plan_of w name vs b = if b then super_called s.around w vs else call_plan s.around w (name_called w.globals (looked_up name w) vs)
 
   named_call : (name : List ℕ) (vs : List Val) (w : World) → Keeps names base w → (b : Bool) → is_super_name name ≡ b → Gives w (λ m go. asks (call_function name vs) (on_value go))
   named_call name vs w kept true is =
@@ -215,11 +222,9 @@ module _ (names : List (List ℕ)) (s : Programs) (depth : ℕ) (deeper : AllCom
       (settles_super names s depth deeper w within (call_function name vs) vs (ap (called_plan_of w name vs) is))
       (λ v x k. settles_now s x (Kept names base) v (keeps_on names base w x kept k))
   named_call name vs w kept false is =
-      let c = name_called w.globals (looked_up name w) vs in
-      settles_come s (Keeps names base) w (call_function name vs) (call_reply s.around w c) (call_comes (Keeps names base) (keeps_stands names base) s.around w kept c)
-      (λ n. ap (λ (b : Bool). settled (runners s n) w (called_plan_of w name vs b)) is)
+      call_settles w kept (call_function name vs) (name_called w.globals (looked_up name w) vs) (ap (λ (b : Bool). called_plan_of w name vs b) is)
 
-  settles_called : (callee : Callee) (whole object : Giving) → Always (λ m go. whole go) → ObjectGives callee object → (args : List (Passing Giving Giving)) → EachPassed itself args
+  pub settles_called : (callee : Callee) (whole object : Giving) → Always (λ m go. whole go) → ObjectGives callee object → (args : List (Passing Giving Giving)) → EachPassed itself args
       → (named : List (Passing (List ℕ × Giving) Giving)) → EachPassed value_walk named → Always (λ m go. called_walk callee whole object (λ front. passed_walk front args named) go)
   settles_called (by_name name) whole object f g args each named others w kept =
       settles_then s w (Kept names base) (Kept names base) (λ m go. passed_walk [] args named go) (λ vs m go. step (asks (call_function name vs) (on_value go))) (settles_passed [] args each named others w kept)
@@ -227,21 +232,21 @@ module _ (names : List (List ℕ)) (s : Programs) (depth : ℕ) (deeper : AllCom
   settles_called (by_method name) whole object f g args each named others w kept =
       given_then w (λ m go. object go) (λ v m go. passed_walk (v ∷ []) args named (λ vs. step (asks (call_method name vs) (on_value go)))) (g w kept)
       (λ v x k. settles_then s x (Kept names base) (Kept names base) (λ m go. passed_walk (v ∷ []) args named go) (λ vs m go. step (asks (call_method name vs) (on_value go))) (settles_passed (v ∷ []) args each named others x k)
-      (λ vs y l. called_by y l (call_method name vs) (first_method y.globals (known_of y) name vs) (λ n. refl)))
+      (λ vs y l. called_by y l (call_method name vs) (first_method y.globals (known_of y) name vs) refl))
   settles_called (by_block name) whole object f g args each named others w kept = settles_block_text names s depth deeper base deep name w kept
   settles_called by_value whole object f g args each named others w kept =
       given_then w (λ m go. whole go) (λ v m go. passed_walk (v ∷ []) args named (λ vs. step (asks (call_value vs) (on_value go)))) (f w kept)
       (λ v x k. settles_then s x (Kept names base) (Kept names base) (λ m go. passed_walk (v ∷ []) args named go) (λ vs m go. step (asks (call_value vs) (on_value go))) (settles_passed (v ∷ []) args each named others x k)
-      (λ vs y l. called_by y l (call_value vs) (first_called y.globals vs) (λ n. refl)))
+      (λ vs y l. called_by y l (call_value vs) (first_called y.globals vs) refl))
 
   -- a filter or a test, over a value and arguments
   settles_handed : (e : List Val → Ask) (what : Invoked)
-      → ((w : World) (vs : List Val) (n : ℕ) → answer s n w (e vs) ≡ call_reply s.around w (invokes what vs)) → (v : Val)
+      → ((w : World) (vs : List Val) → plan s.around w (e vs) ≡ call_plan s.around w (invokes what vs)) → (v : Val)
       → (args : List (Passing Giving Giving)) → EachPassed itself args → (named : List (Passing (List ℕ × Giving) Giving)) → EachPassed value_walk named
       → Always (λ m go. passed_walk (v ∷ []) args named (λ vs. step (asks (e vs) (on_value go))))
   settles_handed e what is v args each named others w kept =
       settles_then s w (Kept names base) (Kept names base) (λ m go. passed_walk (v ∷ []) args named go) (λ vs m go. step (asks (e vs) (on_value go))) (settles_passed (v ∷ []) args each named others w kept)
-      (λ vs x k. called_by x k (e vs) (invokes what vs) (λ n. is x vs n))
+      (λ vs x k. called_by x k (e vs) (invokes what vs) (is x vs))
 
   mutual
     pub settles_expression : (e : Expression) → IsRunnable e → Always (walk_of e)
@@ -288,27 +293,27 @@ module _ (names : List (List ℕ)) (s : Programs) (depth : ℕ) (deeper : AllCom
         (λ entries x k. given_by x k (build_map entries) (kinded (map_made entries)) (λ n. refl)))
     settles_expression (call callee args) h w kept =
         settles_called (callee_of callee args) (expression_walk callee) (object_walk callee) (settles_expression callee h.0) (settles_object callee args h.0)
-        (positional_walks args) (settles_positional args h.2) (keyword_walks args) (settles_keyword args h.2) w kept
+        (positional_walks args) (settles_positional args h.1) (keyword_walks args) (settles_keyword args h.1) w kept
     settles_expression (filtered name (given e) args) h w kept =
         given_then w (walk_of e) (λ v m go. filter_walk name args v go) (settles_expression e h.0 w kept)
-        (λ v. settles_handed (apply_filter name) (filter_named name) (λ x vs n. refl) v (positional_walks args) (settles_positional args h.1) (keyword_walks args) (settles_keyword args h.1))
+        (λ v. settles_handed (apply_filter name) (filter_named name) (λ x vs. refl) v (positional_walks args) (settles_positional args h.1) (keyword_walks args) (settles_keyword args h.1))
     settles_expression (tested name e args) h w kept =
         given_then w (walk_of e) (λ v m go. passed_walk (v ∷ []) (positional_walks args) (keyword_walks args) (λ vs. step (asks (perform_test name vs) (on_value go)))) (settles_expression e h.0 w kept)
-        (λ v. settles_handed (perform_test name) (test_named name) (λ x vs n. refl) v (positional_walks args) (settles_positional args h.1) (keyword_walks args) (settles_keyword args h.1))
+        (λ v. settles_handed (perform_test name) (test_named name) (λ x vs. refl) v (positional_walks args) (settles_positional args h.1) (keyword_walks args) (settles_keyword args h.1))
     settles_expression _ h w kept = absurd h
 
-    settles_object : (callee : Expression) (args : Arguments) → IsRunnable callee → ObjectGives (callee_of callee args) (object_walk callee)
+    pub settles_object : (callee : Expression) (args : Arguments) → IsRunnable callee → ObjectGives (callee_of callee args) (object_walk callee)
     settles_object (attribute e name) args h = object_by (is_self_name e && is_empty args) name (expression_walk e) (settles_expression e h)
     settles_object _ args h = tt
 
-    settles_positional : (args : Arguments) → AreRunnableArguments args → EachPassed itself (positional_walks args)
+    pub settles_positional : (args : Arguments) → AreRunnableArguments args → EachPassed itself (positional_walks args)
     settles_positional no_arguments h = none_passed
     settles_positional (arguments_more (positional e) args) h = alone_more (settles_expression e h.0) (settles_positional args h.1)
     settles_positional (arguments_more (positional_spread e) args) h = spread_more (settles_expression e h.0) (settles_positional args h.1)
     settles_positional (arguments_more (keyword name e) args) h = settles_positional args h.1
     settles_positional (arguments_more (keyword_spread e) args) h = settles_positional args h.1
 
-    settles_keyword : (args : Arguments) → AreRunnableArguments args → EachPassed value_walk (keyword_walks args)
+    pub settles_keyword : (args : Arguments) → AreRunnableArguments args → EachPassed value_walk (keyword_walks args)
     settles_keyword no_arguments h = none_passed
     settles_keyword (arguments_more (keyword name e) args) h = alone_more (settles_expression e h.0) (settles_keyword args h.1)
     settles_keyword (arguments_more (keyword_spread e) args) h = spread_more (settles_expression e h.0) (settles_keyword args h.1)
@@ -361,7 +366,7 @@ module _ (names : List (List ℕ)) (s : Programs) (depth : ℕ) (deeper : AllCom
   -- a filter of a block, over a value
   settles_filter : (name : List ℕ) (args : Arguments) → AreRunnableArguments args → (v : Val) → Always (λ m go. filter_walk name args v go)
   settles_filter name args h v =
-      settles_handed (apply_filter name) (filter_named name) (λ x vs n. refl) v (positional_walks args) (settles_positional args h) (keyword_walks args) (settles_keyword args h)
+      settles_handed (apply_filter name) (filter_named name) (λ x vs. refl) v (positional_walks args) (settles_positional args h) (keyword_walks args) (settles_keyword args h)
 
   -- all of them
   pub settles_filters : (filters : Expression) → AreFilters filters → (v : Val) → Always (λ m go. filters_walk filters v go)

@@ -31,7 +31,7 @@ one_handed w _ gives = absurd gives
 pub every_expression_gives : EveryExpressionGives
 every_expression_gives setting id e runs context =
     let w = first_world id setting.globals no_head context in
-    let r = evaluation setting e w in one_handed r.after r.end (every_evaluation_gives setting e runs w refl)
+    let r = evaluation setting e w in one_handed r.after r.end (every_evaluation_gives setting e runs w (record { blocks = refl; macros = refl; loops = λ number. refl }))
 
 -- what is handed out of a run under a fuel is what comes of the whole run under it
 pub under_handed : (fuel : Option ℕ) (r : Run World) → under fuel (handed_out r) ≡ handed_out (under fuel r)

@@ -1,16 +1,17 @@
 -- An include settles, where keys come to their ends one include deeper.
-use Rattle.std.proofs.Common.{◌≡◌, ℕ, ◌+◌, ◌<◌, ◌≤◌, Bool, true, false, List, [], ◌∷◌, ◌++◌, length, None, Some, Result, Ok, Err, refl, sym, ap, subst, ◌∙◌, arith}
+use Rattle.std.proofs.Common.{◌≡◌, ℕ, ◌+◌, ◌<◌, ◌≤◌, Bool, true, false, List, [], ◌∷◌, ◌++◌, length, Option, None, Some, Result, Ok, Err, refl, sym, ap, subst, ◌∙◌, arith}
 use Rattle.std.specs.Prelude.{if◌then◌else◌}
 use Rattle.std.proofs.lemmas.Bool.Decides.{nat_tests}
 use Rattle.template_values_errors.specs.declared.ErrorKind.{ErrorKind}
 use Rattle.template_values_errors.specs.declared.ErrorKind.TheVariants.{InvalidOperation, TemplateNotFound}
 use Rattle.template_values_model.specs.Val.{Val}
 use Rattle.template_process.specs.Process.{Ask, include, fails, asks, on_done}
-use Rattle.template_machine_meaning.specs.World.{Capture, World, depth_of, has_room}
+use Rattle.template_machine_meaning.specs.World.{Frame, Capture, World, depth_of, has_room}
 use Rattle.template_machine_meaning.specs.Records.{known_of}
 use Rattle.template_machine_meaning.specs.Names.{name_of}
 use Rattle.template_machine_meaning.specs.Replies.{told, refused}
-use Rattle.template_machine_meaning.specs.Plans.{includes, Plan, replies, enters, outermost, caller_of, after_by, settled}
+use Rattle.template_machine_meaning.specs.Closures.{writes_of}
+use Rattle.template_machine_meaning.specs.Plans.{includes, with_writes, Plan, replies, enters, outermost, caller_of, after_by, settled}
 use Rattle.template_machine_meaning.specs.Includes.{Found, Choice, choices_in, first_standing, include_levels, include_within, not_found, included_by, included_from}
 use Rattle.template_machine_meaning.specs.Surroundings.{plan, Programs, runners}
 use Rattle.template_machine_meaning.proofs.Outermost.{outermost_all, outermost_append}
@@ -22,6 +23,11 @@ use Rattle.template_machine_meaning.proofs.Blocks.{Kept, settles_failed}
 include_room : (limit depth : ℕ) (w : World) → depth ≤ depth_of w → has_room limit include_levels w ≡ true → depth < limit
 include_room limit depth w deep e = grind (arith, nat_tests)
 
+-- the innermost frame writes another closure
+pub loops_writes : (o : Option ℕ) (fs : List Frame) → loops_of (with_writes o fs) ≡ loops_of fs
+loops_writes o [] = refl
+loops_writes o (f ∷ fs) = refl
+
 -- the same frames are there behind it, and as many captures
 include_back : (names : List (List ℕ)) (w v : World) → loops_of v.frames ≡ loops_of w.frames → length v.captures ≡ length w.captures → (more : List (List ℕ)) → v.loaded ≡ more ++ w.loaded
     → Keeps names w (after_by includes (caller_of w) v)
@@ -32,7 +38,7 @@ include_back names w v loops captures more loaded =
     ap (λ (xs : List (List ℕ)). outermost (length w.loaded) xs) loaded ∙ outermost_append (length w.loaded) more w.loaded refl in
     let fewer : unloaded names w.loaded + met w.parent ≤ unloaded names w.loaded + met w.parent = omega arith in
     record {
-      loops = ap loops_of (outermost_all (length w.frames) v.frames many) ∙ loops;
+      loops = loops_writes (writes_of w.frames) (outermost (length w.frames) v.frames) ∙ ap loops_of (outermost_all (length w.frames) v.frames many) ∙ loops;
       outer = refl;
       floor = refl;
       saved = refl;
@@ -69,12 +75,13 @@ module _ (names : List (List ℕ)) (s : Programs) (w : World) (ignore_missing : 
         → (b : Bool) → has_room s.around.limit include_levels w ≡ b → IncludeSettles
     running_settles found planned true room =
         let x = include_within w found in
-        let all : length w.frames ≤ length w.frames = omega arith in
+        let many : length (with_writes None w.frames) ≡ length w.frames = same_many (with_writes None w.frames) w.frames (loops_writes None w.frames) in
+        let all : length w.frames ≤ length (with_writes None w.frames) = omega (arith, many) in
         let below : depth < length w.frames + (w.outer + include_levels) = omega (arith, deep) in
-        settles_entered (Unit {0}) s w asked_for x (planned ∙ ap (roomy_plan found) room) (Kept names w) (λ go. on_done (go tt)) (λ u. tt) (Ran names x.begins)
-        (deeper x.key x.begins (record { loop = framed.loop; others = framed.others; loops = framed.loops; floor = all }) refl below
+        settles_entered (Unit {0}) s w asked_for (Kept names w) (λ go. on_done (go tt)) x (planned ∙ ap (roomy_plan found) room) (Ran names x.begins)
+        (deeper x.key x.begins (record { loop = framed.loop; others = framed.others; loops = loops_writes None w.frames ∙ framed.loops; floor = all }, refl) below
         (include_room s.around.limit depth w deep room))
-        (λ u k. include_back names w u k.loops k.captures k.added.0 k.added.1) (λ u go. refl)
+        (λ u k. (tt, include_back names w u (k.loops ∙ loops_writes None w.frames) k.captures k.added.0 k.added.1, λ go. refl))
     running_settles found planned false room = refused_so InvalidOperation (planned ∙ ap (roomy_plan found) room)
 
     found_settles : (choices : List Val) (r : Choice) → plan s.around w asked_for ≡ included_by s.around.limit w ignore_missing choices r → IncludeSettles

@@ -1,5 +1,5 @@
 -- Over contexts that agree on the used names a render leaves the same.
-use Rattle.std.proofs.Common.{◌≡◌, ℕ, zero, suc, inl, inr, Bool, true, false, List, [], ◌∷◌, ◌++◌, Option, None, Some, option_map, codes, refl, sym, ap, subst}
+use Rattle.std.proofs.Common.{◌≡◌, ℕ, zero, suc, ◌==◌, inl, inr, Bool, true, false, List, [], ◌∷◌, ◌++◌, length, Option, None, Some, option_map, codes, refl, sym, ap, subst}
 use Rattle.std.specs.Prelude.{IsTrue, not, ◌&&◌, ◌||◌, if◌then◌else◌}
 use Rattle.std.specs.Option.{option_and_then}
 use Rattle.std.specs.Str.{bytes_eq}
@@ -7,28 +7,30 @@ use Rattle.std.proofs.lemmas.Bool.{or_left, or_right}
 use Rattle.template_values_model.specs.Val.{Val}
 use Rattle.template_callables.specs.Callables.{no_callables}
 use Rattle.template_tree.specs.Tree.{Statement, Statements, for_loop, if_condition, with_block, set_block, auto_escape, filter_block, block, no_statements, statements_more}
+use Rattle.template_names.specs.Among.{Among, nothing}
 use Rattle.template_names.specs.Names.{is_used_in, is_used, is_stored_everywhere}
 use Rattle.template_process.specs.Process.{Process}
 use Rattle.template_process.specs.Drive.{breaks}
 use Rattle.template_process.specs.Trace.{Run, run, ended}
 use Rattle.template_process.specs.Fuel.{IsSameRun}
 use Rattle.template_process.proofs.Fuels.{cut_alike}
-use Rattle.template_walk.specs.Statements.{template_walk}
+use Rattle.template_walk.specs.Statements.{number_of, template_walk, macro_walk, rounds_walk}
+use Rattle.template_walk.specs.Counting.{MacroBody, LoopRounds, macro_numbered, rounds_numbered}
 use Rattle.template_walk.specs.Blocks.{Block, blocks_by, blocks_in, block_among, block_named}
 use Rattle.template_walk.specs.Imported.{is_imported_by, is_imported}
-use Rattle.template_machine_meaning.specs.World.{World, first_world}
+use Rattle.template_machine_meaning.specs.World.{Bindings, Frame, World, first_world}
 use Rattle.template_machine_meaning.specs.Keys as keys
-use Rattle.template_machine_meaning.specs.Keys.{Home, Stream, own, block_of, Part, whole, body_of, rounds_of, Key}
+use Rattle.template_machine_meaning.specs.Keys.{Home, standing, Stream, own, block_of, Part, whole, body_of, rounds_of, Key, whole_of}
 use Rattle.template_machine_meaning.specs.Functions.{filter_named, test_named, function_numbered, method_of}
 use Rattle.template_machine_meaning.specs.Plans.{ran, followed}
 use Rattle.template_machine_meaning.specs.Surroundings.{Programs, respond, runners}
 use Rattle.template_machine_meaning.specs.Meaning as meanings
-use Rattle.template_machine_meaning.specs.Meaning.{Standing, Setting, template_at, tree_in, tree_at, head_of, walks_of, top, rendered}
-use Rattle.template_machine_meaning.specs.Isolation.{is_given, is_used_by_block, is_needed, IsContextName, AgreesAt, AskNoNames, ImportsNamesAt, ImportsNames, IsolatesNames}
-use Rattle.template_machine_meaning.proofs.Known.{Known, base}
-use Rattle.template_machine_meaning.proofs.Turned.{over_context, Fits}
-use Rattle.template_machine_meaning.proofs.Walks.{template_within}
-use Rattle.template_machine_meaning.proofs.Replies.{Runs, RunsSo, runs_so, followed_so}
+use Rattle.template_machine_meaning.specs.Meaning.{Standing, Setting, template_at, tree_in, tree_of, body_walk, part_walk, head_of, walks_of, top, rendered}
+use Rattle.template_machine_meaning.specs.Isolation.{is_given, is_used_by_block, used_of_rounds, is_used_by_rounds_of, is_used_by_rounds, is_needed, IsContextName, AgreesAt, AskNoNames, ImportsNamesAt, ImportsNames, IsolatesNames}
+use Rattle.template_machine_meaning.proofs.Known.{Known, base, inner, unmade, Within}
+use Rattle.template_machine_meaning.proofs.Turned.{over_context, grown_itself, Fits}
+use Rattle.template_machine_meaning.proofs.Walks.{used_of, template_within, macro_within, rounds_within}
+use Rattle.template_machine_meaning.proofs.Replies.{begun_at, from_key, Runs, RunsSo, runs_so, followed_so}
 
 module _ (names : List ℕ → Type 0) (given : (name : List ℕ) → IsTrue (is_given name) → names name) (d : Val) where
   -- what a region uses, the template uses, or the engine gives
@@ -44,6 +46,9 @@ module _ (names : List ℕ → Type 0) (given : (name : List ℕ) → IsTrue (is
   is_everywhere name e =
       given name (or_left (is_stored_everywhere name || bytes_eq name (codes "loop")) (bytes_eq name (codes "caller")) (or_left (is_stored_everywhere name) (bytes_eq name (codes "loop")) e))
 
+  is_caller : (name : List ℕ) → IsTrue (bytes_eq name (codes "caller")) → names name
+  is_caller name e = given name (or_right (is_stored_everywhere name || bytes_eq name (codes "loop")) (bytes_eq name (codes "caller")) e)
+
   used_in : (tree : Statements) → ((name : List ℕ) → IsTrue (is_used name tree) → names name) → (name : List ℕ) → IsTrue (is_used_in name tree) → names name
   used_in tree listed name used = shown name (is_stored_everywhere name) (is_used_in name tree) (is_everywhere name) (listed name) used
 
@@ -56,15 +61,16 @@ module _ (names : List ℕ → Type 0) (given : (name : List ℕ) → IsTrue (is
   listed_right : (f g : List ℕ → Bool) → Listed (λ name. f name || g name) → Listed g
   listed_right f g listed name i = listed name (or_right (f name) (g name) i)
 
-  -- a tree runs by itself: what it uses is listed, and what it imports, which are names
+  -- A tree runs by itself, and so do the rounds of its loops: what they use is listed, and what is imported, which are names.
   record Alone (tree : Statements) : Type 0 where
     used : (name : List ℕ) → IsTrue (is_used_in name tree) → names name
+    again : Listed (λ name. is_used_by_rounds name tree)
     imported : Listed (λ name. is_imported name tree)
     are : ImportsNames tree
 
   -- so do its blocks
   abbrev Takes : Statements → Type 0
-  Takes tree = Listed (λ name. is_imported name tree) × ImportsNames tree
+  Takes tree = Listed (λ name. is_used_by_rounds name tree) × Listed (λ name. is_imported name tree) × ImportsNames tree
 
   abbrev AllTake : List Block → Type 0
   AllTake [] = Unit {0}
@@ -74,26 +80,36 @@ module _ (names : List ℕ → Type 0) (given : (name : List ℕ) → IsTrue (is
   both_take [] more first second = second
   both_take (b ∷ blocks) more first second = (first.0, both_take blocks more first.1 second)
 
-  mutual
-    one_takes : (st : Statement) → Listed (λ name. is_imported_by name st) → ImportsNamesAt st → AllTake (blocks_by st)
-    one_takes (for_loop target e condition again body otherwise) listed are =
-        both_take (blocks_in body) (blocks_in otherwise) (all_take body (listed_left (λ name. is_imported name body) (λ name. is_imported name otherwise) listed) are.0)
-        (all_take otherwise (listed_right (λ name. is_imported name body) (λ name. is_imported name otherwise) listed) are.1)
-    one_takes (if_condition e body otherwise) listed are =
-        both_take (blocks_in body) (blocks_in otherwise) (all_take body (listed_left (λ name. is_imported name body) (λ name. is_imported name otherwise) listed) are.0)
-        (all_take otherwise (listed_right (λ name. is_imported name body) (λ name. is_imported name otherwise) listed) are.1)
-    one_takes (with_block _ body) listed are = all_take body listed are
-    one_takes (set_block target filters body) listed are = all_take body listed are
-    one_takes (auto_escape e body) listed are = all_take body listed are
-    one_takes (filter_block filters body) listed are = all_take body listed are
-    one_takes (block name required body) listed are = ((listed, are), all_take body listed are)
-    one_takes _ listed are = tt
+  abbrev TakesOne : Statement → Type 0
+  TakesOne st = Listed (λ name. is_used_by_rounds_of name st) × Listed (λ name. is_imported_by name st) × ImportsNamesAt st
 
-    all_take : (ss : Statements) → Listed (λ name. is_imported name ss) → ImportsNames ss → AllTake (blocks_in ss)
-    all_take no_statements listed are = tt
-    all_take (statements_more st ss) listed are =
-        both_take (blocks_by st) (blocks_in ss) (one_takes st (listed_left (λ name. is_imported_by name st) (λ name. is_imported name ss) listed) are.0)
-        (all_take ss (listed_right (λ name. is_imported_by name st) (λ name. is_imported name ss) listed) are.1)
+  mutual
+    one_takes : (st : Statement) → TakesOne st → AllTake (blocks_by st)
+    one_takes (for_loop target e condition recursive body otherwise) takes =
+        let own : List ℕ → Bool = λ name. recursive && used_of_rounds name target (is_used_in name body) in
+        let within : List ℕ → Bool = λ name. is_used_by_rounds name body in
+        let later : List ℕ → Bool = λ name. is_used_by_rounds name otherwise in
+        let most = listed_left (λ name. own name || within name) later takes.0 in
+        both_take (blocks_in body) (blocks_in otherwise)
+        (all_take body (listed_right own within most, listed_left (λ name. is_imported name body) (λ name. is_imported name otherwise) takes.1, takes.2.0))
+        (all_take otherwise (listed_right (λ name. own name || within name) later takes.0, listed_right (λ name. is_imported name body) (λ name. is_imported name otherwise) takes.1, takes.2.1))
+    one_takes (if_condition e body otherwise) takes =
+        both_take (blocks_in body) (blocks_in otherwise)
+        (all_take body (listed_left (λ name. is_used_by_rounds name body) (λ name. is_used_by_rounds name otherwise) takes.0, listed_left (λ name. is_imported name body) (λ name. is_imported name otherwise) takes.1, takes.2.0))
+        (all_take otherwise (listed_right (λ name. is_used_by_rounds name body) (λ name. is_used_by_rounds name otherwise) takes.0, listed_right (λ name. is_imported name body) (λ name. is_imported name otherwise) takes.1, takes.2.1))
+    one_takes (with_block _ body) takes = all_take body takes
+    one_takes (set_block target filters body) takes = all_take body takes
+    one_takes (auto_escape e body) takes = all_take body takes
+    one_takes (filter_block filters body) takes = all_take body takes
+    one_takes (block name required body) takes = (takes, all_take body takes)
+    one_takes _ takes = tt
+
+    all_take : (ss : Statements) → Takes ss → AllTake (blocks_in ss)
+    all_take no_statements takes = tt
+    all_take (statements_more st ss) takes =
+        both_take (blocks_by st) (blocks_in ss)
+        (one_takes st (listed_left (λ name. is_used_by_rounds_of name st) (λ name. is_used_by_rounds name ss) takes.0, listed_left (λ name. is_imported_by name st) (λ name. is_imported name ss) takes.1, takes.2.0))
+        (all_take ss (listed_right (λ name. is_used_by_rounds_of name st) (λ name. is_used_by_rounds name ss) takes.0, listed_right (λ name. is_imported_by name st) (λ name. is_imported name ss) takes.1, takes.2.1))
 
   abbrev body_in : Option Block → Option Statements
   body_in o = option_map (λ (b : Block). b.body) o
@@ -106,7 +122,7 @@ module _ (names : List ℕ → Type 0) (given : (name : List ℕ) → IsTrue (is
   first_alone b o alone later false t e = later t e
 
   body_alone_by : (b : Block) → Listed (λ name. is_used name b.body) → Takes b.body → Alone b.body
-  body_alone_by b listed takes = record { used = used_in b.body listed; imported = takes.0; are = takes.1 }
+  body_alone_by b listed takes = record { used = used_in b.body listed; again = takes.0; imported = takes.1; are = takes.2 }
 
   among_alone : (id : List ℕ) (blocks : List Block) → Listed (λ name. is_used_by_block name blocks) → AllTake blocks → IsBodyAlone (block_among id blocks)
   among_alone id [] listed takes t e = absurd (cc)
@@ -119,23 +135,39 @@ module _ (names : List ℕ → Type 0) (given : (name : List ℕ) → IsTrue (is
   Needs tree = Listed (λ name. is_needed name tree) × ImportsNames tree
 
   module _ (tree : Statements) (needs : Needs tree) where
-    of_parts : Listed (λ name. is_used name tree || is_used_by_block name (blocks_in tree))
-    of_parts = listed_left (λ name. is_used name tree || is_used_by_block name (blocks_in tree)) (λ name. is_imported name tree) needs.0
+    abbrev by_itself : List ℕ → Bool
+    by_itself name = is_used name tree || is_used_by_block name (blocks_in tree)
 
-    of_imports : Listed (λ name. is_imported name tree)
-    of_imports = listed_right (λ name. is_used name tree || is_used_by_block name (blocks_in tree)) (λ name. is_imported name tree) needs.0
+    abbrev of_loops : List ℕ → Bool
+    of_loops name = not (is_stored_everywhere name) && is_used_by_rounds name tree
+
+    abbrev by_rounds : List ℕ → Bool
+    by_rounds name = by_itself name || of_loops name
+
+    of_rounds : Listed by_rounds
+    of_rounds = listed_left by_rounds (λ name. is_imported name tree) needs.0
+
+    of_parts : Listed by_itself
+    of_parts = listed_left by_itself of_loops of_rounds
+
+    in_rounds : Listed (λ name. is_used_by_rounds name tree)
+    in_rounds name used = shown name (is_stored_everywhere name) (is_used_by_rounds name tree) (is_everywhere name) (listed_right by_itself of_loops of_rounds name) used
+
+    takes : Takes tree
+    takes = (in_rounds, listed_right by_rounds (λ name. is_imported name tree) needs.0, needs.1)
 
     whole_alone : Alone tree
     whole_alone = record {
       used = used_in tree (listed_left (λ name. is_used name tree) (λ name. is_used_by_block name (blocks_in tree)) of_parts);
-      imported = of_imports;
-      are = needs.1;
+      again = takes.0;
+      imported = takes.1;
+      are = takes.2;
     }
 
     block_alone : (id : List ℕ) (t : Statements) → body_in (block_named id tree) ≡ Some t → Alone t
     block_alone id t e =
         among_alone id (blocks_in tree) (listed_right (λ name. is_used name tree) (λ name. is_used_by_block name (blocks_in tree)) of_parts)
-        (all_take tree of_imports needs.1) t e
+        (all_take tree takes) t e
 
   module _ (setting : Setting) (ask : AskNoNames setting.callables) (root : Standing) (first : Needs root.tree)
       (all : (name : List ℕ) (t : Standing) → setting.templates name ≡ Some t → Needs t.tree) where
@@ -153,40 +185,105 @@ module _ (names : List ℕ → Type 0) (given : (name : List ℕ) → IsTrue (is
     body_alone home id None e t is = absurd (cc)
     body_alone home id (Some x) e t is = block_alone x.tree (home_needs home x e) id t is
 
-    part_alone : (stream : Stream) (part : Part) (t : Statements) → tree_in setting (Some root) stream part ≡ Some t → Alone t
-    part_alone (own home) whole t e = own_alone home (template_at setting (Some root) home) refl t e
-    part_alone (block_of home id) whole t e = body_alone home id (template_at setting (Some root) home) refl t e
-    part_alone (own home) (body_of number operands) t e = absurd (cc)
-    part_alone (own home) (rounds_of number) t e = absurd (cc)
-    part_alone (block_of home id) (body_of number operands) t e = absurd (cc)
-    part_alone (block_of home id) (rounds_of number) t e = absurd (cc)
+    stream_alone : (stream : Stream) (t : Statements) → tree_of setting (Some root) stream ≡ Some t → Alone t
+    stream_alone (own home) t e = own_alone home (template_at setting (Some root) home) refl t e
+    stream_alone (block_of home id) t e = body_alone home id (template_at setting (Some root) home) refl t e
 
     abbrev s : Programs
     s = walks_of setting (Some root)
 
-    runner_so : (n : ℕ) (f : Process → World → Run World) (o : Option Statements) → ((t : Statements) → o ≡ Some t → RunsSo names d (Some (f (template_walk n t))))
-        → RunsSo names d (option_map f (option_map (template_walk n) o))
-    runner_so n f None so = tt
-    runner_so n f (Some t) so = so t refl
+    -- what the macro of a number in a stream uses
+    abbrev used_by_macro : Option Statements → ℕ → Among
+    used_by_macro o number = used_of (option_and_then (macro_numbered number) o)
+
+    abbrev uses : Stream → ℕ → Among
+    uses stream = used_by_macro (tree_of setting (Some root) stream)
+
+    -- what a part of a stream keeps to
+    abbrev Kept : Stream → Part → (ℕ → Among) → Process → Type 0
+    Kept stream whole among p = (k : Known) → Within names among k k unmade p
+    Kept stream (body_of number vs) among p = Within names among (base (among number)) (base (among number)) unmade p
+    Kept stream (rounds_of number) among p = (k : Known) → Within names among (inner true nothing k) (inner true nothing k) unmade p
+
+    macro_kept : (stream : Stream) (t : Statements) → Alone t → (n number : ℕ) (vs : List Val) (o : Option MacroBody) → macro_numbered number t ≡ o → (p : Process)
+        → option_and_then (body_walk n vs) o ≡ Some p → Kept stream (body_of number vs) (used_by_macro (Some t)) p
+    macro_kept stream t alone n number vs None found p e = absurd (cc)
+    macro_kept stream t alone n number vs (Some m) found p e = given_all (number_of m.arguments == length vs) refl e
+      where
+        given_all : (b : Bool) → (number_of m.arguments == length vs) ≡ b → (if b then Some (macro_walk n m vs) else None) ≡ Some p → Kept stream (body_of number vs) (used_by_macro (Some t)) p
+        given_all true many is =
+            let same : macro_walk n m vs ≡ p = cc in
+            subst (Kept stream (body_of number vs) (used_by_macro (Some t))) same
+            (macro_within names is_loop t alone.imported alone.are is_everywhere is_caller n number m found vs many)
+        given_all false many is = absurd (cc)
+
+    rounds_kept : (stream : Stream) (t : Statements) → Alone t → (n number : ℕ) (o : Option LoopRounds) → rounds_numbered number t ≡ o → (p : Process)
+        → option_map (rounds_walk n) o ≡ Some p → Kept stream (rounds_of number) (used_by_macro (Some t)) p
+    rounds_kept stream t alone n number None found p e = absurd (cc)
+    rounds_kept stream t alone n number (Some r) found p e =
+        let same : rounds_walk n r ≡ p = cc in
+        subst (Kept stream (rounds_of number) (used_by_macro (Some t))) same (rounds_within names is_loop t alone.imported alone.are alone.again n number r found)
+
+    part_kept : (n : ℕ) (stream : Stream) (part : Part) (t : Statements) → Alone t → (p : Process) → part_walk n part t ≡ Some p → Kept stream part (used_by_macro (Some t)) p
+    part_kept n stream whole t alone p e =
+        let same : template_walk n t ≡ p = cc in
+        subst (Kept stream whole (used_by_macro (Some t))) same (λ k. template_within names is_loop t alone.imported alone.are n alone.used k)
+    part_kept n stream (body_of number vs) t alone p e = macro_kept stream t alone n number vs (macro_numbered number t) refl p e
+    part_kept n stream (rounds_of number) t alone p e = rounds_kept stream t alone n number (rounds_numbered number t) refl p e
+
+    tree_kept : (n : ℕ) (stream : Stream) (part : Part) (o : Option Statements) → tree_of setting (Some root) stream ≡ o → (p : Process) → option_and_then (part_walk n part) o ≡ Some p
+        → Kept stream part (used_by_macro o) p
+    tree_kept n stream part None e p is = absurd (cc)
+    tree_kept n stream part (Some t) e p is = part_kept n stream part t (stream_alone stream t e) p is
+
+    -- from where a key begins on
+    begins_kept : (stream : Stream) (part : Part) (p : Process) → Kept stream part (uses stream) p → (k : Known)
+        → Within names (uses stream) (from_key names uses d (record { stream = stream; part = part }) k) (from_key names uses d (record { stream = stream; part = part }) k) unmade p
+    begins_kept stream whole p kept k = kept k
+    begins_kept stream (body_of number vs) p kept k = kept
+    begins_kept stream (rounds_of number) p kept k = kept k
+
+    abbrev SoAt : Key → (Process → World → Run World) → Option Process → Type 0
+    SoAt key f o = RunsSo names uses d key (option_map f o)
+
+    found_so : (key : Key) (f : Process → World → Run World) (o : Option Process) → ((p : Process) → o ≡ Some p → RunsSo names uses d key (Some (f p))) → SoAt key f o
+    found_so key f None so = tt
+    found_so key f (Some p) so = so p refl
+
+    -- a part's end is followed by a template that it extends, which only a whole stream does
+    follows_so : (n : ℕ) → ((key : Key) → RunsSo names uses d key (runners s n key)) → (key : Key) (since : List Bindings) (under : List Frame) (k : Known) (r q : Run World)
+        → Runs names uses d since under (from_key names uses d key k) r q → Runs names uses d since under (from_key names uses d key k) (followed (runners s n) key.part r) (followed (runners s n) key.part q)
+    follows_so n so key since under k r q runs = followed_so names uses d (runners s n) so since under (from_key names uses d key k) key.part r q runs
 
     -- the keys, under each bound
-    runners_so : (n : ℕ) (key : Key) → RunsSo names d (runners s n key)
-    runners_so zero key = runner_so 0 (λ p w. ended breaks w) (tree_at setting (Some root) key) (λ t e k w fits. record { same = refl; fits = λ h. absurd h })
+    runners_so : (n : ℕ) (key : Key) → RunsSo names uses d key (runners s n key)
+    runners_so zero key = found_so key (λ p w. ended breaks w) (s.process 0 key) (λ p e since under k w fits. record { same = refl; fits = λ h. absurd h })
     runners_so (suc n) key =
-        runner_so n (λ p w. followed (runners s n) key.part (run (respond s.around (runners s n)) p w)) (tree_at setting (Some root) key)
-        (λ t e k w fits.
-        let alone : Alone t = part_alone key.stream key.part t e in
-        followed_so names d (runners s n) (runners_so n) k key.part (run (respond s.around (runners s n)) (template_walk n t) w)
-        (run (respond s.around (runners s n)) (template_walk n t) (over_context d w))
-        (runs_so names d s.around ask (runners s n) (runners_so n) k (template_walk n t) k w fits (template_within names is_loop n t alone.imported alone.are alone.used k)))
+        found_so key (λ p w. followed (runners s n) key.part (run (respond s.around (runners s n)) p w)) (s.process n key)
+        (λ p e since under k w fits.
+        follows_so n (runners_so n) key since under k (run (respond s.around (runners s n)) p w) (run (respond s.around (runners s n)) p (over_context d w))
+        (runs_so names uses d (begun_at key.stream since under) s.around ask (runners s n) (runners_so n) (from_key names uses d key k) p (from_key names uses d key k) unmade w fits tt
+        (begins_kept key.stream key.part p (tree_kept n key.stream key.part (tree_of setting (Some root) key.stream) refl p e) k)))
 
-    ran_so : (k : Known) (o : Option (World → Run World)) → RunsSo names d o → (w : World) → Fits names d k w.frames → Runs names d k (ran o w) (ran o (over_context d w))
-    ran_so k None so w fits = record { same = refl; fits = λ t. absurd t }
-    ran_so k (Some r) so w fits = so k w fits
+    -- a render begins with its context alone
+    first_fits : (id : ℕ) (c : Val) → ((name : List ℕ) → names name → AgreesAt d c name)
+        → Fits names uses d (begun_at (own keys.rendered) [] []) (base nothing) (first_world id setting.globals (head_of root) c)
+    first_fits id c agrees = record {
+      framed = (λ name i. absurd (cc), refl, agrees);
+      count = refl;
+      held = tt;
+      grown = grown_itself [];
+      there = refl;
+    }
+
+    top_so : (o : Option (World → Run World)) → RunsSo names uses d top o → (w : World) → Fits names uses d (begun_at (own keys.rendered) [] []) (base nothing) w
+        → Runs names uses d [] [] (base nothing) (ran o w) (ran o (over_context d w))
+    top_so None so w fits = record { same = refl; fits = λ t. absurd t }
+    top_so (Some r) so w fits = so [] [] (base nothing) w fits
 
     same_render : (id : ℕ) (c : Val) → ((name : List ℕ) → names name → AgreesAt d c name) → (n : ℕ) → IsSameRun (rendered setting id n root c) (rendered setting id n root d)
     same_render id c agrees n =
-        let at = ran_so (base []) (runners s (suc n) top) (runners_so (suc n) top) (first_world id setting.globals (head_of root) c) (λ name i. absurd i, agrees) in
+        let at = top_so (runners s (suc n) top) (runners_so (suc n) top) (first_world id setting.globals (head_of root) c) (first_fits id c agrees) in
         (sym (ap (λ (r : Run World). r.items) at.same), sym (ap (λ (r : Run World). r.end) at.same))
 
 -- where a user brought nothing, nothing asks

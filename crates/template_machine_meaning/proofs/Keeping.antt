@@ -1,6 +1,6 @@
 -- What walks keep of the world: the loops of its frames, what else counts as depth and what may not be closed, how many escapes
 -- are put back, and how many captures are open, but for the one that drops what is written once a template is extended.
-use Rattle.std.proofs.Common.{◌≡◌, ℕ, suc, ◌+◌, ◌<◌, ◌≤◌, Bool, true, false, ◌||◌, List, [], ◌∷◌, ◌++◌, length, Option, None, Some, refl, sym, ap, subst, ◌∙◌, append_assoc, arith}
+use Rattle.std.proofs.Common.{◌≡◌, ℕ, suc, ◌+◌, ◌<◌, ◌≤◌, ◌⊎◌, inl, inr, Bool, true, false, ◌||◌, List, [], ◌∷◌, ◌++◌, length, Option, None, Some, refl, sym, ap, subst, ◌∙◌, append_assoc, arith}
 use Rattle.std.specs.Prelude.{nat_lt, if◌then◌else◌}
 use Rattle.std.specs.Str.{bytes_eq}
 use Rattle.std.proofs.lemmas.Bool.{lt-ltb}
@@ -11,7 +11,7 @@ use Rattle.template_process.specs.Trace.{Reply}
 use Rattle.template_machine_meaning.specs.World.{Loop, Frame, Capture, World, depth_of}
 use Rattle.template_machine_meaning.specs.Replies.{told}
 use Rattle.template_machine_meaning.specs.Blocks.{is_among}
-use Rattle.template_machine_meaning.specs.Surroundings.{on_frames, on_own, on_loop}
+use Rattle.template_machine_meaning.specs.Surroundings.{on_frames, on_own, is_own, on_loop}
 pub use Rattle.template_machine_meaning.specs.Records.{loops_of}
 
 -- whether a template is extended
@@ -171,17 +171,31 @@ on_own_is w f fs e floored reply =
     let less : w.floor < length w.frames = omega (arith, many, floored) in
     ap (λ (b : Bool). if b then on_frames w reply else told w breaks_off) (is_lower w.floor (length w.frames) less) ∙ on_frames_is w f fs e reply
 
-loop_is : (w : World) (f : Frame) (fs : List Frame) (l : Loop) → f.loop ≡ Some l → (reply : Frame → Loop → List Frame → Reply World)
-    → (elim f.loop [ None ↦ told w breaks_off | Some k ↦ reply f k fs ]) ≡ reply f l fs
-loop_is w f fs l e reply =
-    let P : Option Loop → Type 0 = λ o. (elim o [ None ↦ told w breaks_off | Some k ↦ reply f k fs ]) ≡ reply f l fs in
-    subst P (sym e) refl
+-- a loop's frame may be asked: it may be closed, or its rounds were called
+either_way : (b : Bool) → (b || true) ≡ true
+either_way true = refl
+either_way false = refl
+
+pub may_ask : (w : World) (l : Loop) (rest : List Frame) → length w.frames ≡ suc (length rest) → (l.called ≡ true) ⊎ (w.floor ≤ length rest) → is_own w l ≡ true
+may_ask w l rest many (inl called) = ap (λ b. b || nat_lt w.floor (length w.frames)) called
+may_ask w l rest many (inr floored) =
+    let less : w.floor < length w.frames = omega (arith, many, floored) in
+    ap (λ b. l.called || b) (is_lower w.floor (length w.frames) less) ∙ either_way l.called
+
+asked_is : (w : World) (l : Loop) (reply : Reply World) → is_own w l ≡ true → (if is_own w l then reply else told w breaks_off) ≡ reply
+asked_is w l reply own = ap (λ b. if b then reply else told w breaks_off) own
+
+loop_is : (w : World) (f : Frame) (fs : List Frame) (l : Loop) → f.loop ≡ Some l → (reply : Frame → Loop → List Frame → Reply World) → is_own w l ≡ true
+    → (elim f.loop [ None ↦ told w breaks_off | Some k ↦ if is_own w k then reply f k fs else told w breaks_off ]) ≡ reply f l fs
+loop_is w f fs l e reply own =
+    let P : Option Loop → Type 0 = λ o. (elim o [ None ↦ told w breaks_off | Some k ↦ if is_own w k then reply f k fs else told w breaks_off ]) ≡ reply f l fs in
+    subst P (sym e) (asked_is w l (reply f l fs) own)
 
 -- what asks for a loop's frame finds it
-pub on_loop_is : (w : World) (f : Frame) (fs : List Frame) (l : Loop) → w.frames ≡ f ∷ fs → w.floor ≤ length fs → f.loop ≡ Some l
+pub on_loop_is : (w : World) (f : Frame) (fs : List Frame) (l : Loop) → w.frames ≡ f ∷ fs → is_own w l ≡ true → f.loop ≡ Some l
     → (reply : Frame → Loop → List Frame → Reply World) → on_loop w reply ≡ reply f l fs
-on_loop_is w f fs l e floored own reply =
-    on_own_is w f fs e floored (λ g gs. elim g.loop [ None ↦ told w breaks_off | Some k ↦ reply g k gs ]) ∙ loop_is w f fs l own reply
+on_loop_is w f fs l e own is reply =
+    on_frames_is w f fs e (λ g gs. elim g.loop [ None ↦ told w breaks_off | Some k ↦ if is_own w k then reply g k gs else told w breaks_off ]) ∙ loop_is w f fs l is reply own
 
 -- a capture that was begun is still there
 abbrev pub capturing_in : World → Capture → World

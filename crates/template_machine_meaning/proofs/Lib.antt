@@ -5,6 +5,7 @@ pub mod Keeping
 pub mod Calling
 pub mod Entering
 pub mod Blocks
+pub mod Within
 pub mod Expressions
 pub mod Scopes
 pub mod Loops
@@ -12,6 +13,7 @@ pub mod Sifting
 pub mod Included
 pub mod Statements
 pub mod Bodied
+pub mod Numbered
 pub mod Ends
 pub mod Evaluating
 pub mod Fair

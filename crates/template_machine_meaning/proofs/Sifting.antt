@@ -1,6 +1,6 @@
 -- What a loop goes over settles. With a condition a loop of its own gathers it: there are as many rounds as it has items, at
 -- most.
-use Rattle.std.proofs.Common.{◌≡◌, ℕ, ◌+◌, ◌-◌, ◌≤◌, zero, suc, Bool, true, false, List, [], ◌∷◌, ◌++◌, length, slice_get, Option, None, Some, Result, Ok, Err, refl, ap, ◌∙◌, arith}
+use Rattle.std.proofs.Common.{◌≡◌, ℕ, ◌+◌, ◌-◌, ◌≤◌, inr, zero, suc, Bool, true, false, List, [], ◌∷◌, ◌++◌, length, slice_get, Option, None, Some, Result, Ok, Err, refl, ap, ◌∙◌, arith}
 use Rattle.std.proofs.lemmas.Option.{slice_get_within}
 use Rattle.template_values_errors.specs.declared.ErrorKind.{ErrorKind}
 use Rattle.template_values_model.specs.Val.{Val}
@@ -12,18 +12,18 @@ use Rattle.template_process.specs.Trace.{paid, run, behind, replied}
 use Rattle.template_walk.specs.Expressions.{expression_walk}
 use Rattle.template_walk.specs.Statements.{target_walk, nameless_loop, kept_rounds, sifting, iterable_walk}
 use Rattle.template_walk.specs.Runnable.{IsRunnable, IsRunnableIfGiven, IsTarget}
-use Rattle.template_machine_meaning.specs.World.{Loop, World, depth_of, has_room, loop_over}
+use Rattle.template_machine_meaning.specs.World.{Loop, World, depth_of, has_room, loop_over, counted_loop}
 use Rattle.template_machine_meaning.specs.Records.{known_of}
 use Rattle.template_machine_meaning.specs.Undefined.{forbids_iterating}
 use Rattle.template_machine_meaning.specs.Replies.{changed, guarded, changed_with, kinded}
-use Rattle.template_machine_meaning.specs.Surroundings.{Programs, next_reply, counted_loop, opened_loop, answer}
+use Rattle.template_machine_meaning.specs.Surroundings.{Programs, next_reply, opened_loop, answer}
 use Rattle.template_machine_meaning.proofs.Settling.{Walk, Settles, settles_then, settles_now, settles_step, settles_refused, settles_before}
-use Rattle.template_machine_meaning.proofs.Keeping.{Keeps, keeps_itself, keeps_on, loops_of, Top, top, IsFramed, framed_on, same_depth, behind_frame, framed_behind, may_close, on_loop_is}
+use Rattle.template_machine_meaning.proofs.Keeping.{Keeps, keeps_itself, keeps_on, loops_of, Top, top, IsFramed, framed_on, same_depth, behind_frame, framed_behind, on_loop_is}
 use Rattle.template_machine_meaning.proofs.Entering.{AllCome}
 use Rattle.template_machine_meaning.proofs.Blocks.{Kept}
 use Rattle.template_machine_meaning.proofs.Expressions.{settles_tested, given_by, settles_expression}
 use Rattle.template_machine_meaning.proofs.Scopes.{settles_target, settles_pushed}
-use Rattle.template_machine_meaning.proofs.Loops.{loop_at, frame_at, InRound, AtEnd, loop_closed}
+use Rattle.template_machine_meaning.proofs.Loops.{loop_at, frame_at, InRound, AtEnd, MayAsk, asks_own, loop_closed}
 
 -- a round over an item, before what follows where that is kept, and where it is not
 abbrev Sift : Type 0
@@ -42,7 +42,7 @@ three_stepped : {O : Type 0} (s : Programs) (w : World) (shape : O → World →
 three_stepped s w shape P p =
     settles_step s w shape (λ m go. step (step (P m go))) (settles_step s w shape (λ m go. step (P m go)) (settles_step s w shape P p))
 
-module _ (names : List (List ℕ)) (s : Programs) (base : World) (floored : base.floor ≤ length base.frames) (own : Loop) (sift : Sift) where
+module _ (names : List (List ℕ)) (s : Programs) (base : World) (own : Loop) (may : MayAsk base own) (sift : Sift) where
   -- each round settles, in the loop's frame
   abbrev Sifts : Type 0
   Sifts = (v : Val) (asked : ℕ) (w : World) → InRound names base own asked w → Settles {O = Bool} s w (Kept names (behind_frame base (frame_at own asked))) (λ m go. sift v (go true) (go false))
@@ -85,14 +85,14 @@ module _ (names : List (List ℕ)) (s : Programs) (base : World) (floored : base
   sifted_by d j asked few sifts kept w inside t None none =
       let z : World = record w { frames = record t.frame { loop = Some (loop_at own (asked + 1)) } ∷ t.rest } in
       last_sifted j (asked + 1) kept w z (record { loops = ap (λ ls. Some (loop_at own (asked + 1)) ∷ ls) t.others; outer = inside.outer; floor = inside.floor; saved = inside.saved; captures = inside.captures; meets = inside.meets; loads = inside.loads; added = inside.added })
-      (λ n. on_loop_is w t.frame t.rest (loop_at own asked) t.frames (may_close names base w (frame_at own asked) floored inside t) t.own (λ f k fs. next_reply w f k fs (slice_get k.items k.asked))
+      (λ n. on_loop_is w t.frame t.rest (loop_at own asked) t.frames (asks_own names base w own asked may inside t) t.own (λ f k fs. next_reply w f k fs (slice_get k.items k.asked))
       ∙ ap (next_reply w t.frame (loop_at own asked) t.rest) none)
   sifted_by zero j asked few sifts kept w inside t (Some v) some = absurd (omega (arith, slice_get_within own.items asked v some))
   sifted_by (suc d) j asked few sifts kept w inside t (Some v) some =
       let z : World = record w { frames = record t.frame { locals = []; loop = Some (loop_at own (asked + 1)) } ∷ t.rest } in
       next_sifted j (asked + 1) kept w z v (record { loops = ap (λ ls. Some (loop_at own (asked + 1)) ∷ ls) t.others; outer = inside.outer; floor = inside.floor; saved = inside.saved; captures = inside.captures; meets = inside.meets; loads = inside.loads; added = inside.added }) sifts
       (λ more u here. sifted_by d (suc j) (asked + 1) (omega arith) sifts more u here (top u (Some (loop_at own (asked + 1))) (loops_of base.frames) here.loops) (slice_get own.items (asked + 1)) refl)
-      (λ n. on_loop_is w t.frame t.rest (loop_at own asked) t.frames (may_close names base w (frame_at own asked) floored inside t) t.own (λ f k fs. next_reply w f k fs (slice_get k.items k.asked))
+      (λ n. on_loop_is w t.frame t.rest (loop_at own asked) t.frames (asks_own names base w own asked may inside t) t.own (λ f k fs. next_reply w f k fs (slice_get k.items k.asked))
       ∙ ap (next_reply w t.frame (loop_at own asked) t.rest) some)
 
   settles_kept : (d j asked : ℕ) → length own.items ≤ asked + d → Sifts → (kept : List Val) (w : World) → InRound names base own asked w → Gathers j kept w
@@ -117,27 +117,27 @@ module _ (names : List (List ℕ)) (s : Programs) (depth : ℕ) (deeper : AllCom
       (settles_expression names s depth deeper base deep condition runs x k)
       (λ c y l. settles_tested s y (Kept names base) c (λ m go. go true) (λ m go. go false) (settles_now s y (Kept names base) true l) (settles_now s y (Kept names base) false l)))
 
-  gathered : (base w : World) → w.floor ≤ length w.frames → depth ≤ depth_of w → Keeps names base w → (own : Loop)
+  gathered : (base w : World) → w.floor ≤ length w.frames → depth ≤ depth_of w → Keeps names base w → (own : Loop) → own.called ≡ false
       → Settles {O = Val} s (behind_frame w (frame_at own 0)) (Kept names base) (λ m go. kept_rounds m (sifting target condition) [] (λ vs. listed vs m go))
-  gathered base w floored deep kept own =
+  gathered base w floored deep kept own called =
       let inside : World = behind_frame w (frame_at own 0) in
       settles_before s inside inside (Kept names base) [] 0 (λ m go. kept_rounds m (sifting target condition) [] (λ vs. listed vs m go)) (λ m go. kept_rounds (m - 0) (sifting target condition) [] (λ vs. listed vs m go))
       (λ n m le ge go. let less : m ≡ m - 0 = omega arith in ap (λ b. run (answer s n) (kept_rounds b (sifting target condition) [] (λ vs. listed vs m go)) inside) less)
       (settles_then s inside (AtEnd names w own) (Kept names base) (λ m go. kept_rounds (m - 0) (sifting target condition) [] go) listed
-      (settles_kept names s w floored own (sifting target condition) (length own.items) 0 0 (omega arith)
+      (settles_kept names s w own (inr floored) (sifting target condition) (length own.items) 0 0 (omega arith)
       (λ v asked y here. settles_sifting (behind_frame w (frame_at own asked)) (framed_behind w (frame_at own asked) floored)
       (let within : depth ≤ suc (length w.frames) + w.outer = omega (arith, deep) in within) v y here)
       [] inside (keeps_itself names inside))
-      (λ vs y at. loop_closed names s w y own at.0 floored at.1 (Kept names base) (λ m go. step (asks (build_list vs) (on_value go)))
+      (λ vs y at. loop_closed names s w y own at.0 called floored at.1 (Kept names base) (λ m go. step (asks (build_list vs) (on_value go)))
       (λ z k. given_by names s depth deeper base (let within : depth ≤ depth_of base = omega (arith, deep, same_depth names base w kept) in within) z (keeps_on names base w z kept k) (build_list vs) (kinded (list_made vs)) (λ n. refl))))
 
   sifted : (base w : World) → w.floor ≤ length w.frames → depth ≤ depth_of w → Keeps names base w → (v : Val) (r : Result (List Val) ErrorKind) → guarded (forbids_iterating s.around.undefined v) (kinded (iterated (known_of w) v)) ≡ r
       → Settles {O = Val} s w (Kept names base) (sifted_walk target condition [] v)
   sifted base w floored deep kept v (Ok vs) e =
-      let own : Loop = loop_over w false false vs in
+      let own : Loop = loop_over w false None vs in
       settles_pushed s w (counted_loop w) (Kept names base) (open_loop nameless_loop v) (frame_at own 0) (λ m go. kept_rounds m (sifting target condition) [] (λ us. listed us m go)) (has_room s.around.limit 1 w) refl
       (λ n. ap (λ r. changed_with w (λ after. done) (λ after. after) (opened_loop s.around.limit w nameless_loop r)) e)
-      (gathered base (counted_loop w) floored deep (record { loops = kept.loops; outer = kept.outer; floor = kept.floor; saved = kept.saved; captures = kept.captures; meets = kept.meets; loads = kept.loads; added = kept.added }) own)
+      (gathered base (counted_loop w) floored deep (record { loops = kept.loops; outer = kept.outer; floor = kept.floor; saved = kept.saved; captures = kept.captures; meets = kept.meets; loads = kept.loads; added = kept.added }) own refl)
   sifted base w floored deep kept v (Err kind) e =
       settles_refused s w (Kept names base) (open_loop nameless_loop v) kind (λ m go. on_done (kept_rounds m (sifting target condition) [] (λ us. listed us m go)))
       (λ n. ap (λ r. changed_with w (λ after. done) (λ after. after) (opened_loop s.around.limit w nameless_loop r)) e)

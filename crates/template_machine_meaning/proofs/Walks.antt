@@ -1,5 +1,5 @@
 -- A walk looks up used names, and what is known from a store in a frame that is still open.
-use Rattle.std.proofs.Common.{◌≡◌, ℕ, suc, inl, inr, Bool, true, false, List, [], ◌∷◌, ◌++◌, ◌==◌, length, Option, None, Some, codes, refl, ap, ◌∙◌, arith}
+use Rattle.std.proofs.Common.{◌≡◌, ◌⊎◌, ℕ, suc, ◌+◌, ◌<◌, ◌≤◌, inl, inr, Bool, true, false, List, [], ◌∷◌, ◌++◌, ◌==◌, nat_lt, length, Option, None, Some, codes, refl, sym, ap, subst, ◌∙◌, arith}
 use Rattle.std.specs.Prelude.{IsTrue, not, ◌&&◌, ◌||◌, if◌then◌else◌, zero}
 use Rattle.std.specs.Str.{bytes_eq}
 use Rattle.std.proofs.lemmas.Bool.{or_cases, or_left, or_right}
@@ -11,20 +11,25 @@ use Rattle.template_tree.specs.declared.operators.UnaryOpKind.{UnaryOpKind}
 use Rattle.template_tree.specs.declared.operators.UnaryOpKind.TheVariants.{Not, Neg}
 use Rattle.template_tree.specs.declared.operators.BinOpKind.{BinOpKind}
 use Rattle.template_tree.specs.declared.operators.BinOpKind.TheVariants.{ScAnd, ScOr}
-use Rattle.template_tree.specs.Tree.{Expression, Optional, Expressions, Links, Arguments, variable, constant, slice, unary, binary, chain, conditional, attribute, item, call, filtered, tested, list_literal, tuple_literal, map_literal, absent, given, no_expressions, expressions_more, no_links, links_more, no_arguments, arguments_more, positional, keyword, positional_spread, keyword_spread, Statement, Statements, Assignments, Imports, raw, print, for_loop, if_condition, with_block, set, set_block, auto_escape, filter_block, block, import, from_import, extends, include, continue_loop, break_loop, do_call, no_statements, statements_more, no_assignments, assignments_more, no_imports, imports_more}
+use Rattle.template_tree.specs.Tree.{Expression, Optional, Expressions, Links, Arguments, variable, constant, slice, unary, binary, chain, conditional, attribute, item, call, filtered, tested, list_literal, tuple_literal, map_literal, absent, given, no_expressions, expressions_more, no_links, links_more, no_arguments, arguments_more, positional, keyword, positional_spread, keyword_spread, Statement, Statements, Assignments, Imports, raw, print, for_loop, if_condition, with_block, set, set_block, auto_escape, filter_block, block, import, from_import, extends, include, continue_loop, break_loop, do_call, no_statements, statements_more, no_assignments, assignments_more, no_imports, imports_more, macro, call_block}
 use Rattle.template_tree.specs.Kinds.{is_self_name, is_empty}
 use Rattle.template_names.proofs.Plain.{in_attribute}
 use Rattle.template_names.specs.Names as imported
-use Rattle.template_names.specs.Names.{anywhere, place_in_argument, place_in_arguments, place_in_targets, stands_in, stands_if_given, stands_in_one, stands_in_links, is_stored_in, is_stored_in_one, is_used_by_target, is_used_from, is_stored_by, is_used_by, is_used_in}
+use Rattle.template_names.specs.Among.{Among, nothing}
+use Rattle.template_names.specs.Enclosed.{is_listed, enclosed_names, encloses}
+use Rattle.template_names.proofs.Enclosing.{encloses_used}
+use Rattle.template_names.specs.Names.{anywhere, reversed, place_in_argument, place_in_arguments, place_in_targets, place_of_arguments, place_of_macro, stands_in, stands_if_given, stands_in_one, stands_in_links, is_stored_in, is_stored_in_one, is_used_by_target, is_used_from, is_stored_by, is_stored_everywhere, is_used_by, is_used_in}
 use Rattle.template_process.specs.Process as events
-use Rattle.template_process.specs.Process.{call_function, call_method, call_value, apply_filter, perform_test, close_frame, Looping, plain_loop, open_loop, close_loop, close_escape, Answer, done, value, truth, items, no_item, Process, over, step, asks, amiss, on_done, on_value, on_truth, on_item, on_items, on_all}
+use Rattle.template_process.specs.Process.{Counts, no_counts, counted_together, call_function, call_method, call_value, apply_filter, perform_test, close_frame, Looping, open_loop, close_loop, close_escape, enclose, get_closure, build_macro, store, Making, Answer, done, value, truth, items, no_item, closure, Process, over, step, asks, amiss, cut_short, on_done, on_value, on_truth, on_item, on_items, on_all, on_closure}
 use Rattle.template_walk.specs.Constants.{constant_of}
 use Rattle.template_walk.specs.Expressions.{folded, unary_ask, binary_walk, Giving, Passing, alone, spreads, listed, stretches_walk, mapped, entries_stretches, has_spread, merged_if, keywords_walk, run_if, passed_walk, Callee, by_name, by_method, by_block, by_value, attribute_called, callee_of, called_walk, expression_walk, object_walk, positional_walks, keyword_walks, optional_walk, expressions_walk, walks_of, entries_walk, chain_walk, linked_walk, filter_walk, filters_walk}
-use Rattle.template_walk.specs.Statements.{Exits, outside, closing, capture_left, capturing, number_of, target_walk, targets_walk, assignments_walk, rounds, kept_rounds, sifting, iterable_walk, loop_end, Printed, prints_value, prints_block, prints_super, printed_of, printed_walk, imported_names, stored_as, imports_stored, apart, past, statement_walk, statements_walk, template_walk}
+use Rattle.template_walk.specs.Counting.{loop_counts, caller_counts, counts_by, counts_among, MacroBody, LoopRounds, below_or, within_caller, macro_by, macro_among, macro_numbered, rounds_or, rounds_by, rounds_among, rounds_numbered}
+use Rattle.template_walk.specs.Statements.{Exits, outside, closing, capture_left, capturing, number_of, target_walk, targets_walk, assignments_walk, rounds, looping_behind, kept_rounds, sifting, iterable_walk, loop_end, Printed, prints_value, prints_block, prints_super, prints_rounds, is_super_name, is_loop_name, printed_rounds, printed_by, printed_of, printed_walk, imported_names, stored_as, imports_stored, apart, past, making_of, enclosed_walk, making_walk, declared_walk, caller_name, statement_walk, statements_walk, template_walk, arguments_walk, macro_walk, rounds_walk}
 use Rattle.template_walk.specs.Imported.{is_name, is_one_of, is_imported_by, is_imported}
-use Rattle.template_machine_meaning.specs.Isolation.{IsName, AreNames, ImportsNamesAt, ImportsNames}
+use Rattle.template_machine_meaning.specs.Isolation.{used_of_rounds, is_used_by_rounds_of, is_used_by_rounds, IsName, AreNames, AreAllNames, ImportsNamesAt, ImportsNames}
 use Rattle.template_machine_meaning.proofs.Expressions.{itself, value_walk}
-use Rattle.template_machine_meaning.proofs.Known.{Known, base, inner, IsKnown, Grows, grows_itself, grows_on, known_on, stored, cleared, grows_stored, knows_stored, IsSafe, Within}
+use Rattle.template_machine_meaning.proofs.Known as makings
+use Rattle.template_machine_meaning.proofs.Known.{Known, base, inner, IsKnown, Grows, grows_itself, grows_on, known_on, with_name, stored, closed, cleared, opened, grows_stored, knows_stored, Made, unmade, enclosed_of, Leaves, IsSafe, Within}
 
 -- one of two, behind what holds
 left_of : (a b c : Bool) → IsTrue (a && b) → IsTrue (a && (b || c))
@@ -35,9 +40,49 @@ right_of : (a b c : Bool) → IsTrue (a && c) → IsTrue (a && (b || c))
 right_of true b c h = or_right b c h
 right_of false b c h = h
 
-module _ (names : List ℕ → Type 0) (start : Known) where
+-- what a macro uses of the scopes in which it is made
+abbrev pub used_of : Option MacroBody → Among
+used_of None = nothing
+used_of (Some m) = encloses m.arguments m.defaults m.body
+
+and_right : (a b : Bool) → IsTrue (a && b) → IsTrue b
+and_right true b h = h
+and_right false b h = absurd (cc)
+
+-- one of three, the first one last
+moved : (a b c : Bool) → IsTrue ((a || b) || c) → IsTrue (b || (a || c))
+moved a true c h = refl
+moved true false c h = refl
+moved false false c h = h
+
+-- the number is in the first part, or behind it
+below_first : {X : Type 0} (n mid : ℕ) (o p : Option X) → n < mid → below_or n mid o p ≡ o
+below_first n mid o p h = let is : nat_lt n mid ≡ true = grind (arith, nat_tests) in ap (λ (b : Bool). if b then o else p) is
+
+below_second : {X : Type 0} (n mid : ℕ) (o p : Option X) → mid ≤ n → below_or n mid o p ≡ p
+below_second n mid o p h = let is : nat_lt n mid ≡ false = grind (arith, nat_tests) in ap (λ (b : Bool). if b then o else p) is
+
+loop_macros : (recursive : Bool) → (loop_counts recursive).macros ≡ 0
+loop_macros true = refl
+loop_macros false = refl
+
+-- there are as many, from the last to the first
+many_reversed : (es behind : Expressions) → number_of (reversed es behind) ≡ number_of es + number_of behind
+many_reversed no_expressions behind = let none_before : number_of behind ≡ 0 + number_of behind = omega arith in none_before
+many_reversed (expressions_more e es) behind =
+    let rest : number_of (reversed es (expressions_more e behind)) ≡ number_of es + suc (number_of behind) = many_reversed es (expressions_more e behind) in
+    omega (arith, rest)
+
+names_reversed : (es behind : Expressions) → AreAllNames es → AreAllNames behind → AreAllNames (reversed es behind)
+names_reversed no_expressions behind are later = later
+names_reversed (expressions_more e es) behind are later = names_reversed es (expressions_more e behind) are.1 (are.0, later)
+
+module _ (names : List ℕ → Type 0) (body_of : ℕ → Option MacroBody) (start : Known) where
+  abbrev uses : ℕ → Among
+  uses number = used_of (body_of number)
+
   abbrev In : Known → Process → Type 0
-  In = Within names start
+  In k p = Within names uses start k unmade p
 
   -- each of the names is safe
   abbrev Sees : Known → (List ℕ → Bool) → Type 0
@@ -325,6 +370,36 @@ module _ (names : List ℕ → Type 0) (start : Known) where
         (λ w. in_filter name args w (sees_right k (λ id. stands_in id e) (λ id. place_in_arguments (anywhere id) args) sees) go h)
     in_filters _ sees v go h = tt
 
+    -- the call of a call block: what its body is made is one keyword more
+    each_behind : (named : List (Passing (List ℕ × Giving) Giving)) (id : List ℕ) (walk : Giving) → EachPassed value_walk named → Keeps walk
+        → EachPassed value_walk (named ++ alone (id, walk) ∷ [])
+    each_behind [] id walk each keeps = alone_more keeps none_passed
+    each_behind (alone n ∷ named) id walk (alone_more f each) keeps = alone_more f (each_behind named id walk each keeps)
+    each_behind (spreads one ∷ named) id walk (spread_more f each) keeps = spread_more f (each_behind named id walk each keeps)
+
+    -- a block is called without it
+    abbrev KeepsCaller : Callee → Giving → Type 0
+    KeepsCaller (by_block name) caller = Unit {0}
+    KeepsCaller _ caller = Keeps caller
+
+    in_calling : (c : Callee) → MayCall c → (callee : Expression) (passed : Arguments) (caller : Giving) → Sees k (λ name. stands_in name callee)
+        → Sees k (λ name. place_in_arguments (anywhere name) passed) → KeepsCaller c caller
+        → Keeps (called_walk c (expression_walk callee) (object_walk callee)
+        (λ front. passed_walk front (positional_walks passed) (keyword_walks passed ++ alone (caller_name, caller) ∷ [])))
+    in_calling (by_block name) may callee passed caller in_callee in_args keeps go h = (tt, at_done k _ (tt, at_done k _ (tt, at_value k go h)))
+    in_calling (by_name name) may callee passed caller in_callee in_args keeps go h =
+        in_called (by_name name) may (expression_walk callee) (object_walk callee) (in_expression callee in_callee) (in_object callee in_callee)
+        (positional_walks passed) (in_positional passed in_args) (keyword_walks passed ++ alone (caller_name, caller) ∷ [])
+        (each_behind (keyword_walks passed) caller_name caller (in_keyword passed in_args) keeps) go h
+    in_calling (by_method name) may callee passed caller in_callee in_args keeps go h =
+        in_called (by_method name) may (expression_walk callee) (object_walk callee) (in_expression callee in_callee) (in_object callee in_callee)
+        (positional_walks passed) (in_positional passed in_args) (keyword_walks passed ++ alone (caller_name, caller) ∷ [])
+        (each_behind (keyword_walks passed) caller_name caller (in_keyword passed in_args) keeps) go h
+    in_calling by_value may callee passed caller in_callee in_args keeps go h =
+        in_called by_value may (expression_walk callee) (object_walk callee) (in_expression callee in_callee) (in_object callee in_callee)
+        (positional_walks passed) (in_positional passed in_args) (keyword_walks passed ++ alone (caller_name, caller) ∷ [])
+        (each_behind (keyword_walks passed) caller_name caller (in_keyword passed in_args) keeps) go h
+
   -- what stays within, whatever more is known
   abbrev Stays : Known → Process → Type 0
   Stays k go = (l : Known) → Grows k l → In l go
@@ -352,7 +427,7 @@ module _ (names : List ℕ → Type 0) (start : Known) where
   sees_behind k l f g grows knows sees name used = unless k l name (f name) (g name) grows (λ e. inr (knows name e)) (sees name) used
 
   -- in another frame
-  sees_inner : (k : Known) (f : List ℕ → Bool) → Sees k f → Sees (inner [] k) f
+  sees_inner : (k : Known) (f : List ℕ → Bool) → Sees k f → Sees (opened k) f
   sees_inner k f sees name used = elim (sees name used) [ inl n ↦ inl n | inr n ↦ inr (inr n) ]
 
   mutual
@@ -436,16 +511,17 @@ module _ (names : List ℕ → Type 0) (start : Known) where
       (λ m wider. h m (grows_on k l m grows wider))))
 
   -- a frame that was opened is closed
-  in_close_frame : (k l : Known) (go : Process) → Grows (inner [] k) l → Stays k go → In l (asks close_frame (on_done go))
+  in_close_frame : (k l : Known) (go : Process) → Grows (opened k) l → Stays k go → In l (asks close_frame (on_done go))
   in_close_frame k (base ids) go grows h = absurd grows
-  in_close_frame k (inner ids l) go grows h = (tt, at_done l go (h l grows.1))
+  in_close_frame k (inner b ids l) go grows h = (tt, at_done l go (h l grows.2))
 
-  in_close_loop : (k l : Known) (go : Process) → Grows (inner [] k) l → Stays k go → In l (asks close_loop (on_done go))
+  in_close_loop : (k l : Known) (go : Process) → Grows (opened k) l → Stays k go → In l (asks close_loop (on_done go))
   in_close_loop k (base ids) go grows h = absurd grows
-  in_close_loop k (inner ids l) go grows h = (tt, at_done l go (h l grows.1))
+  in_close_loop k (inner true ids l) go grows h = let other : false ≡ true = grows.0 in absurd (cc)
+  in_close_loop k (inner false ids l) go grows h = ((tt, tt), at_done l go (h l grows.2))
 
-  in_open_loop : (k : Known) (how : Looping) (v : Val) (go : Process) → Stays (inner [] k) go → Stays k (asks (open_loop how v) (on_done go))
-  in_open_loop k how v go h l grows = (tt, at_done (inner [] l) go (h (inner [] l) (λ name i. i, grows)))
+  in_open_loop : (k : Known) (how : Looping) (v : Val) (go : Process) → Stays (opened k) go → Stays k (asks (open_loop how v) (on_done go))
+  in_open_loop k how v go h l grows = (tt, at_done (opened l) go (h (opened l) (refl, λ name i. i, grows)))
 
   -- the ways out
   abbrev Leads : Known → Exits → Type 0
@@ -454,9 +530,9 @@ module _ (names : List ℕ → Type 0) (start : Known) where
   leads_on : (k l : Known) (x : Exits) → Grows k l → Leads k x → Leads l x
   leads_on k l x grows h = (stays_on k l x.on_break grows h.0, stays_on k l x.on_continue grows h.1)
 
-  closing_frame : (k l : Known) (x : Exits) → Grows (inner [] k) l → Leads k x → Leads l (closing close_frame x)
+  closing_frame : (k l : Known) (x : Exits) → Grows (opened k) l → Leads k x → Leads l (closing close_frame x)
   closing_frame k l x grows h =
-      (λ m more. in_close_frame k m x.on_break (grows_on (inner [] k) l m grows more) h.0, λ m more. in_close_frame k m x.on_continue (grows_on (inner [] k) l m grows more) h.1)
+      (λ m more. in_close_frame k m x.on_break (grows_on (opened k) l m grows more) h.0, λ m more. in_close_frame k m x.on_continue (grows_on (opened k) l m grows more) h.1)
 
   in_close_escape : (k : Known) (go : Process) → Stays k go → Stays k (asks close_escape (on_done go))
   in_close_escape k go h l grows = (tt, at_done l go (h l grows))
@@ -470,35 +546,40 @@ module _ (names : List ℕ → Type 0) (start : Known) where
   capturing_body : (k : Known) (x : Exits) → Leads k x → Leads k (capturing x)
   capturing_body k x h = (in_capture_left k x.on_break h.0, in_capture_left k x.on_continue h.1)
 
+  -- a frame of rounds in front
+  abbrev rounds_frame : Bool → Known → Known
+  rounds_frame b k = inner b nothing k
+
   -- a round, where a loop's frame is open around what is known
-  abbrev Turns : Known → (Val → Exits → Process → Process) → Type 0
-  Turns k round = (l : Known) → Grows (inner [] k) l → (v : Val) (x : Exits) (again : Process) → Leads (inner [] k) x → Stays (inner [] k) again → In l (round v x again)
+  abbrev Turns : Bool → Known → (Val → Exits → Process → Process) → Type 0
+  Turns b k round = (l : Known) → Grows (rounds_frame b k) l → (v : Val) (x : Exits) (again : Process) → Leads (rounds_frame b k) x → Stays (rounds_frame b k) again → In l (round v x again)
 
-  grows_cleared : (k l : Known) → Grows (inner [] k) l → Grows (inner [] k) (cleared l)
-  grows_cleared k (base ids) grows = absurd grows
-  grows_cleared k (inner ids l) grows = (λ name i. i, grows.1)
+  grows_cleared : (b : Bool) (k l : Known) → Grows (rounds_frame b k) l → Grows (rounds_frame b k) (cleared l)
+  grows_cleared b k (base ids) grows = absurd grows
+  grows_cleared b k (inner c ids l) grows = (grows.0, λ name i. i, grows.2)
 
-  in_rounds : (n : ℕ) (k : Known) (round : Val → Exits → Process → Process) (finished : Process) → Turns k round → Stays (inner [] k) finished → Stays (inner [] k) (rounds n round finished)
-  in_rounds zero k round finished turns h l grows = tt
-  in_rounds (suc n) k round finished turns h l grows =
-      let again : Stays (inner [] k) (step (rounds n round finished)) = λ m more. in_rounds n k round finished turns h m more in
-      (tt, at_item (cleared l) _ finished (λ v. turns (cleared l) (grows_cleared k l grows) v _ _ (h, again) again) (h (cleared l) (grows_cleared k l grows)))
+  in_rounds : (n : ℕ) (b : Bool) (k : Known) (round : Val → Exits → Process → Process) (finished : Process) → Turns b k round → Stays (rounds_frame b k) finished
+      → Stays (rounds_frame b k) (rounds n round finished)
+  in_rounds zero b k round finished turns h l grows = tt
+  in_rounds (suc n) b k round finished turns h l grows =
+      let again : Stays (rounds_frame b k) (step (rounds n round finished)) = λ m more. in_rounds n b k round finished turns h m more in
+      (tt, at_item (cleared l) _ finished (λ v. turns (cleared l) (grows_cleared b k l grows) v _ _ (h, again) again) (h (cleared l) (grows_cleared b k l grows)))
 
   -- the rounds that gather what a condition keeps
   in_kept : (n : ℕ) (k : Known) (target condition : Expression) (kept : List Val) (finished : List Val → Process)
-      → Sees (inner [] k) (λ name. is_used_by_target name target) → Sees (inner [] k) (λ name. not (is_stored_in name target) && stands_in name condition)
-      → ((vs : List Val) → Stays (inner [] k) (finished vs)) → Stays (inner [] k) (kept_rounds n (sifting target condition) kept finished)
+      → Sees (opened k) (λ name. is_used_by_target name target) → Sees (opened k) (λ name. not (is_stored_in name target) && stands_in name condition)
+      → ((vs : List Val) → Stays (opened k) (finished vs)) → Stays (opened k) (kept_rounds n (sifting target condition) kept finished)
   in_kept zero k target condition kept finished holders sees h l grows = tt
   in_kept (suc n) k target condition kept finished holders sees h l grows =
-      let begun = grows_cleared k l grows in
+      let begun = grows_cleared false k l grows in
       let item : List ℕ → Bool = λ name. is_stored_in name target in
       let tests : List ℕ → Bool = λ name. stands_in name condition in (
         tt,
         at_item (cleared l) _ (finished kept)
-            (λ v. in_target target v (cleared l) _ (sees_on (inner [] k) (cleared l) (λ name. is_used_by_target name target) begun holders)
+            (λ v. in_target target v (cleared l) _ (sees_on (opened k) (cleared l) (λ name. is_used_by_target name target) begun holders)
             (λ m more knows.
-            let further = grows_on (inner [] k) (cleared l) m begun more in
-            in_expression m condition (sees_behind (cleared l) m item tests more knows (sees_on (inner [] k) (cleared l) (λ name. not (item name) && tests name) begun sees)) _
+            let further = grows_on (opened k) (cleared l) m begun more in
+            in_expression m condition (sees_behind (cleared l) m item tests more knows (sees_on (opened k) (cleared l) (λ name. not (item name) && tests name) begun sees)) _
             (λ c. (tt, at_truth m _ _ (in_kept n k target condition (kept ++ v ∷ []) finished holders sees h m further) (in_kept n k target condition kept finished holders sees h m further)))))
             (h kept (cleared l) begun),
       )
@@ -514,11 +595,11 @@ module _ (names : List ℕ → Type 0) (start : Known) where
         (λ none_yet. in_expression k e sees _
         (λ v. (
           tt,
-          at_done (inner [] k) _
+          at_done (opened k) _
               (in_kept n k target condition none_yet _ (sees_inner k (λ name. is_used_by_target name target) holders)
               (sees_inner k (λ name. not (is_stored_in name target) && stands_in name condition) tests)
               (λ vs l grows. in_close_loop k l _ grows (λ m more. (tt, at_value m _ (λ made. h made m more))))
-              (inner [] k) (grows_itself (inner [] k))),
+              (opened k) (grows_itself (opened k))),
         ))),
   )
 
@@ -529,7 +610,7 @@ module _ (names : List ℕ → Type 0) (start : Known) where
   part_right : (k : Known) (f g h : List ℕ → Bool) → Sees k (λ name. not (f name) && (g name || h name)) → Sees k (λ name. not (f name) && h name)
   part_right k f g h sees name used = sees name (right_of (not (f name)) (g name) (h name) used)
 
-  in_end : (otherwise : Statements) (k : Known) (p go : Process) → Stays k p → Stays k go → Stays (inner [] k) (loop_end otherwise p go)
+  in_end : (otherwise : Statements) (k : Known) (p go : Process) → Stays k p → Stays k go → Stays (opened k) (loop_end otherwise p go)
   in_end no_statements k p go h i l grows = in_close_loop k l go grows i
   in_end (statements_more _ _) k p go h i l grows =
       (tt, at_value l _ (λ flag. in_close_loop k l _ grows (λ m more. (tt, at_truth m p go (h m more) (i m more)))))
@@ -538,40 +619,236 @@ module _ (names : List ℕ → Type 0) (start : Known) where
   in_past no_statements k go h = h
   in_past (statements_more _ _) k go h = h
 
+  -- where macros are found by their numbers
+  abbrev Numbers : (ℕ → Option MacroBody) → ℕ → ℕ → Type 0
+  Numbers f from many = (n : ℕ) → from ≤ n → n < from + many → f n ≡ body_of n
+
+  numbers_left : (f g : ℕ → Option MacroBody) (from a b : ℕ) → Numbers (λ n. below_or n (from + a) (f n) (g n)) from (a + b) → Numbers f from a
+  numbers_left f g from a b h n low high =
+      let more : n < from + (a + b) = omega (arith, high) in
+      sym (below_first n (from + a) (f n) (g n) high) ∙ h n low more
+
+  numbers_right : (f g : ℕ → Option MacroBody) (from a b : ℕ) → Numbers (λ n. below_or n (from + a) (f n) (g n)) from (a + b) → Numbers g (from + a) b
+  numbers_right f g from a b h n low high =
+      let less : from ≤ n = omega (arith, low) in
+      let more : n < from + (a + b) = omega (arith, high) in
+      sym (below_second n (from + a) (f n) (g n) low) ∙ h n less more
+
+  -- behind a loop, which is no macro
+  numbers_in_loop : (f g : ℕ → Option MacroBody) (from z a b : ℕ) → z ≡ 0 → Numbers (λ n. below_or n ((from + z) + a) (f n) (g n)) from (z + (a + b)) → Numbers f (from + z) a
+  numbers_in_loop f g from z a b none h n low high =
+      let less : from ≤ n = omega (arith, low) in
+      let more : n < from + (z + (a + b)) = omega (arith, high) in
+      sym (below_first n ((from + z) + a) (f n) (g n) high) ∙ h n less more
+
+  numbers_past_loop : (f g : ℕ → Option MacroBody) (from z a b : ℕ) → z ≡ 0 → Numbers (λ n. below_or n ((from + z) + a) (f n) (g n)) from (z + (a + b)) → Numbers g ((from + z) + a) b
+  numbers_past_loop f g from z a b none h n low high =
+      let less : from ≤ n = omega (arith, low) in
+      let more : n < from + (z + (a + b)) = omega (arith, high) in
+      sym (below_second n ((from + z) + a) (f n) (g n) low) ∙ h n less more
+
+  -- a macro is behind those in its body
+  own_number : (f : ℕ → Option MacroBody) (from a : ℕ) (m : MacroBody) → Numbers (λ n. below_or n (from + a) (f n) (Some m)) from (a + 1) → body_of (from + a) ≡ Some m
+  own_number f from a m h =
+      let low : from ≤ from + a = omega arith in
+      let same : from + a ≤ from + a = omega arith in
+      let high : from + a < from + (a + 1) = omega arith in
+      sym (h (from + a) low high) ∙ below_second (from + a) (from + a) (f (from + a)) (Some m) same
+
+  -- each imported name is among the names, and is a name; and the macros are those that are found by their numbers
+  abbrev Takes : Counts → Statement → Type 0
+  Takes first st = ((name : List ℕ) → IsTrue (is_imported_by name st) → names name) × ImportsNamesAt st × Numbers (λ n. macro_by n first st) first.macros (counts_by st).macros
+
+  abbrev TakesAll : Counts → Statements → Type 0
+  TakesAll first ss = ((name : List ℕ) → IsTrue (is_imported name ss) → names name) × ImportsNames ss × Numbers (λ n. macro_among n first ss) first.macros (counts_among ss).macros
+
+  takes_left : (f g : List ℕ → Bool) → ((name : List ℕ) → IsTrue (f name || g name) → names name) → (name : List ℕ) → IsTrue (f name) → names name
+  takes_left f g takes name i = takes name (or_left (f name) (g name) i)
+
+  takes_right : (f g : List ℕ → Bool) → ((name : List ℕ) → IsTrue (f name || g name) → names name) → (name : List ℕ) → IsTrue (g name) → names name
+  takes_right f g takes name i = takes name (or_right (f name) (g name) i)
+
+  -- what stands in a statement takes as much
+  in_if : (first : Counts) (e : Expression) (body otherwise : Statements) → Takes first (if_condition e body otherwise) → TakesAll first body
+  in_if first e body otherwise takes = (
+    takes_left (λ name. is_imported name body) (λ name. is_imported name otherwise) takes.0,
+    takes.1.0,
+    numbers_left (λ n. macro_among n first body) (λ n. macro_among n (counted_together first (counts_among body)) otherwise) first.macros (counts_among body).macros (counts_among otherwise).macros takes.2,
+  )
+
+  in_else : (first : Counts) (e : Expression) (body otherwise : Statements) → Takes first (if_condition e body otherwise) → TakesAll (counted_together first (counts_among body)) otherwise
+  in_else first e body otherwise takes = (
+    takes_right (λ name. is_imported name body) (λ name. is_imported name otherwise) takes.0,
+    takes.1.1,
+    numbers_right (λ n. macro_among n first body) (λ n. macro_among n (counted_together first (counts_among body)) otherwise) first.macros (counts_among body).macros (counts_among otherwise).macros takes.2,
+  )
+
+  abbrev behind_loop : Counts → Bool → Counts
+  behind_loop first recursive = counted_together first (loop_counts recursive)
+
+  in_loop : (first : Counts) (target e : Expression) (condition : Optional) (recursive : Bool) (body otherwise : Statements) → Takes first (for_loop target e condition recursive body otherwise)
+      → TakesAll (behind_loop first recursive) body
+  in_loop first target e condition recursive body otherwise takes = (
+    takes_left (λ name. is_imported name body) (λ name. is_imported name otherwise) takes.0,
+    takes.1.0,
+    numbers_in_loop (λ n. macro_among n (behind_loop first recursive) body) (λ n. macro_among n (counted_together (behind_loop first recursive) (counts_among body)) otherwise)
+        first.macros (loop_counts recursive).macros (counts_among body).macros (counts_among otherwise).macros (loop_macros recursive) takes.2,
+  )
+
+  past_loop : (first : Counts) (target e : Expression) (condition : Optional) (recursive : Bool) (body otherwise : Statements) → Takes first (for_loop target e condition recursive body otherwise)
+      → TakesAll (counted_together (behind_loop first recursive) (counts_among body)) otherwise
+  past_loop first target e condition recursive body otherwise takes = (
+    takes_right (λ name. is_imported name body) (λ name. is_imported name otherwise) takes.0,
+    takes.1.1,
+    numbers_past_loop (λ n. macro_among n (behind_loop first recursive) body) (λ n. macro_among n (counted_together (behind_loop first recursive) (counts_among body)) otherwise)
+        first.macros (loop_counts recursive).macros (counts_among body).macros (counts_among otherwise).macros (loop_macros recursive) takes.2,
+  )
+
+  first_takes : (first : Counts) (s : Statement) (ss : Statements) → TakesAll first (statements_more s ss) → Takes first s
+  first_takes first s ss takes = (
+    takes_left (λ name. is_imported_by name s) (λ name. is_imported name ss) takes.0,
+    takes.1.0,
+    numbers_left (λ n. macro_by n first s) (λ n. macro_among n (counted_together first (counts_by s)) ss) first.macros (counts_by s).macros (counts_among ss).macros takes.2,
+  )
+
+  others_take : (first : Counts) (s : Statement) (ss : Statements) → TakesAll first (statements_more s ss) → TakesAll (counted_together first (counts_by s)) ss
+  others_take first s ss takes = (
+    takes_right (λ name. is_imported_by name s) (λ name. is_imported name ss) takes.0,
+    takes.1.1,
+    numbers_right (λ n. macro_by n first s) (λ n. macro_among n (counted_together first (counts_by s)) ss) first.macros (counts_by s).macros (counts_among ss).macros takes.2,
+  )
+
+  -- what a macro takes: its parameters are names
+  record MacroTakes (m : MacroBody) : Type 0 where
+    all : TakesAll m.first m.body
+    parameters : AreAllNames m.arguments
+
+  -- and the rounds of a loop, whose names are among the names
+  record RoundsTake (r : LoopRounds) : Type 0 where
+    all : TakesAll r.first r.body
+    used : (name : List ℕ) → IsTrue (used_of_rounds name r.target (is_used_in name r.body)) → names name
+
+  macro_inside : (first : Counts) (arguments defaults : Expressions) (body : Statements) → Numbers (λ n. below_or n (first.macros + (counts_among body).macros) (macro_among n first body)
+      (Some (record { arguments = arguments; defaults = defaults; body = body; first = first }))) first.macros ((counts_among body).macros + 1)
+      → Numbers (λ n. macro_among n first body) first.macros (counts_among body).macros
+  macro_inside first arguments defaults body h =
+      numbers_left (λ n. macro_among n first body) (λ n. Some (record { arguments = arguments; defaults = defaults; body = body; first = first })) first.macros (counts_among body).macros 1 h
+
+  -- behind the events that make a macro
+  done_in : (k : Known) (m : Made) (go : Process) → Within names uses start k m go → (a : Answer) → Within names uses start k m (on_done go a)
+  done_in k m go h done = h
+  done_in k m go h _ = tt
+
+  in_enclosed : (ids : List (List ℕ)) (k : Known) (m : Made) (go : Process) → ((id : List ℕ) → IsTrue (is_listed ids id) → IsSafe names k id)
+      → ((n : Made) → ((id : List ℕ) → IsTrue (is_listed ids id || enclosed_of m id) → IsTrue (enclosed_of n id)) → Within names uses start k n go)
+      → Within names uses start k m (enclosed_walk ids go)
+  in_enclosed [] k m go safe h = h m (λ id i. i)
+  in_enclosed (name ∷ ids) k m go safe h = (
+    safe name (or_left (bytes_eq name name) (is_listed ids name) ((bytes_eq-Decides name name).1 refl)),
+    done_in k (makings.enclosing (with_name name (enclosed_of m))) (enclosed_walk ids go)
+        (in_enclosed ids k (makings.enclosing (with_name name (enclosed_of m))) go (λ id i. safe id (or_right (bytes_eq name id) (is_listed ids id) i))
+        (λ n grown. h n (λ id i. grown id (moved (bytes_eq name id) (is_listed ids id) (enclosed_of m id) i)))),
+  )
+
+  at_closure : (k : Known) (m : Made) (making : Making) (go : Val → Process) → ((name : List ℕ) → IsTrue (uses making.number name) → IsTrue (enclosed_of m name)) → ((v : Val) → In k (go v))
+      → (a : Answer) → Within names uses start k (makings.made m get_closure a) (on_closure (λ c. asks (build_macro making c) (on_value go)) a)
+  at_closure k m making go has h (closure c) = ((refl, has), at_value k go h)
+  at_closure k m making go has h _ = tt
+
+  in_making : (k : Known) (making : Making) (ids : List (List ℕ)) (go : Val → Process) → ((id : List ℕ) → IsTrue (is_listed ids id) → IsSafe names k id)
+      → ((name : List ℕ) → IsTrue (uses making.number name) → IsTrue (is_listed ids name)) → ((v : Val) → In k (go v)) → In k (making_walk making ids go)
+  in_making k making ids go safe has h =
+      in_enclosed ids k unmade (step (asks get_closure (on_closure (λ c. asks (build_macro making c) (on_value go))))) safe
+      (λ n grown. (tt, at_closure k n making go (λ name i. grown name (or_left (is_listed ids name) false (has name i))) h))
+
+  in_declared : (first : Counts) (name : List ℕ) (arguments defaults : Expressions) (body : Statements) (k : Known)
+      → body_of (first.macros + (counts_among body).macros) ≡ Some (record { arguments = arguments; defaults = defaults; body = body; first = first })
+      → Sees k (λ id. place_of_macro (anywhere id) arguments defaults (is_used_in id body)) → (go : Val → Process) → ((v : Val) → In k (go v)) → In k (declared_walk first name arguments defaults body go)
+  in_declared first name arguments defaults body k found sees go h =
+      in_making k (making_of first name arguments defaults body) (enclosed_names arguments defaults body) go
+      (λ id i. sees id (and_right (not (is_stored_everywhere id)) (place_of_macro (anywhere id) arguments defaults (is_used_in id body)) (sym (encloses_used arguments defaults body id) ∙ i)))
+      (λ id i. encloses_used arguments defaults body id ∙ subst (λ (o : Option MacroBody). IsTrue (used_of o id)) found i) h
+
+  -- parameters are stored from the last to the first, each behind its default
+  in_parameters : (targets defaults : Expressions) (vs : List Val) (k : Known) (go : Process) (follows : List ℕ → Bool) → AreAllNames targets → length vs ≡ number_of targets
+      → Sees k (λ name. place_of_arguments (anywhere name) targets defaults (follows name)) → ((l : Known) → Grows k l → Sees l follows → In l go) → In k (arguments_walk targets defaults vs go)
+  in_parameters no_expressions defaults vs k go follows are many sees h = h k (grows_itself k) sees
+  in_parameters (expressions_more target targets) defaults [] k go follows are many sees h = absurd (omega (arith, many))
+  in_parameters (expressions_more target targets) no_expressions (v ∷ vs) k go follows are many sees h =
+      let rest : List ℕ → Bool = λ name. place_of_arguments (anywhere name) targets no_expressions (follows name) in
+      in_target target v k _ (sees_no_target k target are.0)
+      (λ l grows knows. in_parameters targets no_expressions vs l go follows are.1 (omega (arith, many)) (sees_behind k l (λ name. is_stored_in name target) rest grows knows sees)
+      (λ m wider. h m (grows_on k l m grows wider)))
+  in_parameters (expressions_more target targets) (expressions_more default defaults) (v ∷ vs) k go follows are many sees h =
+      let rest : List ℕ → Bool = λ name. place_of_arguments (anywhere name) targets defaults (follows name) in
+      let later : List ℕ → Bool = λ name. not (is_stored_in name target) && rest name in
+      let given_one = sees_left k (λ name. stands_in name default) later sees in
+      let behind = sees_right k (λ name. stands_in name default) later sees in
+      let goes : (u : Val) → In k (target_walk target u (arguments_walk targets defaults vs go)) = λ u.
+      in_target target u k _ (sees_no_target k target are.0)
+      (λ l grows knows. in_parameters targets defaults vs l go follows are.1 (omega (arith, many)) (sees_behind k l (λ name. is_stored_in name target) rest grows knows behind)
+      (λ m wider. h m (grows_on k l m grows wider))) in
+      (tt, at_truth k _ _ (in_expression k default given_one _ goes) (goes v))
+
   module _ (loop_is : (name : List ℕ) → IsTrue (bytes_eq name (codes "loop")) → names name) where
     -- in the body of a loop
     sees_body : (k : Known) (f : List ℕ → Bool) → Sees k (λ name. not (bytes_eq name (codes "loop")) && f name) → Sees k f
     sees_body k f sees name used = unless k k name (bytes_eq name (codes "loop")) (f name) (grows_itself k) (λ e. inl (loop_is name e)) (sees name) used
 
-    -- each imported name is among the names, and is a name
-    abbrev Takes : Statement → Type 0
-    Takes st = ((name : List ℕ) → IsTrue (is_imported_by name st) → names name) × ImportsNamesAt st
+    -- what is printed: a value, what a block writes by itself, or what the rounds of a loop write
+    abbrev PrintsSafe : Known → Printed → Type 0
+    PrintsSafe k (prints_rounds e) = Sees k (λ name. stands_in name e)
+    PrintsSafe k _ = Unit {0}
 
-    abbrev TakesAll : Statements → Type 0
-    TakesAll ss = ((name : List ℕ) → IsTrue (is_imported name ss) → names name) × ImportsNames ss
+    rounds_safe : (k : Known) (args : Arguments) → Sees k (λ name. place_in_arguments (anywhere name) args) → PrintsSafe k (printed_rounds args)
+    rounds_safe k (arguments_more (positional e) no_arguments) sees = sees_left k (λ name. stands_in name e) (λ name. false) sees
+    rounds_safe k _ sees = tt
 
-    takes_left : (f g : List ℕ → Bool) → ((name : List ℕ) → IsTrue (f name || g name) → names name) → (name : List ℕ) → IsTrue (f name) → names name
-    takes_left f g takes name i = takes name (or_left (f name) (g name) i)
+    chosen_safe : (k : Known) (b c : Bool) (args : Arguments) → Sees k (λ name. place_in_arguments (anywhere name) args)
+        → PrintsSafe k (if b then prints_super else if c then printed_rounds args else prints_value)
+    chosen_safe k true c args sees = tt
+    chosen_safe k false true args sees = rounds_safe k args sees
+    chosen_safe k false false args sees = tt
 
-    takes_right : (f g : List ℕ → Bool) → ((name : List ℕ) → IsTrue (f name || g name) → names name) → (name : List ℕ) → IsTrue (g name) → names name
-    takes_right f g takes name i = takes name (or_right (f name) (g name) i)
+    callee_safe : (k : Known) (callee : Callee) (args : Arguments) → Sees k (λ name. place_in_arguments (anywhere name) args) → PrintsSafe k (printed_by callee args)
+    callee_safe k (by_name name) args sees = chosen_safe k (is_super_name name && is_empty args) (is_loop_name name) args sees
+    callee_safe k (by_block name) args sees = tt
+    callee_safe k (by_method name) args sees = tt
+    callee_safe k by_value args sees = tt
 
-    -- what is printed: a value, or what a block writes by itself
-    in_printed : (p : Printed) (e : Expression) (k : Known) (go : Process) → Sees k (λ name. stands_in name e) → In k go → In k (printed_walk p (expression_walk e) go)
-    in_printed prints_value e k go sees h = in_expression k e sees _ (λ v. (tt, at_done k go h))
-    in_printed (prints_block name) e k go sees h = (tt, at_done k go h)
-    in_printed prints_super e k go sees h = (tt, at_done k go h)
+    printed_safe : (k : Known) (e : Expression) → Sees k (λ name. stands_in name e) → PrintsSafe k (printed_of e)
+    printed_safe k (call callee args) sees =
+        callee_safe k (callee_of callee args) args (sees_right k (λ name. stands_in name callee) (λ name. place_in_arguments (anywhere name) args) sees)
+    printed_safe k _ sees = tt
+
+    in_printed : (p : Printed) (e : Expression) (k : Known) (go : Process) → PrintsSafe k p → Sees k (λ name. stands_in name e) → In k go → In k (printed_walk p (expression_walk e) go)
+    in_printed prints_value e k go safe sees h = in_expression k e sees _ (λ v. (tt, at_done k go h))
+    in_printed (prints_block name) e k go safe sees h = (tt, at_done k go h)
+    in_printed prints_super e k go safe sees h = (tt, at_done k go h)
+    in_printed (prints_rounds rounds_over) e k go safe sees h = in_expression k rounds_over safe _ (λ v. (tt, at_done k go h))
 
     -- a template runs in a frame of its own
-    in_apart : (k : Known) (e : Expression) (go : Process) → Sees k (λ name. stands_in name e) → In (inner [] k) go → In k (apart e go)
+    in_apart : (k : Known) (e : Expression) (go : Process) → Sees k (λ name. stands_in name e) → In (opened k) go → In k (apart e go)
     in_apart k e go sees h =
-        (tt, at_done (inner [] k) _ (in_expression (inner [] k) e (sees_inner k (λ name. stands_in name e) sees) _ (λ v. (tt, at_done (inner [] k) go h))))
+        (tt, at_done (opened k) _ (in_expression (opened k) e (sees_inner k (λ name. stands_in name e) sees) _ (λ v. (tt, at_done (opened k) go h))))
+
+    keeps_caller : (k : Known) (c : Callee) (first : Counts) (arguments defaults : Expressions) (body : Statements)
+        → Numbers (λ n. within_caller c (below_or n (first.macros + (counts_among body).macros) (macro_among n first body)
+        (Some (record { arguments = arguments; defaults = defaults; body = body; first = first })))) first.macros (caller_counts c (counts_among body)).macros
+        → Sees k (λ id. place_of_macro (anywhere id) arguments defaults (is_used_in id body)) → KeepsCaller k c (declared_walk first caller_name arguments defaults body)
+    keeps_caller k (by_block name) first arguments defaults body numbered sees = tt
+    keeps_caller k (by_name name) first arguments defaults body numbered sees =
+        in_declared first caller_name arguments defaults body k (own_number (λ n. macro_among n first body) first.macros (counts_among body).macros _ numbered) sees
+    keeps_caller k (by_method name) first arguments defaults body numbered sees =
+        in_declared first caller_name arguments defaults body k (own_number (λ n. macro_among n first body) first.macros (counts_among body).macros _ numbered) sees
+    keeps_caller k by_value first arguments defaults body numbered sees =
+        in_declared first caller_name arguments defaults body k (own_number (λ n. macro_among n first body) first.macros (counts_among body).macros _ numbered) sees
 
     mutual
-      in_statement : (n : ℕ) (s : Statement) → Takes s → (k : Known) (x : Exits) (go : Process) → Sees k (λ name. is_used_by name s) → Leads k x → Goes k (λ name. is_stored_by name s) go → In k (statement_walk n s x go)
-      in_statement n (raw text) takes k x go sees leads h = (tt, at_done k go (nothing_stored k go h k (grows_itself k)))
-      in_statement n (print e) takes k x go sees leads h = in_printed (printed_of e) e k go sees (nothing_stored k go h k (grows_itself k))
-      in_statement n (for_loop target e condition false body otherwise) takes k x go sees leads h =
+      in_statement : (n : ℕ) (first : Counts) (s : Statement) → Takes first s → (k : Known) (x : Exits) (go : Process) → Sees k (λ name. is_used_by name s) → Leads k x → Goes k (λ name. is_stored_by name s) go → In k (statement_walk n first s x go)
+      in_statement n first (raw text) takes k x go sees leads h = (tt, at_done k go (nothing_stored k go h k (grows_itself k)))
+      in_statement n first (print e) takes k x go sees leads h = in_printed (printed_of e) e k go (printed_safe k e sees) sees (nothing_stored k go h k (grows_itself k))
+      in_statement n first (for_loop target e condition recursive body otherwise) takes k x go sees leads h =
           let after : Stays k go = nothing_stored k go h in
           let item : List ℕ → Bool = λ name. is_stored_in name target in
           let tests : List ℕ → Bool = λ name. stands_if_given name condition in
@@ -586,17 +863,17 @@ module _ (names : List ℕ → Type 0) (start : Known) where
           let sees_head = sees_left k head (λ name. not (item name) && within name) sees_most in
           let sees_holders = sees_right k (λ name. stands_in name e) holds sees_head in
           in_iterable n target e condition k _ (sees_left k (λ name. stands_in name e) holds sees_head) sees_holders (part_left k item tests inside sees_within)
-          (λ v. in_open_loop k plain_loop v _
-          (in_rounds n k _ _
-          (λ l grows v y again out back. in_target target v l _ (sees_on (inner [] k) l holds grows (sees_inner k holds sees_holders)) (λ m more knows.
-          in_statements n body (takes_left (λ name. is_imported name body) (λ name. is_imported name otherwise) takes.0, takes.1.0) m y again
-          (sees_body m (λ name. is_used_in name body) (sees_behind l m item inside more knows (sees_on (inner [] k) l (λ name. not (item name) && inside name) grows sees_round)))
-          (leads_on (inner [] k) m y (grows_on (inner [] k) l m grows more) out)
-          (stays_on (inner [] k) m again (grows_on (inner [] k) l m grows more) back)))
+          (λ v. in_open_loop k (looping_behind recursive first) v _
+          (in_rounds n false k _ _
+          (λ l grows v y again out back. in_target target v l _ (sees_on (opened k) l holds grows (sees_inner k holds sees_holders)) (λ m more knows.
+          in_statements n (behind_loop first recursive) body (in_loop first target e condition recursive body otherwise takes) m y again
+          (sees_body m (λ name. is_used_in name body) (sees_behind l m item inside more knows (sees_on (opened k) l (λ name. not (item name) && inside name) grows sees_round)))
+          (leads_on (opened k) m y (grows_on (opened k) l m grows more) out)
+          (stays_on (opened k) m again (grows_on (opened k) l m grows more) back)))
           (in_end otherwise k _ go
-          (λ l grows. in_statements n otherwise (takes_right (λ name. is_imported name body) (λ name. is_imported name otherwise) takes.0, takes.1.1) l x go (sees_on k l (λ name. is_used_in name otherwise) grows (sees_right k most (λ name. is_used_in name otherwise) sees)) (leads_on k l x grows leads) (stays_on k l go grows after))
+          (λ l grows. in_statements n (counted_together (behind_loop first recursive) (counts_among body)) otherwise (past_loop first target e condition recursive body otherwise takes) l x go (sees_on k l (λ name. is_used_in name otherwise) grows (sees_right k most (λ name. is_used_in name otherwise) sees)) (leads_on k l x grows leads) (stays_on k l go grows after))
           after)))
-      in_statement n (if_condition e body otherwise) takes k x go sees leads h =
+      in_statement n first (if_condition e body otherwise) takes k x go sees leads h =
           let after : Stays k go = nothing_stored k go h in
           let head : List ℕ → Bool = λ name. stands_in name e || is_used_in name body in
           let sees_head = sees_left k head (λ name. is_used_in name otherwise) sees in
@@ -604,31 +881,31 @@ module _ (names : List ℕ → Type 0) (start : Known) where
           (λ v. (
             tt,
             at_truth k _ _
-                (in_statements n body (takes_left (λ name. is_imported name body) (λ name. is_imported name otherwise) takes.0, takes.1.0) k x _ (sees_right k (λ name. stands_in name e) (λ name. is_used_in name body) sees_head) leads (in_past otherwise k go after))
-                (in_statements n otherwise (takes_right (λ name. is_imported name body) (λ name. is_imported name otherwise) takes.0, takes.1.1) k x go (sees_right k head (λ name. is_used_in name otherwise) sees) leads after),
+                (in_statements n first body (in_if first e body otherwise takes) k x _ (sees_right k (λ name. stands_in name e) (λ name. is_used_in name body) sees_head) leads (in_past otherwise k go after))
+                (in_statements n (counted_together first (counts_among body)) otherwise (in_else first e body otherwise takes) k x go (sees_right k head (λ name. is_used_in name otherwise) sees) leads after),
           ))
-      in_statement n (with_block assignments body) takes k x go sees leads h = (
+      in_statement n first (with_block assignments body) takes k x go sees leads h = (
         tt,
-        at_done (inner [] k) _
-            (in_assignments assignments (inner [] k) _ (λ name. is_used_in name body) (sees_inner k (λ name. is_used_from name assignments (is_used_in name body)) sees)
-            (λ l grows inside. in_statements n body takes l (closing close_frame x) _ inside (closing_frame k l x grows leads)
-            (λ m more. in_close_frame k m go (grows_on (inner [] k) l m grows more) (nothing_stored k go h)))),
+        at_done (opened k) _
+            (in_assignments assignments (opened k) _ (λ name. is_used_in name body) (sees_inner k (λ name. is_used_from name assignments (is_used_in name body)) sees)
+            (λ l grows inside. in_statements n first body takes l (closing close_frame x) _ inside (closing_frame k l x grows leads)
+            (λ m more. in_close_frame k m go (grows_on (opened k) l m grows more) (nothing_stored k go h)))),
       )
-      in_statement n (set target e) takes k x go sees leads h =
+      in_statement n first (set target e) takes k x go sees leads h =
           let value_of : List ℕ → Bool = λ name. stands_in name e in
           let holds : List ℕ → Bool = λ name. is_used_by_target name target in
           in_expression k e (sees_left k value_of holds sees) _ (λ v. in_target target v k go (sees_right k value_of holds sees) h)
-      in_statement n (set_block target absent body) takes k x go sees leads h =
+      in_statement n first (set_block target absent body) takes k x go sees leads h =
           let filters : List ℕ → Bool = λ name. stands_if_given name absent in
           let holds : List ℕ → Bool = λ name. is_used_by_target name target in
           let sees_body = sees_left k (λ name. is_used_in name body) filters (sees_left k (λ name. is_used_in name body || filters name) holds sees) in
           let sees_holders = sees_right k (λ name. is_used_in name body || filters name) holds sees in (
             tt,
             at_done k _
-                (in_statements n body takes k (capturing x) _ sees_body (capturing_body k x leads)
+                (in_statements n first body takes k (capturing x) _ sees_body (capturing_body k x leads)
                 (λ l grows. (tt, at_value l _ (λ text. in_target target text l go (sees_on k l holds grows sees_holders) (λ m more knows. h m (grows_on k l m grows more) knows))))),
           )
-      in_statement n (set_block target (given filters) body) takes k x go sees leads h =
+      in_statement n first (set_block target (given filters) body) takes k x go sees leads h =
           let passed : List ℕ → Bool = λ name. stands_in name filters in
           let holds : List ℕ → Bool = λ name. is_used_by_target name target in
           let sees_most = sees_left k (λ name. is_used_in name body || passed name) holds sees in
@@ -636,7 +913,7 @@ module _ (names : List ℕ → Type 0) (start : Known) where
           let sees_holders = sees_right k (λ name. is_used_in name body || passed name) holds sees in (
             tt,
             at_done k _
-                (in_statements n body takes k (capturing x) _ (sees_left k (λ name. is_used_in name body) passed sees_most) (capturing_body k x leads)
+                (in_statements n first body takes k (capturing x) _ (sees_left k (λ name. is_used_in name body) passed sees_most) (capturing_body k x leads)
                 (λ l grows. (
                   tt,
                   at_value l _
@@ -644,11 +921,11 @@ module _ (names : List ℕ → Type 0) (start : Known) where
                       (λ v. in_target target v l go (sees_on k l holds grows sees_holders) (λ m more knows. h m (grows_on k l m grows more) knows))),
                 ))),
           )
-      in_statement n (filter_block filters body) takes k x go sees leads h =
+      in_statement n first (filter_block filters body) takes k x go sees leads h =
           let passed : List ℕ → Bool = λ name. stands_in name filters in (
             tt,
             at_done k _
-                (in_statements n body takes k (capturing x) _ (sees_left k (λ name. is_used_in name body) passed sees) (capturing_body k x leads)
+                (in_statements n first body takes k (capturing x) _ (sees_left k (λ name. is_used_in name body) passed sees) (capturing_body k x leads)
                 (λ l grows. (
                   tt,
                   at_value l _
@@ -656,60 +933,266 @@ module _ (names : List ℕ → Type 0) (start : Known) where
                       (λ v. (tt, at_done l go (nothing_stored k go h l grows)))),
                 ))),
           )
-      in_statement n (auto_escape e body) takes k x go sees leads h =
+      in_statement n first (auto_escape e body) takes k x go sees leads h =
           in_expression k e (sees_left k (λ name. stands_in name e) (λ name. is_used_in name body) sees) _
           (λ v. (
             tt,
             at_done k _
-                (in_statements n body takes k (closing close_escape x) _ (sees_right k (λ name. stands_in name e) (λ name. is_used_in name body) sees) (closing_escape k x leads)
+                (in_statements n first body takes k (closing close_escape x) _ (sees_right k (λ name. stands_in name e) (λ name. is_used_in name body) sees) (closing_escape k x leads)
                 (in_close_escape k go (nothing_stored k go h))),
           ))
-      in_statement n (block name required body) takes k x go sees leads h = (tt, at_done k go (nothing_stored k go h k (grows_itself k)))
-      in_statement n (import e target) takes k x go sees leads h =
+      in_statement n first (block name required body) takes k x go sees leads h = (tt, at_done k go (nothing_stored k go h k (grows_itself k)))
+      in_statement n first (import e target) takes k x go sees leads h =
           let value_of : List ℕ → Bool = λ name. stands_in name e in
           let holds : List ℕ → Bool = λ name. is_used_by_target name target in (
             tt,
             at_done k _
                 (in_apart k e _ (sees_left k value_of holds sees) (
                   tt,
-                  at_value (inner [] k) _
+                  at_value (opened k) _
                       (λ text. (
                         tt,
-                        at_value (inner [] k) _
-                            (λ m. in_close_frame k (inner [] k) _ (grows_itself (inner [] k))
+                        at_value (opened k) _
+                            (λ m. in_close_frame k (opened k) _ (grows_itself (opened k))
                             (λ l grows. in_target target m l go (sees_on k l holds grows (sees_right k value_of holds sees))
                             (λ wide wider knows. h wide (grows_on k l wide grows wider) knows))),
                       )),
                 )),
           )
-      in_statement n (from_import e imports) takes k x go sees leads h = (
+      in_statement n first (from_import e imports) takes k x go sees leads h = (
         tt,
         at_done k _
             (in_apart k e _ sees
-            (in_as_many (inner [] k) (imported_names imports) (sees_imported (inner [] k) imports takes.1 (λ name used. inl (takes.0 name used))) _
-            (λ vs many. in_close_frame k (inner [] k) _ (grows_itself (inner [] k))
+            (in_as_many (opened k) (imported_names imports) (sees_imported (opened k) imports takes.1 (λ name used. inl (takes.0 name used))) _
+            (λ vs many. in_close_frame k (opened k) _ (grows_itself (opened k))
             (λ l grows. in_imports imports takes.1 vs l _ many
             (λ wide wider knows. (tt, at_value wide _ (λ dropped. h wide (grows_on k l wide grows wider) knows))))))),
       )
-      in_statement n (extends e) takes k x go sees leads h = in_expression k e sees _ (λ v. (tt, at_done k go (nothing_stored k go h k (grows_itself k))))
-      in_statement n (include e ignore_missing) takes k x go sees leads h = in_expression k e sees _ (λ v. (tt, at_done k go (nothing_stored k go h k (grows_itself k))))
-      in_statement n (do_call callee args) takes k x go sees leads h = in_expression k (call callee args) sees _ (λ v. nothing_stored k go h k (grows_itself k))
-      in_statement n continue_loop takes k x go sees leads h = leads.1 k (grows_itself k)
-      in_statement n break_loop takes k x go sees leads h = leads.0 k (grows_itself k)
-      in_statement n _ takes k x go sees leads h = tt
+      in_statement n first (extends e) takes k x go sees leads h = in_expression k e sees _ (λ v. (tt, at_done k go (nothing_stored k go h k (grows_itself k))))
+      in_statement n first (include e ignore_missing) takes k x go sees leads h = in_expression k e sees _ (λ v. (tt, at_done k go (nothing_stored k go h k (grows_itself k))))
+      in_statement n first (do_call callee args) takes k x go sees leads h = in_expression k (call callee args) sees _ (λ v. nothing_stored k go h k (grows_itself k))
+      in_statement n first continue_loop takes k x go sees leads h = leads.1 k (grows_itself k)
+      in_statement n first break_loop takes k x go sees leads h = leads.0 k (grows_itself k)
+      in_statement n first (macro id arguments defaults body) takes k x go sees leads h =
+          in_declared first id arguments defaults body k (own_number (λ n. macro_among n first body) first.macros (counts_among body).macros _ takes.2) sees _
+          (λ v. (tt, at_done (stored id k) go (h (stored id k) (grows_stored id k) (λ name e. knows_stored id k name e))))
+      in_statement n first (call_block callee passed arguments defaults body) takes k x go sees leads h =
+          let of_callee : List ℕ → Bool = λ name. stands_in name callee in
+          let of_args : List ℕ → Bool = λ name. place_in_arguments (anywhere name) passed in
+          let of_body : List ℕ → Bool = λ name. place_of_macro (anywhere name) arguments defaults (is_used_in name body) in
+          let both = sees_left k (λ name. of_callee name || of_args name) of_body sees in
+          let in_callee = sees_left k of_callee of_args both in
+          in_calling k (callee_of callee passed) (may_call k callee passed in_callee) callee passed (declared_walk first caller_name arguments defaults body) in_callee (sees_right k of_callee of_args both)
+          (keeps_caller k (callee_of callee passed) first arguments defaults body takes.2 (sees_right k (λ name. of_callee name || of_args name) of_body sees)) _
+          (λ v. (tt, at_done k go (nothing_stored k go h k (grows_itself k))))
+      in_statement n first _ takes k x go sees leads h = tt
 
-      in_statements : (n : ℕ) (ss : Statements) → TakesAll ss → (k : Known) (x : Exits) (go : Process) → Sees k (λ name. is_used_in name ss) → Leads k x → Stays k go → In k (statements_walk n ss x go)
-      in_statements n no_statements takes k x go sees leads h = h k (grows_itself k)
-      in_statements n (statements_more s ss) takes k x go sees leads h =
+      in_statements : (n : ℕ) (first : Counts) (ss : Statements) → TakesAll first ss → (k : Known) (x : Exits) (go : Process) → Sees k (λ name. is_used_in name ss) → Leads k x → Stays k go → In k (statements_walk n first ss x go)
+      in_statements n first no_statements takes k x go sees leads h = h k (grows_itself k)
+      in_statements n first (statements_more s ss) takes k x go sees leads h =
           let later : List ℕ → Bool = λ name. not (is_stored_by name s) && is_used_in name ss in
-          in_statement n s (takes_left (λ name. is_imported_by name s) (λ name. is_imported name ss) takes.0, takes.1.0) k x _ (sees_left k (λ name. is_used_by name s) later sees) leads
-          (λ l grows knows. in_statements n ss (takes_right (λ name. is_imported_by name s) (λ name. is_imported name ss) takes.0, takes.1.1) l x go
+          in_statement n first s (first_takes first s ss takes) k x _ (sees_left k (λ name. is_used_by name s) later sees) leads
+          (λ l grows knows. in_statements n (counted_together first (counts_by s)) ss (others_take first s ss takes) l x go
           (sees_behind k l (λ name. is_stored_by name s) (λ name. is_used_in name ss) grows knows (sees_right k (λ name. is_used_by name s) later sees))
           (leads_on k l x grows leads) (stays_on k l go grows h))
 
--- a template, from what is known on
-pub template_within : (names : List ℕ → Type 0) → ((name : List ℕ) → IsTrue (bytes_eq name (codes "loop")) → names name)
-    → (n : ℕ) (tree : Statements) → ((name : List ℕ) → IsTrue (is_imported name tree) → names name) → ImportsNames tree
-    → ((name : List ℕ) → IsTrue (is_used_in name tree) → names name) → (k : Known) → Within names k k (template_walk n tree)
-template_within names loop_is n tree taken are used k =
-    in_statements names k loop_is n tree (taken, are) k outside (over []) (λ name u. inl (used name u)) (λ l grows. tt, λ l grows. tt) (λ l grows. grows)
+    -- the macro of a number takes what it has to, and so do the rounds of a loop
+    abbrev MacroIn : Option MacroBody → Type 0
+    MacroIn o = (m : MacroBody) → o ≡ Some m → MacroTakes m
+
+    macro_or : (b : Bool) (o p : Option MacroBody) → MacroIn o → MacroIn p → MacroIn (if b then o else p)
+    macro_or true o p f g = f
+    macro_or false o p f g = g
+
+    macro_itself : (m : MacroBody) → MacroTakes m → MacroIn (Some m)
+    macro_itself m takes other e = let same : m ≡ other = cc in subst MacroTakes same takes
+
+    macro_caller : (c : Callee) (first : Counts) (arguments defaults : Expressions) (body : Statements) (n : ℕ) → (TakesAll first body → MacroIn (macro_among n first body))
+        → ((name : List ℕ) → IsTrue (is_imported name body) → names name) → AreAllNames arguments × ImportsNames body
+        → Numbers (λ n. within_caller c (below_or n (first.macros + (counts_among body).macros) (macro_among n first body)
+        (Some (record { arguments = arguments; defaults = defaults; body = body; first = first })))) first.macros (caller_counts c (counts_among body)).macros
+        → MacroIn (within_caller c (below_or n (first.macros + (counts_among body).macros) (macro_among n first body)
+        (Some (record { arguments = arguments; defaults = defaults; body = body; first = first }))))
+    macro_caller (by_block name) first arguments defaults body n found imported are numbered = λ m e. absurd (cc)
+    macro_caller (by_name name) first arguments defaults body n found imported are numbered =
+        let all : TakesAll first body = (imported, are.1, macro_inside first arguments defaults body numbered) in
+        let own : MacroBody = record { arguments = arguments; defaults = defaults; body = body; first = first } in
+        macro_or (nat_lt n (first.macros + (counts_among body).macros)) (macro_among n first body) (Some own) (found all) (macro_itself own (record { all = all; parameters = are.0 }))
+    macro_caller (by_method name) first arguments defaults body n found imported are numbered =
+        let all : TakesAll first body = (imported, are.1, macro_inside first arguments defaults body numbered) in
+        let own : MacroBody = record { arguments = arguments; defaults = defaults; body = body; first = first } in
+        macro_or (nat_lt n (first.macros + (counts_among body).macros)) (macro_among n first body) (Some own) (found all) (macro_itself own (record { all = all; parameters = are.0 }))
+    macro_caller by_value first arguments defaults body n found imported are numbered =
+        let all : TakesAll first body = (imported, are.1, macro_inside first arguments defaults body numbered) in
+        let own : MacroBody = record { arguments = arguments; defaults = defaults; body = body; first = first } in
+        macro_or (nat_lt n (first.macros + (counts_among body).macros)) (macro_among n first body) (Some own) (found all) (macro_itself own (record { all = all; parameters = are.0 }))
+
+    mutual
+      macro_found_by : (n : ℕ) (first : Counts) (s : Statement) → Takes first s → MacroIn (macro_by n first s)
+      macro_found_by n first (for_loop target e condition recursive body otherwise) takes =
+          macro_or (nat_lt n ((behind_loop first recursive).macros + (counts_among body).macros)) _ _
+          (macro_found n (behind_loop first recursive) body (in_loop first target e condition recursive body otherwise takes))
+          (macro_found n (counted_together (behind_loop first recursive) (counts_among body)) otherwise (past_loop first target e condition recursive body otherwise takes))
+      macro_found_by n first (if_condition e body otherwise) takes =
+          macro_or (nat_lt n (first.macros + (counts_among body).macros)) _ _ (macro_found n first body (in_if first e body otherwise takes))
+          (macro_found n (counted_together first (counts_among body)) otherwise (in_else first e body otherwise takes))
+      macro_found_by n first (with_block _ body) takes = macro_found n first body takes
+      macro_found_by n first (set_block target filters body) takes = macro_found n first body takes
+      macro_found_by n first (auto_escape e body) takes = macro_found n first body takes
+      macro_found_by n first (filter_block filters body) takes = macro_found n first body takes
+      macro_found_by n first (macro id arguments defaults body) takes =
+          let all : TakesAll first body = (takes.0, takes.1.1, macro_inside first arguments defaults body takes.2) in
+          let own : MacroBody = record { arguments = arguments; defaults = defaults; body = body; first = first } in
+          macro_or (nat_lt n (first.macros + (counts_among body).macros)) (macro_among n first body) (Some own) (macro_found n first body all) (macro_itself own (record { all = all; parameters = takes.1.0 }))
+      macro_found_by n first (call_block callee passed arguments defaults body) takes =
+          macro_caller (callee_of callee passed) first arguments defaults body n (macro_found n first body) takes.0 takes.1 takes.2
+      macro_found_by n first _ takes = λ m e. absurd (cc)
+
+      macro_found : (n : ℕ) (first : Counts) (ss : Statements) → TakesAll first ss → MacroIn (macro_among n first ss)
+      macro_found n first no_statements takes = λ m e. absurd (cc)
+      macro_found n first (statements_more s ss) takes =
+          macro_or (nat_lt n (first.macros + (counts_by s).macros)) _ _ (macro_found_by n first s (first_takes first s ss takes))
+          (macro_found n (counted_together first (counts_by s)) ss (others_take first s ss takes))
+
+    abbrev RoundsIn : Option LoopRounds → Type 0
+    RoundsIn o = (r : LoopRounds) → o ≡ Some r → RoundsTake r
+
+    rounds_or_else : (b : Bool) (o p : Option LoopRounds) → RoundsIn o → RoundsIn p → RoundsIn (if b then o else p)
+    rounds_or_else true o p f g = f
+    rounds_or_else false o p f g = g
+
+    -- those that rounds use by themselves
+    abbrev Listed : (List ℕ → Bool) → Type 0
+    Listed f = (name : List ℕ) → IsTrue (f name) → names name
+
+    rounds_own : (recursive : Bool) (n : ℕ) (first : Counts) (own : LoopRounds) (inner_ones : Option LoopRounds) → TakesAll own.first own.body
+        → Listed (λ name. recursive && used_of_rounds name own.target (is_used_in name own.body)) → RoundsIn inner_ones → RoundsIn (rounds_or recursive n first own inner_ones)
+    rounds_own false n first own inner_ones all used found = found
+    rounds_own true n first own inner_ones all used found =
+        rounds_or_else (n == first.rounds) (Some own) inner_ones
+        (λ other e. let same : own ≡ other = cc in subst RoundsTake same (record { all = all; used = used })) found
+
+    rounds_caller : (c : Callee) (first : Counts) (arguments defaults : Expressions) (body : Statements) (n : ℕ) → (TakesAll first body → RoundsIn (rounds_among n first body))
+        → ((name : List ℕ) → IsTrue (is_imported name body) → names name) → AreAllNames arguments × ImportsNames body
+        → Numbers (λ n. within_caller c (below_or n (first.macros + (counts_among body).macros) (macro_among n first body)
+        (Some (record { arguments = arguments; defaults = defaults; body = body; first = first })))) first.macros (caller_counts c (counts_among body)).macros
+        → RoundsIn (within_caller c (rounds_among n first body))
+    rounds_caller (by_block name) first arguments defaults body n found imported are numbered = λ r e. absurd (cc)
+    rounds_caller (by_name name) first arguments defaults body n found imported are numbered = found (imported, are.1, macro_inside first arguments defaults body numbered)
+    rounds_caller (by_method name) first arguments defaults body n found imported are numbered = found (imported, are.1, macro_inside first arguments defaults body numbered)
+    rounds_caller by_value first arguments defaults body n found imported are numbered = found (imported, are.1, macro_inside first arguments defaults body numbered)
+
+    mutual
+      rounds_found_by : (n : ℕ) (first : Counts) (s : Statement) → Takes first s → Listed (λ name. is_used_by_rounds_of name s) → RoundsIn (rounds_by n first s)
+      rounds_found_by n first (for_loop target e condition recursive body otherwise) takes own_names =
+          let own : List ℕ → Bool = λ name. recursive && used_of_rounds name target (is_used_in name body) in
+          let within : List ℕ → Bool = λ name. is_used_by_rounds name body in
+          let later : List ℕ → Bool = λ name. is_used_by_rounds name otherwise in
+          let most : Listed (λ name. own name || within name) = takes_left (λ name. own name || within name) later own_names in
+          let all = in_loop first target e condition recursive body otherwise takes in
+          rounds_own recursive n first (record { target = target; body = body; otherwise = otherwise; first = behind_loop first recursive }) _ all (takes_left own within most)
+          (rounds_or_else (nat_lt n ((behind_loop first recursive).rounds + (counts_among body).rounds)) _ _ (rounds_found n (behind_loop first recursive) body all (takes_right own within most))
+          (rounds_found n (counted_together (behind_loop first recursive) (counts_among body)) otherwise (past_loop first target e condition recursive body otherwise takes)
+          (takes_right (λ name. own name || within name) later own_names)))
+      rounds_found_by n first (if_condition e body otherwise) takes own_names =
+          rounds_or_else (nat_lt n (first.rounds + (counts_among body).rounds)) _ _
+          (rounds_found n first body (in_if first e body otherwise takes) (takes_left (λ name. is_used_by_rounds name body) (λ name. is_used_by_rounds name otherwise) own_names))
+          (rounds_found n (counted_together first (counts_among body)) otherwise (in_else first e body otherwise takes)
+          (takes_right (λ name. is_used_by_rounds name body) (λ name. is_used_by_rounds name otherwise) own_names))
+      rounds_found_by n first (with_block _ body) takes own_names = rounds_found n first body takes own_names
+      rounds_found_by n first (set_block target filters body) takes own_names = rounds_found n first body takes own_names
+      rounds_found_by n first (auto_escape e body) takes own_names = rounds_found n first body takes own_names
+      rounds_found_by n first (filter_block filters body) takes own_names = rounds_found n first body takes own_names
+      rounds_found_by n first (macro id arguments defaults body) takes own_names =
+          rounds_found n first body (takes.0, takes.1.1, macro_inside first arguments defaults body takes.2) own_names
+      rounds_found_by n first (call_block callee passed arguments defaults body) takes own_names =
+          rounds_caller (callee_of callee passed) first arguments defaults body n (λ all. rounds_found n first body all own_names) takes.0 takes.1 takes.2
+      rounds_found_by n first _ takes own_names = λ r e. absurd (cc)
+
+      rounds_found : (n : ℕ) (first : Counts) (ss : Statements) → TakesAll first ss → Listed (λ name. is_used_by_rounds name ss) → RoundsIn (rounds_among n first ss)
+      rounds_found n first no_statements takes own_names = λ r e. absurd (cc)
+      rounds_found n first (statements_more s ss) takes own_names =
+          rounds_or_else (nat_lt n (first.rounds + (counts_by s).rounds)) _ _
+          (rounds_found_by n first s (first_takes first s ss takes) (takes_left (λ name. is_used_by_rounds_of name s) (λ name. is_used_by_rounds name ss) own_names))
+          (rounds_found n (counted_together first (counts_by s)) ss (others_take first s ss takes) (takes_right (λ name. is_used_by_rounds_of name s) (λ name. is_used_by_rounds name ss) own_names))
+
+module _ (names : List ℕ → Type 0) (loop_is : (name : List ℕ) → IsTrue (bytes_eq name (codes "loop")) → names name) (tree : Statements)
+    (taken : (name : List ℕ) → IsTrue (is_imported name tree) → names name) (are : ImportsNames tree) where
+  abbrev body_at : ℕ → Option MacroBody
+  body_at number = macro_numbered number tree
+
+  abbrev pub used_at : ℕ → Among
+  used_at number = used_of (body_at number)
+
+  all_taken : (start : Known) → TakesAll names body_at start no_counts tree
+  all_taken start = (taken, are, λ n low high. refl)
+
+  -- a template, from what is known on
+  pub template_within : (n : ℕ) → ((name : List ℕ) → IsTrue (is_used_in name tree) → names name) → (k : Known) → Within names used_at k k unmade (template_walk n tree)
+  template_within n used k =
+      in_statements names body_at k loop_is n no_counts tree (all_taken k) k outside (over []) (λ name u. inl (used name u)) (λ l grows. tt, λ l grows. tt) (λ l grows. grows)
+
+  -- what a macro's parameters and its body use, its closure has, or it is given
+  either_safe : (N : Type 0) (b c x : Bool) → (b ≡ true → N) → (c ≡ true → N) → IsTrue x → N ⊎ IsTrue (not b && (not c && x))
+  either_safe N true c x f g h = inl (f refl)
+  either_safe N false true x f g h = inl (g refl)
+  either_safe N false false x f g h = inr h
+
+  macro_safe : ((name : List ℕ) → IsTrue (is_stored_everywhere name) → names name) → ((name : List ℕ) → IsTrue (bytes_eq name (codes "caller")) → names name)
+      → (number : ℕ) (m : MacroBody) → body_at number ≡ Some m → (name : List ℕ)
+      → IsTrue (place_of_arguments (anywhere name) (reversed m.arguments no_expressions) (reversed m.defaults no_expressions) (is_used_in name m.body))
+      → IsSafe names (base (used_at number)) name
+  macro_safe everywhere_is caller_is number m found name used =
+      let x = place_of_arguments (anywhere name) (reversed m.arguments no_expressions) (reversed m.defaults no_expressions) (is_used_in name m.body) in
+      elim (either_safe (names name) (is_stored_everywhere name) (bytes_eq name (codes "caller")) x (everywhere_is name) (caller_is name) used) [
+        | inl n ↦ inl n
+        | inr i ↦ inr (subst (λ (o : Option MacroBody). IsTrue (used_of o name)) (sym found) i)
+      ]
+
+  -- a macro, from where its closure has what it uses
+  pub macro_within : ((name : List ℕ) → IsTrue (is_stored_everywhere name) → names name) → ((name : List ℕ) → IsTrue (bytes_eq name (codes "caller")) → names name)
+      → (n number : ℕ) (m : MacroBody) → body_at number ≡ Some m → (vs : List Val) → (number_of m.arguments == length vs) ≡ true
+      → Within names used_at (base (used_at number)) (base (used_at number)) unmade (macro_walk n m vs)
+  macro_within everywhere_is caller_is n number m found vs many =
+      let k = base (used_at number) in
+      let takes = macro_found names body_at k loop_is number no_counts tree (all_taken k) m found in
+      let count : length vs ≡ number_of (reversed m.arguments no_expressions) =
+      let same : number_of m.arguments ≡ length vs = as_many names body_at k (number_of m.arguments) (length vs) many in
+      let all : number_of (reversed m.arguments no_expressions) ≡ number_of m.arguments + 0 = many_reversed m.arguments no_expressions in
+      omega (arith, same, all) in
+      in_parameters names body_at k (reversed m.arguments no_expressions) (reversed m.defaults no_expressions) vs k _ (λ name. is_used_in name m.body)
+      (names_reversed m.arguments no_expressions takes.parameters tt) count
+      (λ name used. macro_safe everywhere_is caller_is number m found name used)
+      (λ l grows sees. in_statements names body_at k loop_is n m.first m.body takes.all l outside (over []) sees (λ o wider. tt, λ o wider. tt) (λ o wider. grows_on k l o grows wider))
+
+  -- the end of rounds that were called: the answer to the closing of their frame ends the run
+  called_end : (otherwise : Statements) (k l : Known) → Grows (inner true nothing k) l → Within names used_at (inner true nothing k) l unmade (loop_end otherwise cut_short cut_short)
+  called_end otherwise k (base f) grows = absurd grows
+  called_end otherwise k (inner false f l) grows = let other : true ≡ false = grows.0 in absurd (cc)
+  called_end no_statements k (inner true f l) grows = ((tt, grows), at_done names body_at (inner true nothing k) l cut_short tt)
+  called_end (statements_more s ss) k (inner true f l) grows =
+      let start = inner true nothing k in
+      (tt, at_value names body_at start (inner true f l) _ (λ flag. ((tt, grows), at_done names body_at start l _ (tt, at_truth names body_at start l cut_short cut_short tt tt))))
+
+  round_safe : (N K : Type 0) (a holds loop used : Bool) → (holds ≡ true → K) → (loop ≡ true → N) → (IsTrue (a || (not holds && (not loop && used))) → N) → IsTrue used → N ⊎ K
+  round_safe N K a true loop used f g h i = inr (f refl)
+  round_safe N K a false true used f g h i = inl (g refl)
+  round_safe N K a false false used f g h i = inl (h (or_right a used i))
+
+  -- and the rounds of a loop that are called
+  pub rounds_within : ((name : List ℕ) → IsTrue (is_used_by_rounds name tree) → names name) → (n number : ℕ) (r : LoopRounds) → rounds_numbered number tree ≡ Some r → (k : Known)
+      → Within names used_at (inner true nothing k) (inner true nothing k) unmade (rounds_walk n r)
+  rounds_within own_names n number r found k =
+      let start = inner true nothing k in
+      let takes = rounds_found names body_at start loop_is number no_counts tree (all_taken start) own_names r found in
+      in_rounds names body_at start n true k (λ item exits again. target_walk r.target item (statements_walk n r.first r.body exits again)) (loop_end r.otherwise cut_short cut_short)
+      (λ l grows v y again out back.
+      in_target names body_at start r.target v l _
+      (λ name used. inl (takes.used name (or_left (is_used_by_target name r.target) (not (is_stored_in name r.target) && (not (bytes_eq name (codes "loop")) && is_used_in name r.body)) used)))
+      (λ m more knows.
+      in_statements names body_at start loop_is n r.first r.body takes.all m y again
+      (λ name used. round_safe (names name) (IsKnown m name) (is_used_by_target name r.target) (is_stored_in name r.target) (bytes_eq name (codes "loop")) (is_used_in name r.body)
+      (knows name) (loop_is name) (takes.used name) used)
+      (leads_on names body_at start start m y (grows_on start l m grows more) out)
+      (stays_on names body_at start start m again (grows_on start l m grows more) back)))
+      (λ l grows. called_end r.otherwise k l grows) start (grows_itself start)

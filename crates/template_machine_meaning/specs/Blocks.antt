@@ -1,5 +1,5 @@
 -- Blocks: which body a call runs, what stands behind it, and which template is extended.
-use Rattle.std.specs.Prelude.{ℕ, suc, ◌==◌, Bool, true, false, ◌&&◌, ◌||◌, List, [], ◌∷◌, length, slice_get, Option, None, Some, is_some, Result, Ok, Err, if◌then◌else◌}
+use Rattle.std.specs.Prelude.{ℕ, suc, ◌+◌, ◌==◌, Bool, true, false, ◌&&◌, ◌||◌, List, [], ◌∷◌, length, slice_get, Option, None, Some, is_some, Result, Ok, Err, if◌then◌else◌}
 use Rattle.std.specs.Option.{option_map_or}
 use Rattle.std.specs.Str.{bytes_eq}
 use Rattle.template_values_errors.specs.declared.ErrorKind.{ErrorKind}
@@ -14,7 +14,7 @@ use Rattle.template_machine_meaning.specs.World.{World, Capture, keeps, drops, e
 use Rattle.template_machine_meaning.specs.Captures.{is_dropping}
 use Rattle.template_machine_meaning.specs.Names.{name_of}
 use Rattle.template_machine_meaning.specs.Replies.{told, changed, refused}
-use Rattle.template_machine_meaning.specs.Plans.{calls_block, calls_super, Within, Plan, replies, room_for}
+use Rattle.template_machine_meaning.specs.Plans.{calls_block, takes_block, calls_super, Within, Plan, replies, room_for}
 
 -- a stream of a block runs in a frame of its own, which extends no template yet
 abbrev pub own_frame : Stream → List ℕ → World → World
@@ -34,6 +34,7 @@ block_within w name home = record {
   begins = own_frame (block_of home name) name w;
   wraps = [];
   purpose = calls_block;
+  behind = [];
 }
 
 -- the one body that there is only says that another has to be given
@@ -44,22 +45,36 @@ is_required name (b ∷ blocks) = if bytes_eq b.0 name then b.1 else is_required
 abbrev pub lacks_body : Around → List ℕ → Home → List Home → Bool
 lacks_body a name home homes = length homes == 1 && option_map_or (λ (h : Head). is_required name h.blocks) (a.head home) false
 
-abbrev pub body_plan : Around → World → List ℕ → Bodies → Option Home → Plan
-body_plan a w name b None = replies (refused w UnknownBlock)
-body_plan a w name b (Some home) =
-    if lacks_body a name home b.homes then replies (refused w InvalidOperation) else room_for a.limit 1 w (block_within w name home)
+-- what runs is entered as `entered` says
+abbrev pub body_plan : Around → World → List ℕ → (Home → Plan) → Bodies → Option Home → Plan
+body_plan a w name entered b None = replies (refused w UnknownBlock)
+body_plan a w name entered b (Some home) = if lacks_body a name home b.homes then replies (refused w InvalidOperation) else entered home
 
-abbrev pub bodies_plan : Around → World → List ℕ → Option Bodies → Plan
-bodies_plan a w name None = replies (refused w UnknownBlock)
-bodies_plan a w name (Some b) = body_plan a w name b (slice_get b.homes b.place)
+abbrev pub bodies_plan : Around → World → List ℕ → (Home → Plan) → Option Bodies → Plan
+bodies_plan a w name entered None = replies (refused w UnknownBlock)
+bodies_plan a w name entered (Some b) = body_plan a w name entered b (slice_get b.homes b.place)
 
 -- a block runs, whatever the run has met
 abbrev pub block_plan : Around → World → List ℕ → Plan
-block_plan a w name = bodies_plan a w name (bodies_at name w.blocks)
+block_plan a w name = bodies_plan a w name (λ home. room_for a.limit 1 w (block_within w name home)) (bodies_at name w.blocks)
+
+-- so it does where so many calls are pending, which count as levels too, for its text
+abbrev pub text_within : World → ℕ → List ℕ → Home → Within
+text_within w pending name home = record {
+  key = whole_of (block_of home name);
+  begins = record (own_frame (block_of home name) name w) { outer = w.outer + pending; captures = keeps [] ∷ w.captures };
+  wraps = [];
+  purpose = takes_block;
+  behind = [];
+}
+
+abbrev pub text_plan : Around → ℕ → World → List ℕ → Plan
+text_plan a pending w name =
+    bodies_plan a w name (λ home. room_for a.limit (1 + pending) w (text_within w pending name home)) (bodies_at name w.blocks)
 
 -- where the run extends a template, or what is written is dropped, the block isn't even looked for
-abbrev pub called_plan : Around → World → List ℕ → Plan
-called_plan a w name = if is_some w.parent || is_dropping w.captures then replies (told w (tells done)) else block_plan a w name
+abbrev pub block_called : Around → World → List ℕ → Plan
+block_called a w name = if is_some w.parent || is_dropping w.captures then replies (told w (tells done)) else block_plan a w name
 
 -- the body behind the one at a place, for a call by name or for a print
 abbrev pub captured_if : Bool → List Capture → List Capture
@@ -71,6 +86,7 @@ super_within w named name place home = record {
   begins = record (own_frame (block_of home name) name w) { blocks = with_place name (suc place) w.blocks; captures = captured_if named w.captures };
   wraps = EvalBlock ∷ [];
   purpose = calls_super named name place;
+  behind = [];
 }
 
 abbrev pub behind_plan : Around → World → Bool → List ℕ → ℕ → Option Home → Plan

@@ -1,25 +1,27 @@
--- What calls come to: by themselves, by what a user's own answers, and by what that asks further.
-use Rattle.std.specs.Prelude.{ℕ, zero, suc, ◌-◌, Bool, true, false, ◌||◌, List, [], ◌∷◌, length, Option, None, Some, option_map, Result, Ok, Err, if◌then◌else◌}
+-- What calls come to: by themselves, by what a user's own answers, by what that asks further, and by the run of a macro.
+use Rattle.std.specs.Prelude.{ℕ, zero, suc, ◌-◌, Bool, true, false, ◌||◌, List, [], ◌∷◌, length, Option, None, Some, option_map, if◌then◌else◌}
 use Rattle.std.specs.Ordering.{eq_by_cmp}
 use Rattle.template_values_errors.specs.declared.ErrorKind.{ErrorKind}
 use Rattle.template_values_errors.specs.declared.ErrorKind.TheVariants.{InvalidOperation, UnknownFilter, UnknownTest, UnknownMethod}
 use Rattle.template_values_model.specs.Val as values
 use Rattle.template_values_model.specs.Val.{Val, vals_of}
 use Rattle.template_values_core.specs.Order.{val_cmp}
-use Rattle.template_values_forms.specs.Known.{Known}
-use Rattle.template_values_forms.specs.Truth as truths
 use Rattle.template_values_named.specs.Named.{with_all_named}
-use Rattle.template_callables.specs.Callables.{View, Asked, call, filter, test, lookup, Stated, finishes, refuses, goes_on, Says, Callables}
+use Rattle.template_callables.specs.Callables.{View, Asked, call, filter, test, lookup, call_macro, block, Stated, finishes, refuses, goes_on, Says, Callables}
 use Rattle.template_callables.specs.Faults.{stated_kinds}
-use Rattle.template_process.specs.Process.{Told, tells, fails, value}
-use Rattle.template_process.specs.Trace.{Reply}
-use Rattle.template_machine_meaning.specs.World.{World, value_named, given_at, put_given, depth_of}
-use Rattle.template_machine_meaning.specs.Records.{known_of}
-use Rattle.template_machine_meaning.specs.Replies.{told, changed, refused, kinded, replied_with}
+use Rattle.template_process.specs.Process.{tells, fails, value}
+use Rattle.template_machine_meaning.specs.World.{World, looked_up, value_named, given_at, put_given, depth_of}
+use Rattle.template_machine_meaning.specs.Records.{macro_of, loop_of}
+use Rattle.template_machine_meaning.specs.Replies.{told, changed, refused, replied_with}
 use Rattle.template_machine_meaning.specs.Keys.{Around}
 use Rattle.template_machine_meaning.specs.Names.{name_of}
 use Rattle.template_machine_meaning.specs.Namespaces.{may_hold_loop, made_namespace}
-use Rattle.template_machine_meaning.specs.Functions.{Invoked, filter_named, test_named, function_numbered, method_of, Called, gives, makes, compares, invokes, value_called}
+use Rattle.template_machine_meaning.specs.Plans.{Plan, replies, with_turning}
+use Rattle.template_machine_meaning.specs.Turnings.{to_truth, to_text}
+use Rattle.template_machine_meaning.specs.Blocks.{text_plan}
+use Rattle.template_machine_meaning.specs.Macros.{macro_plan}
+use Rattle.template_machine_meaning.specs.Rounds.{again_plan}
+use Rattle.template_machine_meaning.specs.Functions.{Invoked, filter_named, test_named, function_numbered, method_of, Called, gives, makes, compares, invokes, calls, runs_again, value_called, found_called}
 
 -- whether arguments are those of the call before
 abbrev pub are_as_before : List Val → Option (List Val) → Bool
@@ -55,52 +57,50 @@ unknown (function_numbered number) = InvalidOperation
 unknown (method_of v name) = UnknownMethod
 
 -- what an answer comes to, where what it asks further comes to what `go` gives
-abbrev pub stated_reply : (World → Asked → Reply World) → World → Stated → Reply World
-stated_reply go w (finishes temps v) = changed (with_temps temps w) (value v)
-stated_reply go w (refuses kinds) = told w (fails (stated_kinds kinds))
-stated_reply go w (goes_on temps asked) = go (with_temps temps w) asked
+abbrev pub stated_plan : (World → Asked → Plan) → World → Stated → Plan
+stated_plan go w (finishes temps v) = replies (changed (with_temps temps w) (value v))
+stated_plan go w (refuses kinds) = replies (told w (fails (stated_kinds kinds)))
+stated_plan go w (goes_on temps asked) = go (with_temps temps w) asked
 
 -- the value of a test is taken for true or false, by what is known of records
-abbrev pub decided : Result Bool ErrorKind → Told
-decided (Ok b) = tells (value (values.truth b))
-decided (Err kind) = fails (kind ∷ [])
+abbrev pub tested : Invoked → Plan → Plan
+tested (test_named name) p = with_turning to_truth p
+tested _ p = p
 
-abbrev pub truth_told : Known → Told → Told
-truth_told known (tells (value v)) = decided (kinded (truths.truth_of known v))
-truth_told known t = t
+abbrev pub answered_by : Around → (World → Asked → Plan) → World → Invoked → List Val → Option Says → Plan
+answered_by a go w what vs None = replies (refused w (unknown what))
+answered_by a go w what vs (Some says) = tested what (stated_plan go w (says (view_of a w) vs))
 
-abbrev pub tested : Invoked → Reply World → Reply World
-tested (test_named name) r = record r { told = truth_told (known_of r.after) r.told }
-tested _ r = r
+abbrev pub invoked_plan : Around → (World → Asked → Plan) → World → Invoked → List Val → Plan
+invoked_plan a go w what vs = answered_by a go w what vs (said a.callables what)
 
-abbrev pub answered_by : Around → (World → Asked → Reply World) → World → Invoked → List Val → Option Says → Reply World
-answered_by a go w what vs None = refused w (unknown what)
-answered_by a go w what vs (Some says) = tested what (stated_reply go w (says (view_of a w) vs))
+-- what a call comes to, where so many calls are pending, and what a user's own asks further comes to what `go` gives
+abbrev pub called_plan : Around → ℕ → (World → Asked → Plan) → World → Called → Plan
+called_plan a pending go w (gives r) = replies (replied_with w value r)
+called_plan a pending go w (makes entries) =
+    replies (changed (made_namespace w entries) (value (values.namespace w.id (length w.namespaces))))
+called_plan a pending go w (compares number vs) =
+    replies (if are_as_before vs (given_at number w.given) then told w (tells (value (values.truth false)))
+    else changed (record w { given = put_given number vs w.given }) (value (values.truth true)))
+called_plan a pending go w (invokes what vs) = invoked_plan a go w what vs
+called_plan a pending go w (calls id number vs) = macro_plan a.limit pending w vs (macro_of w id number)
+called_plan a pending go w (runs_again id number vs) = again_plan a w vs (loop_of w id number)
 
-abbrev pub invoked_reply : Around → (World → Asked → Reply World) → World → Invoked → List Val → Reply World
-invoked_reply a go w what vs = answered_by a go w what vs (said a.callables what)
+-- what is asked further; a macro that is called by its name gives a text
+abbrev pub further_plan : Around → ℕ → (World → Asked → Plan) → World → Asked → Plan
+further_plan a pending go w (call v vs) = called_plan a pending go w (value_called w.globals v vs)
+further_plan a pending go w (filter name vs) = invoked_plan a go w (filter_named name) vs
+further_plan a pending go w (test name vs) = invoked_plan a go w (test_named name) vs
+further_plan a pending go w (lookup name) = replies (told w (tells (value (value_named name w))))
+further_plan a pending go w (call_macro name vs) =
+    with_turning to_text (called_plan a pending go w (found_called w.globals (looked_up name w) vs))
+further_plan a pending go w (block name) = text_plan a pending w name
 
--- what a call comes to, where what a user's own asks further comes to what `go` gives
-abbrev pub called_reply : Around → (World → Asked → Reply World) → World → Called → Reply World
-called_reply a go w (gives r) = replied_with w value r
-called_reply a go w (makes entries) = changed (made_namespace w entries) (value (values.namespace w.id (length w.namespaces)))
-called_reply a go w (compares number vs) =
-    if are_as_before vs (given_at number w.given) then told w (tells (value (values.truth false)))
-    else changed (record w { given = put_given number vs w.given }) (value (values.truth true))
-called_reply a go w (invokes what vs) = invoked_reply a go w what vs
-
--- what is asked further
-abbrev pub further_reply : Around → (World → Asked → Reply World) → World → Asked → Reply World
-further_reply a go w (call v vs) = called_reply a go w (value_called w.globals v vs)
-further_reply a go w (filter name vs) = invoked_reply a go w (filter_named name) vs
-further_reply a go w (test name vs) = invoked_reply a go w (test_named name) vs
-further_reply a go w (lookup name) = told w (tells (value (value_named name w)))
-
--- so many of these may be pending at once
-abbrev pub beyond : Around → ℕ → World → Asked → Reply World
-beyond a zero w asked = refused w InvalidOperation
-beyond a (suc left) w asked = further_reply a (beyond a left) w asked
+-- where so many are pending, so many more may be at once
+abbrev pub beyond : Around → ℕ → ℕ → World → Asked → Plan
+beyond a pending zero w asked = replies (refused w InvalidOperation)
+beyond a pending (suc left) w asked = further_plan a (suc pending) (beyond a (suc pending) left) w asked
 
 -- as many as there are levels left
-abbrev pub call_reply : Around → World → Called → Reply World
-call_reply a w c = called_reply a (beyond a (a.limit - depth_of w)) w c
+abbrev pub call_plan : Around → World → Called → Plan
+call_plan a w c = called_plan a 0 (beyond a 0 (a.limit - depth_of w)) w c

@@ -91,12 +91,15 @@ pub data Invoked : Type 0 where
   method_of : Val → List ℕ → Invoked
 
 -- what a call comes to: a value or a refusal; a namespace that is made; arguments that are compared with those that `changed`
--- was called with last for the loop of a number; or a call of a user's own
+-- was called with last for the loop of a number; a call of a user's own; a call of the macro of a state's id and a number; or
+-- the rounds of such a loop, called again
 pub data Called : Type 0 where
   gives : Result Val ErrorKind → Called
   makes : List (Val × Val) → Called
   compares : ℕ → List Val → Called
   invokes : Invoked → List Val → Called
+  calls : ℕ → ℕ → List Val → Called
+  runs_again : ℕ → ℕ → List Val → Called
 
 abbrev pub namespace_called : Result (List (Val × Val)) ErrorKind → Called
 namespace_called (Ok entries) = makes entries
@@ -115,16 +118,22 @@ function_called has_own number vs =
     if nat_le own_functions number then invokes (function_numbered number) vs
     else (if has_own then own_called number vs else gives (Err InvalidOperation))
 
--- a value is called: a function of the environment itself; no other can be
+-- a value is called: a function of the environment itself, or a macro; no other can be
 abbrev pub value_called : Globals → Val → List Val → Called
 value_called g (function other number) vs =
     if other == g.environment then function_called g.has_own number vs else gives (Err InvalidOperation)
+value_called g (macro_record id number) vs = calls id number vs
 value_called g v vs = gives (Err InvalidOperation)
 
--- what a name stands for is called
+-- what a name stands for is called as a value
+abbrev pub found_called : Globals → Option Val → List Val → Called
+found_called g (Some v) vs = value_called g v vs
+found_called g None vs = gives (Err UnknownFunction)
+
+-- or by the name, and so are the rounds of a loop
 abbrev pub name_called : Globals → Option Val → List Val → Called
-name_called g (Some v) vs = value_called g v vs
-name_called g None vs = gives (Err UnknownFunction)
+name_called g (Some (loop_record id number)) vs = runs_again id number vs
+name_called g o vs = found_called g o vs
 
 -- one argument of several, in turn, as the items of the loop are
 abbrev pub place_or_first : Option ℕ → ℕ

@@ -1,11 +1,11 @@
 -- What a template's render takes of its context, and an expression's evaluation.
-use Rattle.std.specs.Prelude.{◌≡◌, ℕ, ◌⊎◌, Bool, false, ◌||◌, IsTrue, List, [], ◌∷◌, Option, None, Some, codes}
+use Rattle.std.specs.Prelude.{◌≡◌, ℕ, ◌⊎◌, Bool, false, not, ◌&&◌, ◌||◌, IsTrue, List, [], ◌∷◌, Option, None, Some, codes}
 use Rattle.std.specs.Str.{bytes_eq}
 use Rattle.template_values_model.specs.Val.{Val}
 use Rattle.template_values_model.specs.Lookup.{value_at}
-use Rattle.template_callables.specs.Callables.{View, Asked, lookup, Stated, goes_on, Says, Callables}
-use Rattle.template_tree.specs.Tree.{Expression, Statement, Statements, Imports, variable, absent, given, for_loop, if_condition, with_block, set_block, auto_escape, filter_block, block, from_import, no_statements, statements_more, no_imports, imports_more}
-use Rattle.template_names.specs.Names.{is_used, is_stored_everywhere, stands_in}
+use Rattle.template_callables.specs.Callables.{View, Asked, lookup, call_macro, Stated, goes_on, Says, Callables}
+use Rattle.template_tree.specs.Tree.{Expression, Expressions, Statement, Statements, Imports, variable, absent, given, for_loop, if_condition, with_block, set_block, auto_escape, filter_block, block, from_import, macro, call_block, no_statements, statements_more, no_imports, imports_more, no_expressions, expressions_more}
+use Rattle.template_names.specs.Names.{is_used, is_used_in, is_used_by_target, is_stored_in, is_stored_everywhere, stands_in}
 use Rattle.template_walk.specs.Blocks.{Block, blocks_in}
 use Rattle.template_walk.specs.Imported.{is_imported}
 use Rattle.template_process.specs.Fuel.{IsSameRun, under}
@@ -22,9 +22,36 @@ abbrev pub is_used_by_block : List ℕ → List Block → Bool
 is_used_by_block name [] = false
 is_used_by_block name (b ∷ blocks) = is_used name b.body || is_used_by_block name blocks
 
--- a template uses the name, or one of its blocks does by itself, or it is imported
+-- the rounds of a loop use the name by themselves, whose body uses it or doesn't: the target is stored, and `loop` in the body
+abbrev pub used_of_rounds : List ℕ → Expression → Bool → Bool
+used_of_rounds name target body =
+    is_used_by_target name target || not (is_stored_in name target) && (not (bytes_eq name (codes "loop")) && body)
+
+abbrev mutual
+  -- so do the rounds of one of the loops that may be called again
+  pub is_used_by_rounds_of : List ℕ → Statement → Bool
+  is_used_by_rounds_of name (for_loop target _ _ recursive body otherwise) =
+      recursive && used_of_rounds name target (is_used_in name body)
+      || is_used_by_rounds name body || is_used_by_rounds name otherwise
+  is_used_by_rounds_of name (if_condition _ body otherwise) = is_used_by_rounds name body || is_used_by_rounds name otherwise
+  is_used_by_rounds_of name (with_block _ body) = is_used_by_rounds name body
+  is_used_by_rounds_of name (set_block _ _ body) = is_used_by_rounds name body
+  is_used_by_rounds_of name (auto_escape _ body) = is_used_by_rounds name body
+  is_used_by_rounds_of name (filter_block _ body) = is_used_by_rounds name body
+  is_used_by_rounds_of name (block _ _ body) = is_used_by_rounds name body
+  is_used_by_rounds_of name (macro _ _ _ body) = is_used_by_rounds name body
+  is_used_by_rounds_of name (call_block _ _ _ _ body) = is_used_by_rounds name body
+  is_used_by_rounds_of name _ = false
+
+  pub is_used_by_rounds : List ℕ → Statements → Bool
+  is_used_by_rounds name no_statements = false
+  is_used_by_rounds name (statements_more s ss) = is_used_by_rounds_of name s || is_used_by_rounds name ss
+
+-- a template uses the name, or one of its blocks or of its recursive loops does by itself, or it is imported
 abbrev pub is_needed : List ℕ → Statements → Bool
-is_needed name tree = (is_used name tree || is_used_by_block name (blocks_in tree)) || is_imported name tree
+is_needed name tree =
+    (is_used name tree || is_used_by_block name (blocks_in tree))
+    || (not (is_stored_everywhere name) && is_used_by_rounds name tree) || is_imported name tree
 
 -- a template that stands needs the name
 abbrev pub IsUsedByOne : Setting → List ℕ → Type 0
@@ -38,9 +65,10 @@ IsContextName setting tree name = IsTrue (is_given name) ⊎ IsTrue (is_needed n
 abbrev pub AgreesAt : Val → Val → List ℕ → Type 0
 AgreesAt c d name = value_at name c ≡ value_at name d
 
--- what is asked of the machine is not what a name stands for
+-- what is asked of the machine is not what a name stands for, and does not call that
 abbrev pub IsNoLookup : Asked → Type 0
 IsNoLookup (lookup name) = ⊥
+IsNoLookup (call_macro name vs) = ⊥
 IsNoLookup _ = Unit {0}
 
 -- an answer asks for no name
@@ -67,6 +95,11 @@ AreNames no_imports = Unit {0}
 AreNames (imports_more e absent more) = IsName e × AreNames more
 AreNames (imports_more e (given alias) more) = IsName e × IsName alias × AreNames more
 
+-- and the parameters of a macro are names
+abbrev pub AreAllNames : Expressions → Type 0
+AreAllNames no_expressions = Unit {0}
+AreAllNames (expressions_more e es) = IsName e × AreAllNames es
+
 abbrev mutual
   pub ImportsNamesAt : Statement → Type 0
   ImportsNamesAt (for_loop _ _ _ _ body otherwise) = ImportsNames body × ImportsNames otherwise
@@ -77,6 +110,8 @@ abbrev mutual
   ImportsNamesAt (filter_block _ body) = ImportsNames body
   ImportsNamesAt (block _ _ body) = ImportsNames body
   ImportsNamesAt (from_import _ names) = AreNames names
+  ImportsNamesAt (macro _ arguments _ body) = AreAllNames arguments × ImportsNames body
+  ImportsNamesAt (call_block _ _ arguments _ body) = AreAllNames arguments × ImportsNames body
   ImportsNamesAt _ = Unit {0}
 
   pub ImportsNames : Statements → Type 0

@@ -8,12 +8,13 @@ use Rattle.template_process.specs.Trace.{run}
 use Rattle.template_process.specs.Approximants.{Extends, IsFinished}
 use Rattle.template_walk.specs.Runnable.{IsRunnable, IsRunnableTemplate}
 use Rattle.template_walk.specs.Statements.{standalone_walk}
-use Rattle.template_machine_meaning.specs.World.{World}
+use Rattle.template_machine_meaning.specs.World.{Loop, Frame, World}
+use Rattle.template_machine_meaning.specs.Records.{loop_numbered, all_loops}
 use Rattle.template_machine_meaning.specs.Plans.{ran}
 use Rattle.template_machine_meaning.specs.Blocks.{is_among}
-use Rattle.template_machine_meaning.specs.Keys.{Key}
+use Rattle.template_machine_meaning.specs.Keys.{Part, rounds_of, Key}
 use Rattle.template_machine_meaning.specs.Surroundings.{Programs, runners, answer}
-use Rattle.template_machine_meaning.specs.Meaning.{Standing, Setting, tree_at, walks_of, meaning, evaluation, evaluated}
+use Rattle.template_machine_meaning.specs.Meaning.{Standing, Setting, walks_of, meaning, evaluation, evaluated}
 
 -- the second goes further
 abbrev pub ProcessGoesFurther : Option Process → Option Process → Type 0
@@ -54,6 +55,20 @@ pub record MayBegin (w : World) : Type 0 where
   pub floor : w.floor ≤ length w.frames
   pub alone : w.parent ≡ None
 
+-- Where rounds begin that are called, the innermost frame is their loop's, and no frame may be closed.
+pub record MayGoRound (w : World) : Type 0 where
+  pub frame : Frame
+  pub frames : List Frame
+  pub is : w.frames ≡ frame ∷ frames
+  pub floor : w.floor ≡ length w.frames
+  pub loop : Loop
+  pub looping : frame.loop ≡ Some loop
+  pub called : loop.called ≡ true
+
+abbrev pub MayStart : Part → World → Type 0
+MayStart (rounds_of number) w = MayGoRound w
+MayStart part w = MayBegin w
+
 -- Every run ends: under some bound it is finished.
 abbrev pub EveryRunEnds : Type 0
 EveryRunEnds = (setting : Setting) (names : List (List ℕ)) → ListsAll setting names → AreAllRunnable setting → (root : Standing)
@@ -62,7 +77,7 @@ EveryRunEnds = (setting : Setting) (names : List (List ℕ)) → ListsAll settin
 -- So does what each key comes to that finds something, in the render of a template.
 abbrev pub EveryKeyEnds : Type 0
 EveryKeyEnds = (setting : Setting) (names : List (List ℕ)) → ListsAll setting names → AreAllRunnable setting → (root : Standing)
-    → IsRunnableTemplate root.tree → (key : Key) → IsSome (tree_at setting (Some root) key) → (w : World) → MayBegin w
+    → IsRunnableTemplate root.tree → (key : Key) → IsSome ((walks_of setting (Some root)).process 0 key) → (w : World) → MayStart key.part w
     → (n : ℕ) × IsFinished (ran (runners (walks_of setting (Some root)) n key) w).end
 
 -- A run that is finished under two bounds is the same under both.
@@ -77,16 +92,22 @@ GivesOne (ends (v ∷ [])) = Unit {0}
 GivesOne (faults kinds) = Unit {0}
 GivesOne _ = ⊥
 
--- Every expression comes to its value, or to a fault, where there are no blocks.
+-- an expression may be evaluated alone: there are no blocks, no macros and no loops to be called
+pub record IsAlone (w : World) : Type 0 where
+  pub blocks : w.blocks ≡ []
+  pub macros : w.macros ≡ []
+  pub loops : (number : ℕ) → loop_numbered number (all_loops w) ≡ None
+
+-- Every expression comes to its value, or to a fault, where nothing that runs can be called.
 abbrev pub EveryEvaluationGives : Type 0
-EveryEvaluationGives = (setting : Setting) (e : Expression) → IsRunnable e → (w : World) → w.blocks ≡ [] → GivesOne (evaluation setting e w).end
+EveryEvaluationGives = (setting : Setting) (e : Expression) → IsRunnable e → (w : World) → IsAlone w → GivesOne (evaluation setting e w).end
 
 -- So it does over a context, where its value is handed out.
 abbrev pub EveryExpressionGives : Type 0
 EveryExpressionGives = (setting : Setting) (id : ℕ) (e : Expression) → IsRunnable e → (context : Val)
     → GivesOne (evaluated setting id e context).end
 
--- Under every bound an expression does the same, where there are no blocks.
+-- Under every bound an expression does the same, where nothing that runs can be called.
 abbrev pub EvaluationsNeedNoBound : Type 0
-EvaluationsNeedNoBound = (setting : Setting) (n : ℕ) (e : Expression) (w : World) → w.blocks ≡ []
+EvaluationsNeedNoBound = (setting : Setting) (n : ℕ) (e : Expression) (w : World) → IsAlone w
     → run (answer (walks_of setting None) n) (standalone_walk e) w ≡ evaluation setting e w

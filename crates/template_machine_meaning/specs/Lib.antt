@@ -6,11 +6,15 @@ pub mod Keys
 pub mod Bodies
 pub mod Captures
 pub mod Names
+pub mod Namespaces
+pub mod Closures
+pub mod Turnings
 pub mod Plans
 pub mod Includes
 pub mod Blocks
+pub mod Macros
+pub mod Rounds
 pub mod Modules
-pub mod Namespaces
 pub mod Functions
 pub mod Calls
 pub mod Spreads

@@ -1,5 +1,5 @@
 -- What a template means for a context, under a bound; and what an expression does, without one.
-use Rattle.std.specs.Prelude.{ℕ, suc, List, [], ◌∷◌, map, Option, None, Some, option_map, Result, Ok, Err, codes}
+use Rattle.std.specs.Prelude.{ℕ, suc, ◌==◌, List, [], ◌∷◌, length, map, Option, None, Some, option_map, Result, Ok, Err, codes, if◌then◌else◌}
 use Rattle.std.specs.Option.{option_map_or, option_and_then}
 use Rattle.template_values_errors.specs.declared.ErrorKind.{ErrorKind}
 use Rattle.template_values_errors.specs.declared.modes.AutoEscape.{AutoEscape}
@@ -10,15 +10,17 @@ use Rattle.template_values_frozen.specs.Frozen.{frozen}
 use Rattle.template_callables.specs.Callables.{Callables}
 use Rattle.template_callables.specs.Joins.{Joins}
 use Rattle.template_tree.specs.Tree.{Expression, Statements}
+use Rattle.template_process.specs.Process.{Process}
 use Rattle.template_process.specs.Drive.{End, ends, faults}
 use Rattle.template_process.specs.Trace.{Run, run}
-use Rattle.template_walk.specs.Statements.{standalone_walk, template_walk}
+use Rattle.template_walk.specs.Statements.{number_of, standalone_walk, template_walk, macro_walk, rounds_walk}
 use Rattle.template_walk.specs.Blocks.{Block, blocks_in, block_named}
+use Rattle.template_walk.specs.Counting.{MacroBody, macro_numbered, rounds_numbered}
 use Rattle.template_machine_meaning.specs.World.{Globals, World, first_world}
 use Rattle.template_machine_meaning.specs.Records.{known_of}
 use Rattle.template_machine_meaning.specs.Replies.{kinded}
 use Rattle.template_machine_meaning.specs.Keys as keys
-use Rattle.template_machine_meaning.specs.Keys.{Home, standing, kept, Stream, own, block_of, Part, whole, Key, whole_of, Head, Around}
+use Rattle.template_machine_meaning.specs.Keys.{Home, standing, kept, Stream, own, block_of, Part, whole, rounds_of, Key, whole_of, Head, Around}
 use Rattle.template_machine_meaning.specs.Plans.{ran}
 use Rattle.template_machine_meaning.specs.Surroundings.{Programs, runners, answer}
 
@@ -48,7 +50,7 @@ template_at setting root (kept number) = None
 abbrev pub body_of : List ℕ → Standing → Option Statements
 body_of name t = option_map (λ (b : Block). b.body) (block_named name t.tree)
 
--- the tree that a key runs: there are no macros and no loops to be called again yet
+-- the tree that a key runs whole
 abbrev pub tree_in : Setting → Option Standing → Stream → Part → Option Statements
 tree_in setting root (own home) whole = option_map (λ t. t.tree) (template_at setting root home)
 tree_in setting root (block_of home name) whole = option_and_then (body_of name) (template_at setting root home)
@@ -56,6 +58,20 @@ tree_in setting root _ _ = None
 
 abbrev pub tree_at : Setting → Option Standing → Key → Option Statements
 tree_at setting root key = tree_in setting root key.stream key.part
+
+-- the tree of a stream
+abbrev pub tree_of : Setting → Option Standing → Stream → Option Statements
+tree_of setting root s = tree_in setting root s whole
+
+-- the walk of a macro's body, over one argument for each parameter
+abbrev pub body_walk : ℕ → List Val → MacroBody → Option Process
+body_walk n vs m = if number_of m.arguments == length vs then Some (macro_walk n m vs) else None
+
+-- the walk of a part of a tree
+abbrev pub part_walk : ℕ → Part → Statements → Option Process
+part_walk n whole t = Some (template_walk n t)
+part_walk n (keys.body_of number vs) t = option_and_then (body_walk n vs) (macro_numbered number t)
+part_walk n (rounds_of number) t = option_map (rounds_walk n) (rounds_numbered number t)
 
 -- what is around every run: the same for trees and codes
 abbrev pub head_of : Standing → Head
@@ -77,7 +93,7 @@ around_of setting root = record {
 -- the walk of each key, where a template is rendered or none is
 abbrev pub walks_of : Setting → Option Standing → Programs
 walks_of setting root = record {
-  process = λ n key. option_map (template_walk n) (tree_at setting root key);
+  process = λ n key. option_and_then (part_walk n key.part) (tree_of setting root key.stream);
   around = around_of setting root;
 }
 

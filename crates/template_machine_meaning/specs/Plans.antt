@@ -7,25 +7,33 @@ use Rattle.template_values_model.specs.Val.{Val}
 use Rattle.template_process.specs.Process.{Answer, done, value, Told, tells, fails, breaks_off}
 use Rattle.template_process.specs.Drive.{End, ends, faults, breaks}
 use Rattle.template_process.specs.Trace.{Item, paid, written, Reply, Run, ended, behind}
-use Rattle.template_machine_meaning.specs.World.{World, has_room}
+use Rattle.template_machine_meaning.specs.World.{Frame, World, has_room}
 use Rattle.template_machine_meaning.specs.Captures.{captured, innermost, around_innermost}
 use Rattle.template_machine_meaning.specs.Bodies.{Bodies, with_place}
+use Rattle.template_machine_meaning.specs.Closures.{writes_of}
+use Rattle.template_machine_meaning.specs.Turnings.{Turning, turned_by, turned}
 use Rattle.template_machine_meaning.specs.Replies.{refused}
 use Rattle.template_machine_meaning.specs.Keys.{standing, Stream, own, Part, whole, Key, whole_of}
 
--- why a run is entered, which says what is told at its end, and what is put back: a template is included; a block is called; or
--- the body behind the one of a block that runs, whose place is put back, by a name, or in the place of a print
+-- why a run is entered, which says what is told at its end, and what is put back: a template is included; a block is called, or
+-- its text is wanted; the body behind the one of a block that runs, whose place is put back, by a name, or in the place of a
+-- print; a macro is called; or the rounds of a loop, by a name, or in the place of a print
 pub data Purpose : Type 0 where
   includes : Purpose
   calls_block : Purpose
+  takes_block : Purpose
   calls_super : Bool → List ℕ → ℕ → Purpose
+  calls_macro : Purpose
+  runs_rounds : Bool → Purpose
 
--- a run within a run: what runs, where it begins, the kinds that wrap its faults, the outermost first, and its purpose
+-- a run within a run: what runs, where it begins, the kinds that wrap its faults, the outermost first, its purpose, and what is
+-- made of the value that it comes to, in turn
 pub record Within : Type 0 where
   pub key : Key
   pub begins : World
   pub wraps : List ErrorKind
   pub purpose : Purpose
+  pub behind : List Turning
 
 pub data Plan : Type 0 where
   replies : Reply World → Plan
@@ -35,8 +43,13 @@ pub data Plan : Type 0 where
 abbrev pub room_for : ℕ → ℕ → World → Within → Plan
 room_for limit levels w x = if has_room limit levels w then enters x else replies (refused w InvalidOperation)
 
--- what of a run's world is put back behind a run within it, whatever its end; and how many names were loaded, and frames and
--- captures open
+-- what is made of the value that a plan comes to
+abbrev pub with_turning : Turning → Plan → Plan
+with_turning t (replies r) = replies (record r { told = turned_by r.after t r.told })
+with_turning t (enters x) = enters (record x { behind = x.behind ++ t ∷ [] })
+
+-- what of a run's world is put back behind a run within it, whatever its end; the closure that the innermost frame writes; and
+-- how many names were loaded, and frames and captures open
 pub record Caller : Type 0 where
   pub here : Stream
   pub block : Option (List ℕ)
@@ -44,6 +57,8 @@ pub record Caller : Type 0 where
   pub blocks : List (List ℕ × Bodies)
   pub loaded : ℕ
   pub frames : ℕ
+  pub writes : Option ℕ
+  pub base : ℕ
   pub floor : ℕ
   pub outer : ℕ
   pub escape : AutoEscape
@@ -59,6 +74,8 @@ caller_of w = record {
   blocks = w.blocks;
   loaded = length w.loaded;
   frames = length w.frames;
+  writes = writes_of w.frames;
+  base = w.base;
   floor = w.floor;
   outer = w.outer;
   escape = w.escape;
@@ -78,6 +95,7 @@ put_back c v = record v {
   block = c.block;
   parent = c.parent;
   frames = outermost c.frames v.frames;
+  base = c.base;
   floor = c.floor;
   outer = c.outer;
   escape = c.escape;
@@ -86,18 +104,42 @@ put_back c v = record v {
   captures = outermost c.captures v.captures;
 }
 
--- behind an include these are put back as well, and behind `super()` the place among the block's bodies
-abbrev pub after_by : Purpose → Caller → World → World
-after_by includes c v = record (put_back c v) { blocks = c.blocks; loaded = outermost c.loaded v.loaded }
-after_by calls_block c v = put_back c v
-after_by (calls_super named name place) c v = record (put_back c v) { blocks = with_place name place v.blocks }
+-- the innermost frame writes this closure
+abbrev pub with_writes : Option ℕ → List Frame → List Frame
+with_writes number [] = []
+with_writes number (f ∷ fs) = record f { writes = number } ∷ fs
 
--- what is answered where the run within ended in a world: by a name, what it wrote
+-- behind an include and a macro these are put back as well, and behind an include the closure that the frame writes
+abbrev pub blocks_back : Caller → World → World
+blocks_back c v = record (put_back c v) { blocks = c.blocks; loaded = outermost c.loaded v.loaded }
+
+-- rounds belong to the run that called them: what it extends, and what is captured, stay; by a name, the capture ends that is
+-- the innermost one
+abbrev pub rounds_back : Bool → Caller → World → World
+rounds_back named c v =
+    record (put_back c v) { parent = v.parent; captures = if named then around_innermost v.captures else v.captures }
+
+-- behind `super()` the place among the block's bodies is put back
+abbrev pub after_by : Purpose → Caller → World → World
+after_by includes c v = record (blocks_back c v) { frames = with_writes c.writes (outermost c.frames v.frames) }
+after_by calls_block c v = put_back c v
+after_by takes_block c v = put_back c v
+after_by (calls_super named name place) c v = record (put_back c v) { blocks = with_place name place v.blocks }
+after_by calls_macro c v = blocks_back c v
+after_by (runs_rounds named) c v = rounds_back named c v
+
+-- the text of the capture that a run within began with
+abbrev pub own_text : Caller → World → Answer
+own_text c v = value (captured c.escape (innermost (outermost (suc c.captures) v.captures)))
+
+-- what is answered where the run within ended in a world: what it wrote, where that is wanted
 abbrev pub given : Purpose → Caller → World → Answer
 given includes c v = done
 given calls_block c v = done
-given (calls_super named name place) c v =
-    if named then value (captured c.escape (innermost (outermost (suc c.captures) v.captures))) else done
+given takes_block c v = own_text c v
+given (calls_super named name place) c v = if named then own_text c v else done
+given calls_macro c v = own_text c v
+given (runs_rounds named) c v = if named then value (captured c.escape (innermost v.captures)) else done
 
 -- a fault of a run within is wrapped
 abbrev pub wrapped_by : List ErrorKind → Item → Item
@@ -111,11 +153,13 @@ told_by wraps a _ = breaks_off
 
 -- what a run within comes to for the run that entered it
 abbrev pub came : World → Within → Run World → Reply World
-came w x r = record {
-  told = told_by x.wraps (given x.purpose (caller_of w) r.after) r.end;
-  items = map (wrapped_by x.wraps) r.items;
-  after = after_by x.purpose (caller_of w) r.after;
-}
+came w x r =
+    let after = after_by x.purpose (caller_of w) r.after in
+    record {
+      told = turned after x.behind (told_by x.wraps (given x.purpose (caller_of w) r.after) r.end);
+      items = map (wrapped_by x.wraps) r.items;
+      after = after;
+    }
 
 -- how keys run; there is nothing under some of them, and to enter these is refused
 abbrev pub Runners : Type 0

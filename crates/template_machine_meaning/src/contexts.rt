@@ -3,9 +3,10 @@
 ghost use Rattle.template_machine_meaning.specs.Isolation.{IsolatesExpressions, IsolatesNames};
 
 /// Over two contexts that agree on the names that a template and the templates that stand need, by
-/// themselves, in a block alone or as an import, and on those that the engine gives, a render leaves the
-/// same trace and comes to the same end, where no callable of a user's own asks for a name and where each
-/// import takes names and stores them under names.
+/// themselves, in a block alone, in the rounds of a recursive loop alone or as an import, and on those that
+/// the engine gives, a render leaves the same trace and comes to the same end, where no callable of a user's
+/// own asks for a name, where each import takes names and stores them under names, and where macros'
+/// parameters are names.
 pub fn isolation()
     ensures { IsolatesNames }
 {}

@@ -42,7 +42,7 @@ pub fn one_meaning()
     ensures { OneMeaning }
 {}
 
-/// Every expression whose constructs have a walk comes to its value, or to a fault, where there are no blocks.
+/// Every expression whose constructs have a walk comes to its value, or to a fault, where nothing that runs can be called.
 pub fn every_evaluation_gives()
     ensures { EveryEvaluationGives }
 {}
@@ -52,7 +52,7 @@ pub fn every_expression_gives()
     ensures { EveryExpressionGives }
 {}
 
-/// An expression does the same under every bound, where there are no blocks.
+/// An expression does the same under every bound, where nothing that runs can be called.
 pub fn evaluations_need_no_bound()
     ensures { EvaluationsNeedNoBound }
 {}

@@ -4,3 +4,4 @@ pub mod Segments
 pub mod Laws
 mod Parts
 pub mod Sets
+pub mod Enclosing

@@ -2,3 +2,4 @@ pub mod Names
 pub mod Among
 pub mod Dotted
 pub mod Goes
+pub mod Enclosed

@@ -4,14 +4,19 @@ use Rattle.template_values_model.specs.Val as values
 use Rattle.template_values_model.specs.Val.{Val}
 use Rattle.template_tree.specs.declared.operators.BinOpKind.{BinOpKind}
 use Rattle.template_tree.specs.declared.operators.BinOpKind.TheVariants.{ScAnd, ScOr}
-use Rattle.template_tree.specs.Tree.{Expression, Optional, Expressions, Links, Arguments, variable, constant, slice, unary, binary, chain, conditional, attribute, item, call, filtered, tested, list_literal, tuple_literal, map_literal, absent, given, no_expressions, expressions_more, no_links, links_more, no_arguments, arguments_more, positional, keyword, positional_spread, keyword_spread, Statement, Statements, Assignments, raw, print, for_loop, if_condition, with_block, set, set_block, auto_escape, filter_block, include, continue_loop, break_loop, do_call, no_statements, statements_more, no_assignments, assignments_more, Imports, block, import, from_import, extends, no_imports, imports_more}
+use Rattle.template_tree.specs.Tree.{Expression, Optional, Expressions, Links, Arguments, variable, constant, slice, unary, binary, chain, conditional, attribute, item, call, filtered, tested, list_literal, tuple_literal, map_literal, absent, given, no_expressions, expressions_more, no_links, links_more, no_arguments, arguments_more, positional, keyword, positional_spread, keyword_spread, Statement, Statements, Assignments, raw, print, for_loop, if_condition, with_block, set, set_block, auto_escape, filter_block, include, macro, continue_loop, break_loop, do_call, no_statements, statements_more, no_assignments, assignments_more, Imports, block, import, from_import, extends, no_imports, imports_more}
+use Rattle.template_tree.specs.Tree as tree
 use Rattle.template_process.specs.Process as events
-use Rattle.template_process.specs.Process.{Ask, look_up, operate, compare, get_attribute, get_item, get_slice, build_list, build_tuple, build_map, build_kwargs, merge_kwargs, spread, apply_filter, perform_test, call_function, call_method, call_value, store, set_attribute, truth_of, unpack, spread, write_raw, write_value, call_block, super_block, load_blocks, export_locals, open_frame, close_frame, plain_loop, open_loop, next_item, did_not_iterate, close_loop, open_escape, close_escape, begin_capture, end_capture, Process, over, step, asks, cut_short, on_done, on_value, on_truth, on_item, on_all, Below}
-use Rattle.template_process.proofs.Below.{below-cut_short, below-over, below-step, below-asks_done, below-asks_value, below-asks_truth, below-asks_item, below-asks_items, below-asks_all}
+use Rattle.template_names.specs.Enclosed.{enclosed_names}
+use Rattle.template_process.specs.Process.{Counts, no_counts, counted_together, Making, Ask, enclose, get_closure, build_macro, recurse, look_up, operate, compare, get_attribute, get_item, get_slice, build_list, build_tuple, build_map, build_kwargs, merge_kwargs, spread, apply_filter, perform_test, call_function, call_method, call_value, store, set_attribute, truth_of, unpack, spread, write_raw, write_value, call_block, super_block, load_blocks, export_locals, open_frame, close_frame, open_loop, next_item, did_not_iterate, close_loop, open_escape, close_escape, begin_capture, end_capture, Process, over, step, asks, cut_short, on_done, on_value, on_truth, on_item, on_all, Below}
+use Rattle.template_process.proofs.Below.{below-cut_short, below-over, below-step, below-asks_done, below-asks_value, below-asks_truth, below-asks_item, below-asks_items, below-asks_all, below-asks_closure}
 use Rattle.template_walk.specs.Constants.{constant_of}
 use Rattle.template_walk.specs.Expressions.{folded, unary_ask, binary_walk, Giving, Passing, alone, spreads, listed, stretches_walk, mapped, entries_stretches, has_spread, merged_if, keywords_walk, run_if, passed_walk, Callee, by_name, by_method, by_block, by_value, callee_of, called_walk, expression_walk, object_walk, positional_walks, keyword_walks, optional_walk, expressions_walk, walks_of, entries_walk, chain_walk, linked_walk, filter_walk, filters_walk}
-use Rattle.template_walk.specs.Statements.{Exits, Printed, prints_value, prints_block, prints_super, printed_of, printed_walk, imported_names, stored_as, imports_stored, apart, outside, closing, capture_left, capturing, number_of, target_walk, targets_walk, assignments_walk, rounds, nameless_loop, kept_rounds, sifting, iterable_walk, loop_end, past, statement_walk, statements_walk}
-use Rattle.template_walk.specs.Laws.{WalksRise}
+use Rattle.template_walk.specs.Statements.{Exits, Printed, prints_value, prints_block, prints_super, prints_rounds, printed_of, printed_walk, imported_names, stored_as, imports_stored, apart, outside, closing, capture_left, capturing, number_of, target_walk, targets_walk, assignments_walk, rounds, looping_behind, nameless_loop, kept_rounds, sifting, iterable_walk, loop_end, past, making_of, enclosed_walk, making_walk, declared_walk, caller_name, calling_walk, argument_walk, first_of, rest_of, arguments_walk, macro_walk, rounds_walk, statement_walk, statements_walk}
+use Rattle.template_values_operators.specs.Kinds.{is_undefined}
+use Rattle.template_names.specs.Names.{reversed}
+use Rattle.template_walk.specs.Counting.{loop_counts, counts_by, counts_among, MacroBody, LoopRounds}
+use Rattle.template_walk.specs.Laws.{WalksRise, MacrosRise, RoundsRise}
 
 -- the second goes further, whatever value it is given
 abbrev Follows : (Val → Process) → (Val → Process) → Type 0
@@ -279,6 +284,7 @@ lift_printed : (printed : Printed) (gives : Giving) → Lifts gives → (p q : P
 lift_printed prints_value gives f p q h = f _ _ (λ v. step_done (write_value v) p q h)
 lift_printed (prints_block name) gives f p q h = step_done (call_block name) p q h
 lift_printed prints_super gives f p q h = step_done super_block p q h
+lift_printed (prints_rounds e) gives f p q h = lift e _ _ (λ v. step_done (recurse v) p q h)
 
 lift_imports : (names : Imports) (vs : List Val) (p q : Process) → Below p q → Below (imports_stored names vs p) (imports_stored names vs q)
 lift_imports no_imports vs p q h = h
@@ -288,53 +294,106 @@ lift_imports (imports_more e alias more) (v ∷ vs) p q h = lift_imports more vs
 lift_apart : (e : Expression) (p q : Process) → Below p q → Below (apart e p) (apart e q)
 lift_apart e p q h = below-asks_done open_frame _ _ (lift e _ _ (λ v. step_done (events.include false v) p q h))
 
+lift_enclosed : (names : List (List ℕ)) (p q : Process) → Below p q → Below (enclosed_walk names p) (enclosed_walk names q)
+lift_enclosed [] p q h = h
+lift_enclosed (name ∷ names) p q h = step_done (enclose name) _ _ (lift_enclosed names p q h)
+
+lift_making : (making : Making) (names : List (List ℕ)) → Lifts (making_walk making names)
+lift_making making names go on h =
+    below-step _ _ (lift_enclosed names _ _ (below-step _ _ (below-asks_closure get_closure _ _ (λ c. below-asks_value (build_macro making c) go on h))))
+
+-- so do the arguments and the keyword that is behind them
+and_last : (args : List (Passing (List ℕ × Giving) Giving)) (name : List ℕ) (walk : Giving) → EachPassed value_walk args → Lifts walk
+    → EachPassed value_walk (args ++ alone (name, walk) ∷ [])
+and_last [] name walk none_passed f = alone_more f none_passed
+and_last (alone x ∷ args) name walk (alone_more g each) f = alone_more g (and_last args name walk each f)
+and_last (spreads x ∷ args) name walk (spread_more g each) f = spread_more g (and_last args name walk each f)
+
+lift_calling : (callee : Expression) (passed : Arguments) (caller : Giving) → Lifts caller → Lifts (calling_walk callee passed caller)
+lift_calling callee passed caller f go on h =
+    lift_called (callee_of callee passed) (expression_walk callee) (object_walk callee) (lift callee) (lift_object callee)
+    (positional_walks passed) (lift_positional passed) (keyword_walks passed ++ alone (caller_name, caller) ∷ [])
+    (and_last (keyword_walks passed) caller_name caller (lift_keyword passed) f) go on h
+
 mutual
-  lift_statement : (n m : ℕ) → n ≤ m → (s : Statement) (x y : Exits) (p q : Process) → Leads x y → Below p q → Below (statement_walk n s x p) (statement_walk m s y q)
-  lift_statement n m less (raw text) x y p q leads h = step_done (write_raw text) p q h
-  lift_statement n m less (print e) x y p q leads h = lift_printed (printed_of e) (expression_walk e) (lift e) p q h
-  lift_statement n m less (for_loop target e condition false body otherwise) x y p q leads h =
-      lift_iterable n m less target e condition _ _ (λ v. below-asks_done (open_loop plain_loop v) _ _
-      (lift_rounds n m less _ _ (λ item k l r s inner i. lift_target target item _ _ (lift_statements n m less body k l r s inner i)) _ _
-      (lift_end otherwise _ _ _ _ (lift_statements n m less otherwise x y p q leads h) h)))
-  lift_statement n m less (if_condition e body otherwise) x y p q leads h =
-      lift e _ _ (λ v. step_truth (truth_of v) _ _ _ _ (lift_statements n m less body x y _ _ leads (lift_past otherwise p q h)) (lift_statements n m less otherwise x y p q leads h))
-  lift_statement n m less (with_block assignments body) x y p q leads h =
+  lift_statement : (n m : ℕ) → n ≤ m → (first : Counts) (s : Statement) (x y : Exits) (p q : Process) → Leads x y → Below p q → Below (statement_walk n first s x p) (statement_walk m first s y q)
+  lift_statement n m less first (raw text) x y p q leads h = step_done (write_raw text) p q h
+  lift_statement n m less first (print e) x y p q leads h = lift_printed (printed_of e) (expression_walk e) (lift e) p q h
+  lift_statement n m less first (for_loop target e condition recursive body otherwise) x y p q leads h =
+      let own = counted_together first (loop_counts recursive) in
+      lift_iterable n m less target e condition _ _ (λ v. below-asks_done (open_loop (looping_behind recursive first) v) _ _
+      (lift_rounds n m less _ _ (λ item k l r s inner i. lift_target target item _ _ (lift_statements n m less own body k l r s inner i)) _ _
+      (lift_end otherwise _ _ _ _ (lift_statements n m less (counted_together own (counts_among body)) otherwise x y p q leads h) h)))
+  lift_statement n m less first (if_condition e body otherwise) x y p q leads h =
+      lift e _ _ (λ v. step_truth (truth_of v) _ _ _ _ (lift_statements n m less first body x y _ _ leads (lift_past otherwise p q h))
+      (lift_statements n m less (counted_together first (counts_among body)) otherwise x y p q leads h))
+  lift_statement n m less first (with_block assignments body) x y p q leads h =
       below-asks_done open_frame _ _ (lift_assignments assignments _ _
-      (lift_statements n m less body _ _ _ _ (leads_closing close_frame x y leads) (below-asks_done close_frame p q h)))
-  lift_statement n m less (set target e) x y p q leads h = lift e _ _ (λ v. lift_target target v p q h)
-  lift_statement n m less (set_block target absent body) x y p q leads h =
+      (lift_statements n m less first body _ _ _ _ (leads_closing close_frame x y leads) (below-asks_done close_frame p q h)))
+  lift_statement n m less first (set target e) x y p q leads h = lift e _ _ (λ v. lift_target target v p q h)
+  lift_statement n m less first (set_block target absent body) x y p q leads h =
       below-asks_done (begin_capture true) _ _
-      (lift_statements n m less body _ _ _ _ (leads_capturing x y leads) (step_value end_capture _ _ (λ text. lift_target target text p q h)))
-  lift_statement n m less (set_block target (given filters) body) x y p q leads h =
+      (lift_statements n m less first body _ _ _ _ (leads_capturing x y leads) (step_value end_capture _ _ (λ text. lift_target target text p q h)))
+  lift_statement n m less first (set_block target (given filters) body) x y p q leads h =
       below-asks_done (begin_capture true) _ _
-      (lift_statements n m less body _ _ _ _ (leads_capturing x y leads)
+      (lift_statements n m less first body _ _ _ _ (leads_capturing x y leads)
       (step_value end_capture _ _ (λ text. lift_filters filters text _ _ (λ v. lift_target target v p q h))))
-  lift_statement n m less (auto_escape e body) x y p q leads h =
+  lift_statement n m less first (auto_escape e body) x y p q leads h =
       lift e _ _ (λ v. below-asks_done (open_escape v) _ _
-      (lift_statements n m less body _ _ _ _ (leads_closing close_escape x y leads) (below-asks_done close_escape p q h)))
-  lift_statement n m less (filter_block filters body) x y p q leads h =
+      (lift_statements n m less first body _ _ _ _ (leads_closing close_escape x y leads) (below-asks_done close_escape p q h)))
+  lift_statement n m less first (filter_block filters body) x y p q leads h =
       below-asks_done (begin_capture true) _ _
-      (lift_statements n m less body _ _ _ _ (leads_capturing x y leads)
+      (lift_statements n m less first body _ _ _ _ (leads_capturing x y leads)
       (step_value end_capture _ _ (λ text. lift_filters filters text _ _ (λ v. step_done (write_value v) p q h))))
-  lift_statement n m less (block name required body) x y p q leads h = step_done (call_block name) p q h
-  lift_statement n m less (import e target) x y p q leads h =
+  lift_statement n m less first (block name required body) x y p q leads h = step_done (call_block name) p q h
+  lift_statement n m less first (import e target) x y p q leads h =
       below-asks_done (begin_capture true) _ _ (lift_apart e _ _
       (step_value end_capture _ _ (λ text. below-asks_value (export_locals text) _ _ (λ m. below-asks_done close_frame _ _ (lift_target target m p q h)))))
-  lift_statement n m less (from_import e names) x y p q leads h =
+  lift_statement n m less first (from_import e names) x y p q leads h =
       below-asks_done (begin_capture false) _ _ (lift_apart e _ _
       (lift_all (imported_names names) _ _ (λ vs. below-asks_done close_frame _ _
       (lift_imports names vs _ _ (step_value end_capture _ _ (λ dropped. h))))))
-  lift_statement n m less (extends e) x y p q leads h = lift e _ _ (λ v. below-asks_done (load_blocks v) p q h)
-  lift_statement n m less (include e ignore_missing) x y p q leads h = lift e _ _ (λ v. step_done (events.include ignore_missing v) p q h)
-  lift_statement n m less (do_call callee args) x y p q leads h = lift (call callee args) _ _ (λ v. h)
-  lift_statement n m less continue_loop x y p q leads h = leads.on_continue
-  lift_statement n m less break_loop x y p q leads h = leads.on_break
-  lift_statement n m less _ x y p q leads h = below-cut_short _
+  lift_statement n m less first (extends e) x y p q leads h = lift e _ _ (λ v. below-asks_done (load_blocks v) p q h)
+  lift_statement n m less first (include e ignore_missing) x y p q leads h = lift e _ _ (λ v. step_done (events.include ignore_missing v) p q h)
+  lift_statement n m less first (macro name arguments defaults body) x y p q leads h =
+      lift_making (making_of first name arguments defaults body) (enclosed_names arguments defaults body) _ _ (λ v. step_done (store name v) p q h)
+  lift_statement n m less first (tree.call_block callee passed arguments defaults body) x y p q leads h =
+      lift_calling callee passed (declared_walk first caller_name arguments defaults body)
+      (lift_making (making_of first caller_name arguments defaults body) (enclosed_names arguments defaults body)) _ _ (λ v. step_done (write_value v) p q h)
+  lift_statement n m less first (do_call callee args) x y p q leads h = lift (call callee args) _ _ (λ v. h)
+  lift_statement n m less first continue_loop x y p q leads h = leads.on_continue
+  lift_statement n m less first break_loop x y p q leads h = leads.on_break
+  lift_statement n m less first _ x y p q leads h = below-cut_short _
 
-  lift_statements : (n m : ℕ) → n ≤ m → (ss : Statements) (x y : Exits) (p q : Process) → Leads x y → Below p q → Below (statements_walk n ss x p) (statements_walk m ss y q)
-  lift_statements n m less no_statements x y p q leads h = h
-  lift_statements n m less (statements_more s ss) x y p q leads h = lift_statement n m less s x y _ _ leads (lift_statements n m less ss x y p q leads h)
+  lift_statements : (n m : ℕ) → n ≤ m → (first : Counts) (ss : Statements) (x y : Exits) (p q : Process) → Leads x y → Below p q → Below (statements_walk n first ss x p) (statements_walk m first ss y q)
+  lift_statements n m less first no_statements x y p q leads h = h
+  lift_statements n m less first (statements_more s ss) x y p q leads h = lift_statement n m less first s x y _ _ leads (lift_statements n m less (counted_together first (counts_by s)) ss x y p q leads h)
 
 pub walks_rise : WalksRise
 walks_rise tree n m less =
-    lift_statements n m less tree outside outside (over []) (over []) (record { on_break = below-cut_short _; on_continue = below-cut_short _ }) (below-over [])
+    lift_statements n m less no_counts tree outside outside (over []) (over []) (record { on_break = below-cut_short _; on_continue = below-cut_short _ }) (below-over [])
+
+-- so do the body of a macro, over its arguments, and the rounds of a loop
+abbrev closed_ways : Leads outside outside
+closed_ways = record { on_break = below-cut_short _; on_continue = below-cut_short _ }
+
+lift_argument : (target : Expression) (o : Optional) (v : Val) (p q : Process) → Below p q → Below (argument_walk target o v p) (argument_walk target o v q)
+lift_argument target absent v p q h = lift_target target v p q h
+lift_argument target (given default) v p q h =
+    below-step _ _ (step_truth (truth_of (values.truth (is_undefined v))) _ _ _ _ (lift default _ _ (λ w. lift_target target w p q h)) (lift_target target v p q h))
+
+lift_arguments : (targets defaults : Expressions) (vs : List Val) (p q : Process) → Below p q → Below (arguments_walk targets defaults vs p) (arguments_walk targets defaults vs q)
+lift_arguments no_expressions defaults vs p q h = h
+lift_arguments (expressions_more target targets) defaults [] p q h = h
+lift_arguments (expressions_more target targets) defaults (v ∷ vs) p q h =
+    lift_argument target (first_of defaults) v _ _ (lift_arguments targets (rest_of defaults) vs p q h)
+
+pub macros_rise : MacrosRise
+macros_rise b vs n m less =
+    lift_arguments (reversed b.arguments no_expressions) (reversed b.defaults no_expressions) vs _ _
+    (lift_statements n m less b.first b.body outside outside (over []) (over []) closed_ways (below-over []))
+
+pub rounds_rise : RoundsRise
+rounds_rise r n m less =
+    lift_rounds n m less _ _ (λ item k l x y inner i. lift_target r.target item _ _ (lift_statements n m less r.first r.body k l x y inner i)) _ _
+    (lift_end r.otherwise cut_short cut_short cut_short cut_short (below-cut_short _) (below-cut_short _))

@@ -2,6 +2,7 @@ pub mod Operators
 pub mod Containers
 pub mod Constants
 pub mod Expressions
+pub mod Counting
 pub mod Statements
 pub mod Runnable
 pub mod Blocks

@@ -1,22 +1,12 @@
--- The trees whose constructs have a walk today. What holds another construct is refused where it is added.
-use Rattle.std.specs.Prelude.{◌≡◌, ℕ, Bool, true, false, List, IsTrue, codes}
-use Rattle.std.specs.Str.{bytes_eq}
-use Rattle.template_tree.specs.Tree.{Expression, Optional, Expressions, Links, Arguments, Argument, variable, constant, slice, unary, binary, chain, conditional, attribute, item, call, filtered, tested, list_literal, tuple_literal, map_literal, absent, given, no_expressions, expressions_more, no_links, links_more, no_arguments, arguments_more, positional, keyword, positional_spread, keyword_spread, Statement, Statements, Assignments, Imports, raw, print, for_loop, if_condition, with_block, set, set_block, auto_escape, filter_block, block, import, from_import, extends, include, continue_loop, break_loop, do_call, no_statements, statements_more, no_assignments, assignments_more, no_imports, imports_more}
+-- The trees that have a walk: all that are read. What stands where none may stand is refused where it is added.
+use Rattle.std.specs.Prelude.{Bool, true, false, IsTrue}
+use Rattle.template_tree.specs.Tree.{Expression, Optional, Expressions, Links, Arguments, Argument, variable, constant, slice, unary, binary, chain, conditional, attribute, item, call, filtered, tested, list_literal, tuple_literal, map_literal, absent, given, no_expressions, expressions_more, no_links, links_more, no_arguments, arguments_more, positional, keyword, positional_spread, keyword_spread, Statement, Statements, Assignments, Imports, raw, print, for_loop, if_condition, with_block, set, set_block, auto_escape, filter_block, block, import, from_import, extends, include, macro, call_block, continue_loop, break_loop, do_call, no_statements, statements_more, no_assignments, assignments_more, no_imports, imports_more}
 use Rattle.template_walk.specs.Statements.{stored_as}
 
--- the engine gives this name, in macros, a value that is not there yet
-abbrev pub is_kept_back : List ℕ → Bool
-is_kept_back name = bytes_eq name (codes "caller")
-
--- the rounds of a loop can't be called again yet
-abbrev pub is_loop_called : Expression → Bool
-is_loop_called (variable name) = bytes_eq name (codes "loop")
-is_loop_called _ = false
-
 abbrev mutual
-  -- names that are not kept back, constants, operators, items, slices, containers, calls, filters and tests
+  -- names, constants, operators, items, slices, containers, calls, filters and tests
   pub IsRunnable : Expression → Type 0
-  IsRunnable (variable name) = is_kept_back name ≡ false
+  IsRunnable (variable name) = Unit {0}
   IsRunnable (constant v) = Unit {0}
   IsRunnable (slice e start stop by) = IsRunnable e × IsRunnableIfGiven start × IsRunnableIfGiven stop × IsRunnableIfGiven by
   IsRunnable (unary op e) = IsRunnable e
@@ -25,7 +15,7 @@ abbrev mutual
   IsRunnable (conditional test branch otherwise) = IsRunnable test × IsRunnable branch × IsRunnableIfGiven otherwise
   IsRunnable (attribute e name) = IsRunnable e
   IsRunnable (item e key) = IsRunnable e × IsRunnable key
-  IsRunnable (call callee args) = IsRunnable callee × (is_loop_called callee ≡ false) × AreRunnableArguments args
+  IsRunnable (call callee args) = IsRunnable callee × AreRunnableArguments args
   IsRunnable (filtered name (given e) args) = IsRunnable e × AreRunnableArguments args
   IsRunnable (tested name e args) = IsRunnable e × AreRunnableArguments args
   IsRunnable (list_literal es) = AreRunnable es
@@ -86,11 +76,11 @@ AreImports no_imports = Unit {0}
 AreImports (imports_more e alias more) = IsRunnable e × IsTarget (stored_as e alias) × AreImports more
 
 abbrev mutual
-  -- `break` and `continue` stand in loops alone, as the first argument says; none leads out of a block
+  -- `break` and `continue` stand in loops alone, as the first argument says; none leads out of a block or of a macro
   pub IsRunnableStatement : Bool → Statement → Type 0
   IsRunnableStatement looping (raw text) = Unit {0}
   IsRunnableStatement looping (print e) = IsRunnable e
-  IsRunnableStatement looping (for_loop target e condition false body otherwise) =
+  IsRunnableStatement looping (for_loop target e condition recursive body otherwise) =
       IsTarget target × IsRunnable e × IsRunnableIfGiven condition × AreRunnableStatements true body × AreRunnableStatements looping otherwise
   IsRunnableStatement looping (if_condition e body otherwise) =
       IsRunnable e × AreRunnableStatements looping body × AreRunnableStatements looping otherwise
@@ -106,6 +96,10 @@ abbrev mutual
   IsRunnableStatement looping (from_import e names) = IsRunnable e × AreImports names
   IsRunnableStatement looping (extends e) = IsRunnable e
   IsRunnableStatement looping (include e ignore_missing) = IsRunnable e
+  IsRunnableStatement looping (macro name arguments defaults body) =
+      AreTargets arguments × AreRunnable defaults × AreRunnableStatements false body
+  IsRunnableStatement looping (call_block callee passed arguments defaults body) =
+      IsRunnable (call callee passed) × AreTargets arguments × AreRunnable defaults × AreRunnableStatements false body
   IsRunnableStatement looping (do_call callee args) = IsRunnable (call callee args)
   IsRunnableStatement looping continue_loop = IsTrue looping
   IsRunnableStatement looping break_loop = IsTrue looping

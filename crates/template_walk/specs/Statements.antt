@@ -1,12 +1,18 @@
 -- The walk of statements: their events in the order of execution, and between them the priced steps. A loop does at
 -- most so many rounds as the bound says.
-use Rattle.std.specs.Prelude.{ℕ, zero, suc, Bool, true, false, ◌&&◌, List, [], ◌∷◌, ◌++◌, None, codes, bytes_eq, if◌then◌else◌}
+use Rattle.std.specs.Prelude.{ℕ, ◌+◌, zero, suc, Bool, true, false, ◌&&◌, List, [], ◌∷◌, ◌++◌, Option, None, Some, codes, bytes_eq, if◌then◌else◌}
+use Rattle.template_values_model.specs.Val as values
 use Rattle.template_values_model.specs.Val.{Val}
-use Rattle.template_tree.specs.Tree.{Expression, Optional, Expressions, Arguments, Statement, Statements, Assignments, Imports, variable, attribute, list_literal, call, absent, given, no_expressions, expressions_more, raw, print, for_loop, if_condition, with_block, set, set_block, auto_escape, filter_block, block, import, from_import, extends, include, continue_loop, break_loop, do_call, no_statements, statements_more, no_assignments, assignments_more, no_imports, imports_more}
+use Rattle.template_values_operators.specs.Kinds.{is_undefined}
+use Rattle.template_tree.specs.Tree as tree
+use Rattle.template_tree.specs.Tree.{Expression, Optional, Expressions, Arguments, positional, no_arguments, arguments_more, Statement, Statements, Assignments, Imports, variable, attribute, list_literal, call, absent, given, no_expressions, expressions_more, raw, print, for_loop, if_condition, with_block, set, set_block, auto_escape, filter_block, block, import, from_import, extends, include, macro, continue_loop, break_loop, do_call, no_statements, statements_more, no_assignments, assignments_more, no_imports, imports_more}
 use Rattle.template_tree.specs.Kinds.{is_empty}
 use Rattle.template_process.specs.Process as events
-use Rattle.template_process.specs.Process.{Ask, store, set_attribute, unpack, spread, build_list, write_raw, write_value, open_frame, close_frame, Looping, plain_loop, open_loop, next_item, did_not_iterate, close_loop, open_escape, close_escape, begin_capture, end_capture, call_block, super_block, load_blocks, export_locals, Process, over, step, asks, cut_short, on_done, on_value, on_item, on_items, on_all, done_asked, value_asked, truth_asked}
-use Rattle.template_walk.specs.Expressions.{Giving, Callee, by_name, by_block, callee_of, expression_walk, expressions_walk, filters_walk}
+use Rattle.template_process.specs.Process.{Counts, no_counts, counted_together, Making, Ask, store, set_attribute, unpack, spread, build_list, write_raw, write_value, open_frame, close_frame, Looping, open_loop, next_item, did_not_iterate, close_loop, open_escape, close_escape, begin_capture, end_capture, enclose, get_closure, build_macro, call_block, recurse, super_block, load_blocks, export_locals, Process, over, step, asks, cut_short, on_done, on_value, on_item, on_items, on_all, on_closure, done_asked, value_asked, truth_asked}
+use Rattle.template_names.specs.Names.{reversed}
+use Rattle.template_names.specs.Enclosed.{enclosed_names, uses_caller}
+use Rattle.template_walk.specs.Expressions.{Giving, alone, passed_walk, Callee, by_name, by_block, callee_of, called_walk, expression_walk, expressions_walk, object_walk, positional_walks, keyword_walks, filters_walk}
+use Rattle.template_walk.specs.Counting.{loop_counts, counts_by, counts_among, MacroBody, LoopRounds}
 
 -- where `break` and `continue` lead
 pub record Exits : Type 0 where
@@ -58,6 +64,10 @@ rounds (suc n) round finished =
     let again = step (rounds n round finished) in
     step (asks next_item (on_item (λ v. round v (record { on_break = step finished; on_continue = again }) again) finished))
 
+-- a loop has its variable, and a number behind so many if it may be called again
+abbrev pub looping_behind : Bool → Counts → Looping
+looping_behind recursive first = record { variable = true; rounds = if recursive then Some first.rounds else None }
+
 -- a loop without its variable
 abbrev pub nameless_loop : Looping
 nameless_loop = record { variable = false; rounds = None }
@@ -89,17 +99,27 @@ loop_end no_statements otherwise go = asks close_loop (on_done go)
 loop_end (statements_more s ss) otherwise go =
     asks did_not_iterate (on_value (λ flag. asks close_loop (on_done (truth_asked flag otherwise go))))
 
--- what a print writes: a value; or what a block, or `super()`, writes by itself
+-- what a print writes: a value; or what a block, `super()`, or the rounds of the loop over a value write by themselves
 pub data Printed : Type 0 where
   prints_value : Printed
   prints_block : List ℕ → Printed
   prints_super : Printed
+  prints_rounds : Expression → Printed
 
 abbrev pub is_super_name : List ℕ → Bool
 is_super_name name = bytes_eq name (codes "super")
 
+abbrev pub is_loop_name : List ℕ → Bool
+is_loop_name name = bytes_eq name (codes "loop")
+
+-- `loop` is called with one plain argument
+abbrev pub printed_rounds : Arguments → Printed
+printed_rounds (arguments_more (positional e) no_arguments) = prints_rounds e
+printed_rounds _ = prints_value
+
 abbrev pub printed_by : Callee → Arguments → Printed
-printed_by (by_name name) args = if is_super_name name && is_empty args then prints_super else prints_value
+printed_by (by_name name) args =
+    if is_super_name name && is_empty args then prints_super else if is_loop_name name then printed_rounds args else prints_value
 printed_by (by_block name) args = prints_block name
 printed_by _ args = prints_value
 
@@ -111,6 +131,7 @@ abbrev pub printed_walk : Printed → Giving → Process → Process
 printed_walk prints_value gives go = gives (λ v. done_asked (write_value v) go)
 printed_walk (prints_block name) gives go = done_asked (call_block name) go
 printed_walk prints_super gives go = done_asked super_block go
+printed_walk (prints_rounds e) gives go = expression_walk e (λ v. done_asked (recurse v) go)
 
 -- the names that are imported, and where each is stored: under itself, or under its alias
 abbrev pub imported_names : Imports → Expressions
@@ -135,54 +156,131 @@ abbrev pub past : Statements → Process → Process
 past no_statements go = go
 past (statements_more s ss) go = step go
 
+-- the texts of the names of parameters
+abbrev pub name_text : Expression → Val
+name_text (variable name) = values.text name
+name_text _ = values.text []
+
+abbrev pub name_texts : Expressions → List Val
+name_texts no_expressions = []
+name_texts (expressions_more e es) = name_text e ∷ name_texts es
+
+-- the making of a macro whose body stands behind so many
+abbrev pub making_of : Counts → List ℕ → Expressions → Expressions → Statements → Making
+making_of first name arguments defaults body = record {
+  name = name;
+  arguments = name_texts arguments;
+  caller = uses_caller arguments defaults body;
+  number = (counted_together first (counts_among body)).macros;
+}
+
+abbrev pub enclosed_walk : List (List ℕ) → Process → Process
+enclosed_walk [] go = go
+enclosed_walk (name ∷ names) go = done_asked (enclose name) (enclosed_walk names go)
+
+-- a macro is made: a step leads past its body; its closure gets the names that it encloses
+abbrev pub making_walk : Making → List (List ℕ) → Giving
+making_walk making names go = step (enclosed_walk names (step (asks get_closure (on_closure (λ c. asks (build_macro making c) (on_value go))))))
+
+abbrev pub declared_walk : Counts → List ℕ → Expressions → Expressions → Statements → Giving
+declared_walk first name arguments defaults body go =
+    making_walk (making_of first name arguments defaults body) (enclosed_names arguments defaults body) go
+
+abbrev pub caller_name : List ℕ
+caller_name = codes "caller"
+
+-- the call of a call block: what its body is made is the last keyword, but where a block is called
+abbrev pub calling_walk : Expression → Arguments → Giving → Giving
+calling_walk callee passed caller go =
+    called_walk (callee_of callee passed) (expression_walk callee) (object_walk callee)
+    (λ front. passed_walk front (positional_walks passed) (keyword_walks passed ++ alone (caller_name, caller) ∷ [])) go
+
 abbrev mutual
-  pub statement_walk : ℕ → Statement → Exits → Process → Process
-  statement_walk n (raw text) exits go = done_asked (write_raw text) go
-  statement_walk n (print e) exits go = printed_walk (printed_of e) (expression_walk e) go
-  statement_walk n (for_loop target e condition false body otherwise) exits go =
-      iterable_walk n target e condition (λ v. asks (open_loop plain_loop v) (on_done
-      (rounds n (λ item inner again. target_walk target item (statements_walk n body inner again))
-      (loop_end otherwise (statements_walk n otherwise exits go) go))))
-  statement_walk n (if_condition e body otherwise) exits go =
-      expression_walk e (λ v. truth_asked v (statements_walk n body exits (past otherwise go)) (statements_walk n otherwise exits go))
-  statement_walk n (with_block assignments body) exits go =
+  pub statement_walk : ℕ → Counts → Statement → Exits → Process → Process
+  statement_walk n first (raw text) exits go = done_asked (write_raw text) go
+  statement_walk n first (print e) exits go = printed_walk (printed_of e) (expression_walk e) go
+  statement_walk n first (for_loop target e condition recursive body otherwise) exits go =
+      let own = counted_together first (loop_counts recursive) in
+      iterable_walk n target e condition (λ v. asks (open_loop (looping_behind recursive first) v) (on_done
+      (rounds n (λ item inner again. target_walk target item (statements_walk n own body inner again))
+      (loop_end otherwise (statements_walk n (counted_together own (counts_among body)) otherwise exits go) go))))
+  statement_walk n first (if_condition e body otherwise) exits go =
+      expression_walk e (λ v. truth_asked v (statements_walk n first body exits (past otherwise go))
+      (statements_walk n (counted_together first (counts_among body)) otherwise exits go))
+  statement_walk n first (with_block assignments body) exits go =
       asks open_frame (on_done (assignments_walk assignments
-      (statements_walk n body (closing close_frame exits) (asks close_frame (on_done go)))))
-  statement_walk n (set target e) exits go = expression_walk e (λ v. target_walk target v go)
-  statement_walk n (set_block target absent body) exits go =
+      (statements_walk n first body (closing close_frame exits) (asks close_frame (on_done go)))))
+  statement_walk n first (set target e) exits go = expression_walk e (λ v. target_walk target v go)
+  statement_walk n first (set_block target absent body) exits go =
       asks (begin_capture true) (on_done
-      (statements_walk n body (capturing exits) (value_asked end_capture (λ text. target_walk target text go))))
-  statement_walk n (set_block target (given filters) body) exits go =
+      (statements_walk n first body (capturing exits) (value_asked end_capture (λ text. target_walk target text go))))
+  statement_walk n first (set_block target (given filters) body) exits go =
       asks (begin_capture true) (on_done
-      (statements_walk n body (capturing exits) (value_asked end_capture (λ text. filters_walk filters text (λ v. target_walk target v go)))))
-  statement_walk n (auto_escape e body) exits go =
+      (statements_walk n first body (capturing exits) (value_asked end_capture (λ text. filters_walk filters text (λ v. target_walk target v go)))))
+  statement_walk n first (auto_escape e body) exits go =
       expression_walk e (λ v. asks (open_escape v) (on_done
-      (statements_walk n body (closing close_escape exits) (asks close_escape (on_done go)))))
-  statement_walk n (filter_block filters body) exits go =
+      (statements_walk n first body (closing close_escape exits) (asks close_escape (on_done go)))))
+  statement_walk n first (filter_block filters body) exits go =
       asks (begin_capture true) (on_done
-      (statements_walk n body (capturing exits) (value_asked end_capture (λ text. filters_walk filters text (λ v. done_asked (write_value v) go)))))
-  statement_walk n (block name required body) exits go = done_asked (call_block name) go
-  statement_walk n (import e target) exits go =
+      (statements_walk n first body (capturing exits) (value_asked end_capture (λ text. filters_walk filters text (λ v. done_asked (write_value v) go)))))
+  statement_walk n first (block name required body) exits go = done_asked (call_block name) go
+  statement_walk n first (import e target) exits go =
       asks (begin_capture true) (on_done (apart e
       (value_asked end_capture (λ text. asks (export_locals text) (on_value (λ m. asks close_frame (on_done (target_walk target m go))))))))
-  statement_walk n (from_import e names) exits go =
+  statement_walk n first (from_import e names) exits go =
       asks (begin_capture false) (on_done (apart e
       (expressions_walk (imported_names names) (λ vs. asks close_frame (on_done
       (imports_stored names vs (value_asked end_capture (λ dropped. go))))))))
-  statement_walk n (extends e) exits go = expression_walk e (λ v. asks (load_blocks v) (on_done go))
-  statement_walk n (include e ignore_missing) exits go = expression_walk e (λ v. done_asked (events.include ignore_missing v) go)
-  statement_walk n (do_call callee args) exits go = expression_walk (call callee args) (λ v. go)
-  statement_walk n continue_loop exits go = exits.on_continue
-  statement_walk n break_loop exits go = exits.on_break
-  statement_walk n _ exits go = cut_short
+  statement_walk n first (extends e) exits go = expression_walk e (λ v. asks (load_blocks v) (on_done go))
+  statement_walk n first (include e ignore_missing) exits go = expression_walk e (λ v. done_asked (events.include ignore_missing v) go)
+  statement_walk n first (macro name arguments defaults body) exits go =
+      declared_walk first name arguments defaults body (λ v. done_asked (store name v) go)
+  statement_walk n first (tree.call_block callee passed arguments defaults body) exits go =
+      calling_walk callee passed (declared_walk first caller_name arguments defaults body) (λ v. done_asked (write_value v) go)
+  statement_walk n first (do_call callee args) exits go = expression_walk (call callee args) (λ v. go)
+  statement_walk n first continue_loop exits go = exits.on_continue
+  statement_walk n first break_loop exits go = exits.on_break
+  statement_walk n first _ exits go = cut_short
 
-  pub statements_walk : ℕ → Statements → Exits → Process → Process
-  statements_walk n no_statements exits go = go
-  statements_walk n (statements_more s ss) exits go = statement_walk n s exits (statements_walk n ss exits go)
+  pub statements_walk : ℕ → Counts → Statements → Exits → Process → Process
+  statements_walk n first no_statements exits go = go
+  statements_walk n first (statements_more s ss) exits go = statement_walk n first s exits (statements_walk n (counted_together first (counts_by s)) ss exits go)
 
 -- a whole template, which leaves no operand, and an expression alone, which leaves its value
 abbrev pub template_walk : ℕ → Statements → Process
-template_walk n tree = statements_walk n tree outside (over [])
+template_walk n tree = statements_walk n no_counts tree outside (over [])
 
 abbrev pub standalone_walk : Expression → Process
 standalone_walk e = expression_walk e (λ v. over (v ∷ []))
+
+-- what is passed for a parameter is stored, or its default where nothing was passed
+abbrev pub argument_walk : Expression → Optional → Val → Process → Process
+argument_walk target absent v go = target_walk target v go
+argument_walk target (given default) v go =
+    step (truth_asked (values.truth (is_undefined v)) (expression_walk default (λ w. target_walk target w go)) (target_walk target v go))
+
+-- the first default, if there is one, and the others
+abbrev pub first_of : Expressions → Optional
+first_of no_expressions = absent
+first_of (expressions_more e es) = given e
+
+abbrev pub rest_of : Expressions → Expressions
+rest_of no_expressions = no_expressions
+rest_of (expressions_more e es) = es
+
+abbrev pub arguments_walk : Expressions → Expressions → List Val → Process → Process
+arguments_walk (expressions_more target targets) defaults (v ∷ vs) go =
+    argument_walk target (first_of defaults) v (arguments_walk targets (rest_of defaults) vs go)
+arguments_walk _ defaults vs go = go
+
+-- the body of a macro, over what is passed for its parameters, that for the last one first
+abbrev pub macro_walk : ℕ → MacroBody → List Val → Process
+macro_walk n m vs =
+    arguments_walk (reversed m.arguments no_expressions) (reversed m.defaults no_expressions) vs
+    (statements_walk n m.first m.body outside (over []))
+
+-- the rounds of a loop that is called again: the answer to the closing of its frame ends them
+abbrev pub rounds_walk : ℕ → LoopRounds → Process
+rounds_walk n r =
+    rounds n (λ item inner again. target_walk r.target item (statements_walk n r.first r.body inner again))
+    (loop_end r.otherwise cut_short cut_short)
