@@ -1,10 +1,9 @@
 -- A source in which no marker starts is one data, and stands for itself.
-use Rattle.std.proofs.Common.{◌≡◌, ℕ, List, [], ◌∷◌, inl, inr, refl, sym, subst, ◌∙◌, arith}
+use Rattle.std.proofs.Common.{◌≡◌, ℕ, List, [], ◌∷◌, inl, inr, refl, subst, arith}
 use Rattle.template_values_errors.specs.declared.ErrorKind.{ErrorKind}
 use Rattle.template_tree.specs.Tree.{template}
 use Rattle.template_code.specs.Code.{Code}
 use Rattle.template_code.specs.Listing.{TakesNoMore}
-use Rattle.template_walk.specs.Runnable.{IsRunnableTemplate}
 use Rattle.template_compiler_segments.specs.Flat.{plain_tokens}
 use Rattle.template_compiler_segments.proofs.Theorems.{plain_text}
 use Rattle.template_compiler_grammar.specs.TemplateGrammar.{IsTemplate, whole_template, statements_end, statements_next, text_statement}
@@ -19,10 +18,6 @@ text_grammar : (text : List ℕ) → IsTemplate (plain_tokens text) (text_tree t
 text_grammar [] = whole_template statements_end refl
 text_grammar (byte ∷ bytes) = whole_template (statements_next text_statement statements_end) refl
 
-text_runs : (text : List ℕ) → IsRunnableTemplate (text_tree text)
-text_runs [] = tt
-text_runs (byte ∷ bytes) = (tt, tt)
-
 plain_source : (source : Source) → IsPlain source → IsSource source.syntax source.text (template (text_tree (text_kept source)))
 plain_source source plain = source_of (plain_text source.syntax source.text plain) (text_grammar (text_kept source))
 
@@ -30,14 +25,11 @@ plain_refused : (source : Source) → IsPlain source → (kinds : List ErrorKind
 plain_refused source plain kinds usable (inl (inl want)) = inr want
 plain_refused source plain kinds usable (inl (inr (inl (large, long)))) = inl (large, omega arith)
 plain_refused source plain kinds usable (inl (inr (inr (fault, alone, faulty)))) = absurd (faulty.treeless _ (plain_source source plain))
-plain_refused source plain kinds usable (inr (inl (alone, (tree, is, refuses)))) =
-    let same : tree ≡ text_tree (text_kept source) = sym (one_tree source tree usable is) ∙ one_tree source _ usable (plain_source source plain) in
-    absurd (refuses (subst IsRunnableTemplate (sym same) (text_runs (text_kept source))))
-plain_refused source plain kinds usable (inr (inr room)) = room
+plain_refused source plain kinds usable (inr room) = room
 
 pub plain_stands : (source : Source) → IsUsable source.syntax → IsPlain source → StandsForItself source
 plain_stands source usable plain = record {
-  has_tree = (plain_source source plain, text_runs (text_kept source));
+  has_tree = plain_source source plain;
   tree = one_tree source (text_tree (text_kept source)) usable (plain_source source plain);
   refused = λ kinds. plain_refused source plain kinds usable;
 }

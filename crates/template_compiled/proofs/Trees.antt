@@ -1,11 +1,15 @@
--- A source has one tree at most: the one that it is read to.
-use Rattle.std.proofs.Common.{◌≡◌, List, ap, ◌∙◌}
-use Rattle.template_tree.specs.Tree.{Statements, template}
-use Rattle.template_compiler_tokens.specs.Token.{Token}
-use Rattle.template_compiler_syntax.specs.Syntax.{IsUsable}
+-- A source has one tree at most: the one that it is read to, which has a walk.
+use Rattle.std.proofs.Common.{◌≡◌, ℕ, List, Result, Ok, Err, refl, ap, ◌∙◌}
+use Rattle.template_tree.specs.Tree.{Statement, Statements, template}
+use Rattle.template_walk.specs.Runnable.{IsRunnableTemplate}
+use Rattle.template_compiler_runnable.proofs.Statements.{template_runs}
+use Rattle.template_compiler_statement_codegen.specs.Listed.{IsRunnableTree, body_in}
+use Rattle.template_compiler_tokens.specs.Token.{Token, TokenFault}
+use Rattle.template_compiler_syntax.specs.Syntax.{Syntax, IsUsable}
 use Rattle.template_compiler_segments.proofs.Theorems.{one_tokens, some_tokens}
 use Rattle.template_compiler_grammar.specs.TemplateReader.{template_of}
 use Rattle.template_compiler_grammar_laws.proofs.TemplatesComplete.{template_complete}
+use Rattle.template_compiler_grammar_laws.proofs.TemplatesSound.{template_sound}
 use Rattle.template_compiler_sources.specs.Source.{IsSource, source_of}
 use Rattle.template_compiled.specs.Sources.{Source, read, tree_in}
 
@@ -15,3 +19,18 @@ one_tree source tree usable (source_of {tokens = ts} spelled is) =
     let some = some_tokens source.syntax source.text in
     let same = one_tokens source.syntax source.text some.0 ts usable some.1 spelled in
     ap (λ (l : List Token). read (template_of l)) same ∙ ap read (template_complete ts tree is)
+
+read_runs : (tokens : List Token) (r : Result Statements TokenFault) → template_of tokens ≡ r → IsRunnableTemplate (read r)
+read_runs tokens (Ok tree) is = template_runs (template_sound tokens tree is)
+read_runs tokens (Err fault) is = tt
+
+pub tree_runs : (source : Source) → IsRunnableTemplate (tree_in source)
+unfolding tree_in
+tree_runs source = let tokens = (some_tokens source.syntax source.text).0 in read_runs tokens (template_of tokens) refl
+
+pub source_runs : {x : Syntax} {text : List ℕ} (s : Statement) → IsSource x text s → IsRunnableTree s
+source_runs s (source_of spelled is) = template_runs is
+
+pub body_runs : (s : Statement) → IsRunnableTree s → IsRunnableTemplate (body_in s)
+body_runs (template body) runs = runs
+body_runs _ runs = absurd runs

@@ -1,10 +1,9 @@
 -- What contracts see of a compiled template.
-use Rattle.std.specs.Prelude.{ℕ, ◌<◌, ◌^◌, Bool, false, List, length}
+use Rattle.std.specs.Prelude.{ℕ, ◌<◌, ◌^◌, List, length}
 use Rattle.template_values_errors.specs.declared.modes.AutoEscape.{AutoEscape}
 use Rattle.template_code.specs.Code.{Code}
 use Rattle.template_compiler_codegen.specs.Statements.{template_code}
 use Rattle.template_compiler_numbers.specs.Numbers.{numbered_in}
-use Rattle.template_compiler_runnable.specs.Running.{statements_run}
 use Rattle.template_compiler_syntax.specs.Syntax.{IsUsable}
 use Rattle.template_machine_surroundings.specs.Rule.{IsEscapeOf}
 use Rattle.template_machine_meaning.specs.Meaning.{Standing}
@@ -15,7 +14,7 @@ pub record Compiled : Type 0 where
   pub source : Source
   pub escape : AutoEscape
 
--- its source has a tree that runs, and its escape is that of its name under the rule
+-- its source has a tree, and its escape is that of its name under the rule
 pub record IsFaithful (c : Compiled) : Type 0 where
   pub usable : IsUsable c.source.syntax
   pub fits : length c.source.text < 2 ^ 32
@@ -33,7 +32,3 @@ standing_of c = record { name = c.name; tree = tree_in c.source; escape = c.esca
 -- the code of its tree, whose filters and tests have their numbers
 abbrev pub code_for : Compiled → List Code
 code_for c = numbered_in (template_code (tree_in c.source))
-
--- all constructs of its tree run
-abbrev pub runs : Compiled → Bool
-runs c = statements_run false (tree_in c.source)

@@ -1,7 +1,6 @@
 -- Sources of expressions, and what they stand for.
-use Rattle.std.specs.Prelude.{◌≡◌, ℕ, ◌<◌, ◌^◌, ◌⊎◌, List, [], ◌∷◌, length, Ok}
+use Rattle.std.specs.Prelude.{ℕ, ◌<◌, ◌^◌, ◌⊎◌, List, [], length, Ok}
 use Rattle.template_values_errors.specs.declared.ErrorKind.{ErrorKind}
-use Rattle.template_values_errors.specs.declared.ErrorKind.TheVariants.{SyntaxError}
 use Rattle.template_values_model.specs.Val.{none}
 use Rattle.template_tree.specs.Tree.{Expression, constant}
 use Rattle.template_walk.specs.Runnable.{IsRunnable}
@@ -14,9 +13,9 @@ use Rattle.template_compiler_source_tokens.proofs.Spelling.{some_spelled}
 use Rattle.template_compiler_sources.specs.Source.{IsExpressionSource, RefusesExpression}
 use Rattle.template_compiled.specs.Sources.{HasNoRoom}
 
--- the source is this expression, and all its constructs run
+-- the source is this expression
 abbrev pub HasExpression : List ℕ → Expression → Type 0
-HasExpression source e = IsExpressionSource source e × IsRunnable e
+HasExpression source e = IsExpressionSource source e
 
 abbrev pub IsAcceptedExpression : List ℕ → Type 0
 IsAcceptedExpression source = (e : Expression) × HasExpression source e
@@ -34,16 +33,15 @@ expression_in source = read_alone (expression_at 150 (some_spelled source).0)
 abbrev pub code_alone : List ℕ → List Code
 code_alone source = numbered_in (standalone_code (expression_in source))
 
--- the source is an expression, of which a construct does not run yet
-abbrev pub IsUnsupportedExpression : List ℕ → Type 0
-IsUnsupportedExpression source = (e : Expression) × IsExpressionSource source e × ¬ IsRunnable e
-
--- why a source is refused: it is no expression or is too large; or a construct does not run yet; or there is no room for its code
+-- why a source is refused: it is no expression or is too large, or there is no room for its code
 abbrev pub IsExpressionRefusedWith : List ℕ → List ErrorKind → Type 0
-IsExpressionRefusedWith source kinds =
-    RefusesExpression source kinds ⊎ (((kinds ≡ SyntaxError ∷ []) × IsUnsupportedExpression source) ⊎ HasNoRoom source kinds)
+IsExpressionRefusedWith source kinds = RefusesExpression source kinds ⊎ HasNoRoom source kinds
 
--- the source is an expression that runs
+-- Every expression that a source is read to has a walk.
+abbrev pub AloneRuns : Type 0
+AloneRuns = (source : List ℕ) → IsRunnable (expression_in source)
+
+-- the source is an expression
 pub record IsFaithfulExpression (source : List ℕ) : Type 0 where
   pub fits : length source < 2 ^ 32
   pub has_expression : HasExpression source (expression_in source)

@@ -1,7 +1,7 @@
 -- Sources of templates, and what they stand for.
 use Rattle.std.specs.Prelude.{◌≡◌, ℕ, ◌^◌, ◌≤◌, ◌⊎◌, List, [], ◌∷◌, length, Result, Ok, Err}
 use Rattle.template_values_errors.specs.declared.ErrorKind.{ErrorKind}
-use Rattle.template_values_errors.specs.declared.ErrorKind.TheVariants.{SyntaxError, TooLarge, OutOfMemory}
+use Rattle.template_values_errors.specs.declared.ErrorKind.TheVariants.{TooLarge, OutOfMemory}
 use Rattle.template_values_errors.specs.declared.modes.AutoEscape.{AutoEscape}
 use Rattle.template_tree.specs.Tree.{Statements, no_statements, template}
 use Rattle.template_walk.specs.Runnable.{IsRunnableTemplate}
@@ -28,9 +28,9 @@ read_by config text = record { text = text; syntax = config.syntax_config; escap
 abbrev pub escaping_as : AutoEscape → Source → Source
 escaping_as escape source = record source { escapes = Fixed escape }
 
--- the source's tree is made of these statements, and all its constructs run
+-- the source's tree is made of these statements
 abbrev pub HasTree : Source → Statements → Type 0
-HasTree source tree = IsSource source.syntax source.text (template tree) × IsRunnableTemplate tree
+HasTree source tree = IsSource source.syntax source.text (template tree)
 
 abbrev pub IsAccepted : Source → Type 0
 IsAccepted source = (tree : Statements) × HasTree source tree
@@ -44,16 +44,15 @@ read (Err fault) = no_statements
 unfoldable pub tree_in : Source → Statements
 tree_in source = read (template_of (some_tokens source.syntax source.text).0)
 
--- the source has a tree, of which a construct does not run yet
-abbrev pub IsUnsupported : Source → Type 0
-IsUnsupported source = (tree : Statements) × IsSource source.syntax source.text (template tree) × ¬ IsRunnableTemplate tree
-
--- there is no room for the code of a text: it is too large, which that of fewer than 2^26 bytes never is; or a growth was
+-- there is no room for the code of a text: it is too large, which that of fewer than 2^24 bytes never is; or a growth was
 -- refused
 abbrev pub HasNoRoom : List ℕ → List ErrorKind → Type 0
-HasNoRoom text kinds = ((kinds ≡ TooLarge ∷ []) × (2 ^ 26 ≤ length text)) ⊎ (kinds ≡ OutOfMemory ∷ [])
+HasNoRoom text kinds = ((kinds ≡ TooLarge ∷ []) × (2 ^ 24 ≤ length text)) ⊎ (kinds ≡ OutOfMemory ∷ [])
 
--- why a source is refused: it has no tree or is too large; or a construct does not run yet; or there is no room for its code
+-- why a source is refused: it has no tree or is too large, or there is no room for its code
 abbrev pub IsRefusedWith : Source → List ErrorKind → Type 0
-IsRefusedWith source kinds =
-    RefusesSource source.syntax source.text kinds ⊎ (((kinds ≡ SyntaxError ∷ []) × IsUnsupported source) ⊎ HasNoRoom source.text kinds)
+IsRefusedWith source kinds = RefusesSource source.syntax source.text kinds ⊎ HasNoRoom source.text kinds
+
+-- Every tree that a source is read to has a walk.
+abbrev pub TreesRun : Type 0
+TreesRun = (source : Source) → IsRunnableTemplate (tree_in source)

@@ -19,7 +19,7 @@ ghost use Rattle.template_compiler_emission.specs.Puts.{NoRoom};
 ghost use Rattle.template_compiled.specs.Plain.{IsPlain, PlainStandsForItself};
 ghost use Rattle.template_code_blocks.specs.Streams.{stream_in, streams_in};
 ghost use Rattle.template_compiled.specs.Streams.{stream_named, streams_of};
-ghost use Rattle.template_compiled.specs.Sources.{HasNoRoom, IsAccepted, IsRefusedWith, Source, read_by, tree_in};
+ghost use Rattle.template_compiled.specs.Sources.{HasNoRoom, IsAccepted, IsRefusedWith, Source, TreesRun, read_by, tree_in};
 
 use crate::config::TemplateConfig;
 use crate::room::put_template;
@@ -31,7 +31,6 @@ use std::marker::Model;
 use template_code::Instructions;
 use template_code_blocks::{CompiledBlock, block_among, own_blocks};
 use template_compiler_numbers::number_names;
-use template_compiler_runnable::is_runnable;
 use template_compiler_sources::parse;
 use template_compiler_statement_codegen::children;
 use template_compiler_syntax::SyntaxConfig;
@@ -96,9 +95,8 @@ impl<'source> CompiledTemplate<'source> {
     ///
     /// # Errors
     ///
-    /// Those of [`parse`]; [`ErrorKind::SyntaxError`] for a construct that does not run yet;
-    /// [`ErrorKind::TooLarge`] for 2^32 instructions or more, which a source of fewer than 2^26 bytes never has;
-    /// [`ErrorKind::OutOfMemory`].
+    /// Those of [`parse`]; [`ErrorKind::TooLarge`] for 2^32 instructions or more, which a source of fewer than 2^24
+    /// bytes never has; [`ErrorKind::OutOfMemory`].
     pub fn new(
         alloc: Global,
         name: &'source str,
@@ -121,13 +119,11 @@ impl<'source> CompiledTemplate<'source> {
         usable(&config.syntax_config);
         plain_text();
         let tree = parse(alloc, source, name, config.syntax_config.clone()?)?;
-        if !is_runnable(&tree) {
-            return Err(Error::new(ErrorKind::SyntaxError));
-        }
         let mut instructions = Instructions::new(alloc, name, source);
         put_template(alloc, &mut instructions, &tree, source)?;
         number_names(alloc, &mut instructions)?;
         instructions.shrink_to_fit();
+        instructions.number_parts();
         let blocks = compile_blocks(alloc, name, source, children(&tree))?;
         Ok(CompiledTemplate {
             instructions,
@@ -324,8 +320,13 @@ pub fn one_tree()
         → IsSource source.syntax source.text (template tree) → tree_in source ≡ tree }
 {}
 
+/// A law: every tree that a source is read to has a walk.
+pub fn trees_run()
+    ensures { TreesRun }
+{}
+
 /// A law: a source in which no marker starts is read to its text, and is refused for want of memory alone, or for its
-/// size, where it has 2^26 bytes at least.
+/// size, where it has 2^24 bytes at least.
 pub fn plain_text()
     ensures { PlainStandsForItself }
 {}

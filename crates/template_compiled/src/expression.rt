@@ -11,7 +11,7 @@ ghost use Rattle.template_code.specs.Listing.{code_in};
 ghost use Rattle.template_compiler_emission.specs.Puts.{NoRoom};
 ghost use Rattle.template_compiler_sources.specs.Source.{IsAlone, IsExpressionSource};
 ghost use Rattle.template_names.specs.Names.{IsToldAlone};
-ghost use Rattle.template_compiled.specs.Expressions.{IsAcceptedExpression, IsExpressionRefusedWith, IsFaithfulExpression, code_alone, expression_in};
+ghost use Rattle.template_compiled.specs.Expressions.{AloneRuns, IsAcceptedExpression, IsExpressionRefusedWith, IsFaithfulExpression, code_alone, expression_in};
 
 use crate::room::put_expr;
 use std::alloc::Global;
@@ -20,12 +20,11 @@ use std::collections::BTreeSet;
 use std::marker::Model;
 use template_code::Instructions;
 use template_compiler_numbers::number_names;
-use template_compiler_runnable::is_runnable_expr;
 use template_compiler_sources::parse_expr;
 use template_names_undeclared::find_undeclared;
 use template_tree::{Expr, Span, Spanned};
 use template_tree_statements::{EmitExpr, Stmt};
-use template_values_errors::{Error, ErrorKind};
+use template_values_errors::Error;
 
 // The name of each expression.
 const NAME: &str = "<expression>";
@@ -61,9 +60,8 @@ impl<'source> CompiledExpression<'source> {
     ///
     /// # Errors
     ///
-    /// Those of [`parse_expr`]; [`ErrorKind::SyntaxError`] for a construct that does not run yet;
-    /// [`ErrorKind::TooLarge`] for 2^32 instructions or more, which a source of fewer than 2^26 bytes never has;
-    /// [`ErrorKind::OutOfMemory`].
+    /// Those of [`parse_expr`]; [`ErrorKind::TooLarge`] for 2^32 instructions or more, which a source of fewer than 2^24
+    /// bytes never has; [`ErrorKind::OutOfMemory`].
     pub fn new(alloc: Global, source: &'source str) -> Result<CompiledExpression<'source>, Error>
         ensures source { IfOk result (λ e. e ≡ source.now) }
         ensures faithful { IfOk result IsFaithfulExpression }
@@ -71,9 +69,6 @@ impl<'source> CompiledExpression<'source> {
         ensures too_large { 2 ^ 32 ≤ length source.now → IsErrAnd result (IsAlone TooLarge) }
     {
         let tree = parse_expr(alloc, source)?;
-        if !is_runnable_expr(&tree) {
-            return Err(Error::new(ErrorKind::SyntaxError));
-        }
         let mut instructions = Instructions::new(alloc, NAME, source);
         put_expr(alloc, &mut instructions, &tree, source)?;
         number_names(alloc, &mut instructions)?;
@@ -165,6 +160,11 @@ impl<'source> CompiledExpression<'source> {
 /// to.
 pub fn one_standalone_tree()
     ensures { (source : List ℕ) (e : Expression) → IsExpressionSource source e → expression_in source ≡ e }
+{}
+
+/// A law: every expression that a source is read to has a walk.
+pub fn standalone_trees_run()
+    ensures { AloneRuns }
 {}
 
 /// A law: the same of an expression's refusals as [`one_refusal`](crate::one_refusal) says of a template's.

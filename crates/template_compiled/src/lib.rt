@@ -10,8 +10,10 @@ mod room;
 mod streams;
 mod templates;
 
-pub use compiled::{CompiledTemplate, one_refusal, one_tree, plain_text};
+pub use compiled::{CompiledTemplate, one_refusal, one_tree, plain_text, trees_run};
 pub use config::TemplateConfig;
-pub use expression::{CompiledExpression, one_standalone_refusal, one_standalone_tree};
+pub use expression::{
+    CompiledExpression, one_standalone_refusal, one_standalone_tree, standalone_trees_run,
+};
 pub use template_code_blocks::CompiledBlock;
 pub use templates::CompiledTemplates;

@@ -19,7 +19,7 @@ use template_values_errors::{Error, ErrorKind};
 
 // The code of a source of fewer bytes has fewer than 2^32 instructions, as `code_is_bounded` of `template_code_bounds`
 // says.
-const MANY_BYTES: usize = 1 << 26;
+const MANY_BYTES: usize = 1 << 24;
 
 // Puts the code of the template of a source behind the instructions.
 pub(crate) fn put_template<'source>(
@@ -72,7 +72,7 @@ pub(crate) fn put_expr<'source>(
     }
 }
 
-// Why the code of a source was refused: that of fewer than 2^26 bytes is refused for want of memory alone.
+// Why the code of a source was refused: that of fewer than 2^24 bytes is refused for want of memory alone.
 fn refused_for(source: &str, error: Error) -> Error
     requires { NoRoom error }
     ensures { HasNoRoom source.now result }

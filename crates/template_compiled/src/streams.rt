@@ -51,6 +51,7 @@ fn compile_block<'source>(
     put_body(alloc, &mut instructions, &block.body, source)?;
     number_names(alloc, &mut instructions)?;
     instructions.shrink_to_fit();
+    instructions.number_parts();
     Ok(CompiledBlock {
         name: CowStr::Borrowed(block.name),
         required: block.required,

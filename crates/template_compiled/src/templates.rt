@@ -9,8 +9,6 @@ ghost use Rattle.std.specs.Map.Iter.{ShowsInOrder, deref};
 ghost use Rattle.std.specs.Option.{ForSome};
 ghost use Rattle.std.specs.Ordering.{nat_cmp};
 ghost use Rattle.template_values_errors.specs.Memory.{NoMemory};
-ghost use Rattle.template_compiler_runnable.specs.Running.{statements_run};
-ghost use Rattle.template_compiled.specs.Sources.{tree_in};
 
 use crate::CompiledTemplate;
 use std::alloc::Global;
@@ -23,9 +21,8 @@ use template_values_errors::{Error, ErrorKind};
 #[derive(Drop)]
 pub struct CompiledTemplates<'source> {
     by_name: BTreeMap<String, CompiledTemplate<'source>>,
-    // Each stands under its own name, and all its constructs run.
+    // Each stands under its own name.
     ghost named: { (name : List ℕ) → ForSome (get_by_text by_name name) (λ t. t.name ≡ name) },
-    ghost running: { (name : List ℕ) → ForSome (get_by_text by_name name) (λ t. statements_run false (tree_in t.source) ≡ true) },
 }
 
 impl<'source> CompiledTemplates<'source> {

@@ -27,6 +27,7 @@ pub use Rattle.template_compiler_tokens.specs.Blame
 pub use Rattle.template_compiler_sources.specs.Source
 pub use Rattle.template_compiler_sources.specs.Parsers
 pub use Rattle.template_names.specs.Names as UsedNames
+pub use Rattle.template_names.specs.Enclosed
 pub use Rattle.template_names_undeclared.specs.Found
 pub use Rattle.template_names_closures.specs.Closures
 pub use Rattle.template_names_closures.specs.Units
@@ -36,11 +37,13 @@ pub use Rattle.template_process.specs.Whole
 pub use Rattle.template_walk.specs.Constants
 pub use Rattle.template_walk.specs.Expressions as ExpressionWalk
 pub use Rattle.template_walk.specs.Statements as StatementWalk
+pub use Rattle.template_walk.specs.Counting as TreeCounting
 pub use Rattle.template_walk.specs.Runnable
 pub use Rattle.template_walk.specs.Blocks as TemplateBlocks
 pub use Rattle.template_code.specs.Code
 pub use Rattle.template_code.specs.View as CodeView
 pub use Rattle.template_code.specs.Steps
+pub use Rattle.template_code.specs.Counting as CodeCounting
 pub use Rattle.template_code.specs.Prices
 pub use Rattle.template_code.specs.Listing
 pub use Rattle.template_code.specs.Laws as CodeLaws
@@ -57,7 +60,7 @@ pub use Rattle.template_compiler_statement_codegen.specs.Listed
 pub use Rattle.template_compiler_generator.specs.Drafts
 pub use Rattle.template_compiler_generator.specs.View as DraftView
 pub use Rattle.template_compiler_generator.specs.Laws as DraftLaws
-pub use Rattle.template_compiler_runnable.specs.Runs
+pub use Rattle.template_compiler_runnable.specs.Laws as TreeLaws
 pub use Rattle.template_compiled.specs.Sources
 pub use Rattle.template_compiled.specs.Compiled
 pub use Rattle.template_compiled.specs.Streams as TemplateStreams

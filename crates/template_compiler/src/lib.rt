@@ -27,8 +27,6 @@
 //!   [`add_undeclared`] adds them to a set. [`find_macro_closure`] gives those that a macro encloses.
 //!   [`units`] lists what of a template is gone over by itself, the template, each block and each recursive loop, and
 //!   [`used_names`] gives the names that such a [`Unit`] uses.
-//! - [`is_runnable`] tells whether all constructs of a template's tree have a walk yet, [`is_runnable_expr`] of an
-//!   expression's.
 //! - [`compile_template`] puts the code of a tree behind what stands in [`Instructions`], [`compile_expr`]
 //!   that of an expression. [`number_names`] numbers the filters and tests that it names. [`CompiledTemplate::new`] and
 //!   [`CompiledExpression::new`] do all of it: from a text to its code, and a template's blocks too, each a
@@ -40,10 +38,12 @@
 //! Contracts speak of definitions that no code slows down: the tokens of a text, the grammar, the tree, the
 //! walk of a tree (a process that takes priced steps and asks its surroundings), and the step table of the
 //! instructions. [`one_token`] says that at each place stands one token or fault, [`one_template`] and
-//! [`is_decided`] that tokens have one tree or none, [`templates_perform`] and [`expressions_perform`] that
-//! the code of every tree does exactly what the tree's walk does, whatever is answered, [`numbers_run_alike`]
-//! that it does the same once its names are numbered, and [`one_tree`] and [`one_standalone_tree`] which tree an
-//! accepted source has.
+//! [`is_decided`] that tokens have one tree or none, [`templates_run`] and [`expressions_run`] that what is read has a walk,
+//! [`templates_perform`] and [`expressions_perform`] that
+//! the code of every tree does exactly what the tree's walk does, whatever is answered, [`macros_perform`] and
+//! [`rounds_perform`] that so do the bodies of its macros and the rounds of its loops that may be called again,
+//! [`numbers_run_alike`] that it does the same once its names are numbered, and [`one_tree`] and
+//! [`one_standalone_tree`] which tree an accepted source has.
 #![tactic(auto)]
 
 pub mod ast;
@@ -57,12 +57,14 @@ pub use template_compiled::{
     CompiledBlock, CompiledExpression, CompiledTemplate, CompiledTemplates, TemplateConfig,
     one_standalone_tree, one_tree, plain_text,
 };
-pub use template_compiler_codegen::{expressions_perform, templates_perform};
+pub use template_compiler_codegen::{
+    expressions_perform, macros_perform, rounds_perform, templates_perform,
+};
 pub use template_compiler_folding::as_const;
 pub use template_compiler_generator::{CodeGenerator, blocks_generate};
 pub use template_compiler_grammar_laws::templates::{is_decided, one_template, reads_the_grammar};
 pub use template_compiler_numbers::{number_names, numbers_run_alike};
-pub use template_compiler_runnable::{is_runnable, is_runnable_expr};
+pub use template_compiler_runnable::{expressions_run, templates_run};
 pub use template_compiler_sources::{Parser, parse, parse_expr};
 pub use template_compiler_statement_codegen::{compile_expr, compile_template};
 pub use template_compiler_syntax::{StartMarker, SyntaxConfig, SyntaxConfigBuilder};

@@ -11,9 +11,8 @@ RunsByItself b = IsRunnableTemplate b.body
 
 mutual
   block_runs : (looping : Bool) (s : Statement) → IsRunnableStatement looping s → All RunsByItself (blocks_by s)
-  block_runs looping (for_loop target e condition false body otherwise) r =
+  block_runs looping (for_loop target e condition recursive body otherwise) r =
       All-append RunsByItself (blocks_in body) (blocks_in otherwise) (blocks_run true body r.3) (blocks_run looping otherwise r.4)
-  block_runs looping (for_loop target e condition true body otherwise) r = absurd r
   block_runs looping (if_condition e body otherwise) r =
       All-append RunsByItself (blocks_in body) (blocks_in otherwise) (blocks_run looping body r.1) (blocks_run looping otherwise r.2)
   block_runs looping (with_block _ body) r = blocks_run looping body r.1

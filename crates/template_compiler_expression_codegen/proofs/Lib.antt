@@ -1,5 +1,6 @@
 pub mod Along
 pub mod Arguments
+pub mod Begun
 pub mod CodedChains
 pub mod CodedWalks
 pub mod Ends

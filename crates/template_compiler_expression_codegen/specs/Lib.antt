@@ -5,3 +5,4 @@ pub mod Own
 pub mod Calls
 pub mod Passing
 pub mod Filters
+pub mod Begun

@@ -590,7 +590,7 @@ fn compile_arguments<'source>(
 
 // The arguments that are passed by their place, behind so many values at the front.
 #[cycle(expression)]
-fn compile_positional<'source>(
+pub(crate) fn compile_positional<'source>(
     alloc: Global,
     code: &mut Instructions<'source>,
     front: u16,
@@ -674,7 +674,7 @@ fn compile_keywords<'source>(
 
 // The arguments that are passed by a name, each behind it.
 #[cycle(expression)]
-fn compile_named<'source>(
+pub(crate) fn compile_named<'source>(
     alloc: Global,
     code: &mut Instructions<'source>,
     arguments: &[CallArg<'source>],

@@ -2,18 +2,22 @@
 use Rattle.std.proofs.Common.{◌≡◌, ℕ, zero, suc, ◌+◌, ◌≤◌, ◌⊎◌, inl, inr, Bool, true, false, ◌&&◌, if◌then◌else◌, List, [], ◌∷◌, ◌++◌, length, Option, None, Some, slice_get, refl, sym, ap, subst, ◌∙◌, append-nil, length-append, arith}
 use Rattle.std.specs.Prelude.{not, is_some}
 use Rattle.std.proofs.lemmas.Option.{slice_get_past}
-use Rattle.template_tree.specs.Tree.{Expression, Statement, Statements, Imports, absent, given, call, raw, print, for_loop, if_condition, with_block, set, set_block, auto_escape, filter_block, block, from_import, extends, continue_loop, break_loop, do_call, no_statements, statements_more, no_imports, imports_more}
+use Rattle.template_tree.specs.Tree.{Expression, Statement, Expressions, Statements, Imports, no_expressions, absent, given, call, raw, print, for_loop, if_condition, with_block, set, set_block, auto_escape, filter_block, block, from_import, extends, macro, continue_loop, break_loop, do_call, no_statements, statements_more, no_imports, imports_more}
 use Rattle.template_tree.specs.Tree as tree
-use Rattle.template_walk.specs.Statements.{Printed, prints_value, prints_block, prints_super, printed_of, imported_names, stored_as}
-use Rattle.template_code.specs.Code.{Code, load_const, jump, jump_if_false, iterate}
+use Rattle.template_values_model.specs.Val.{text}
+use Rattle.template_names.specs.Names.{reversed}
+use Rattle.template_names.specs.Enclosed.{enclosed_names}
+use Rattle.template_walk.specs.Expressions.{Passing, alone, spreads, has_spread, Callee, by_name, by_method, by_block, by_value, callee_of}
+use Rattle.template_walk.specs.Statements.{Printed, prints_value, prints_block, prints_super, prints_rounds, printed_of, imported_names, stored_as, caller_name}
+use Rattle.template_code.specs.Code.{Code, load_const, jump, jump_if_false, iterate, return, call_function, call_method, call_object}
 use Rattle.template_code_shapes.specs.Effects.{aim_of, leans}
-use Rattle.template_compiler_codegen.specs.Core.{Core, empty, straight, both, leaping, either, rounds, within, leave, sealed, loading, chosen, Ways, no_ways, own_ways, closing_with, flat}
-use Rattle.template_compiler_codegen.specs.Expressions.{expression_core, expressions_core, filters_core}
-use Rattle.template_compiler_codegen.specs.Statements.{target_core, assignments_core, iterable_core, loop_end_core, branches_core, printed_core, imports_core, apart_core, statement_core, statements_core, template_code, standalone_code}
+use Rattle.template_compiler_codegen.specs.Core.{Core, empty, straight, both, leaping, either, rounds, within, leave, sealed, loading, chosen, aside, Ways, no_ways, own_ways, closing_with, flat}
+use Rattle.template_compiler_codegen.specs.Expressions.{one, then_code, skipped, mapped_core, stretches_core, entries_stretches_core, list_count, rest_count, merged_core, map_count, keyword_count, run_core, passed_core, passed_count, called_core, object_core, positional_cores, keyword_cores, expression_core, expressions_core, filters_core}
+use Rattle.template_compiler_codegen.specs.Statements.{target_core, assignments_core, iterable_core, loop_end_core, branches_core, printed_core, imports_core, apart_core, parameters_core, enclosed_core, made_of_core, declared_core, statement_core, statements_core, template_code, standalone_code}
 use Rattle.template_compiler_codegen.proofs.Standing.{StandsAt, behind_one, instruction_at, behind_then, stands_first, stands_second, first_part, last_part, stands_either, behind_either}
 use Rattle.template_compiler_codegen.proofs.Expressions.{behind_skipped}
 use Rattle.template_compiler_codegen.proofs.Lengths.{long_core}
-use Rattle.template_compiler_generator.proofs.Calm.{is_steady, leads_of, IsCalmCore, expression_calm, expressions_calm, filters_calm, target_calm, assignments_calm, iterable_calm}
+use Rattle.template_compiler_generator.proofs.Calm.{is_steady, leads_of, IsCalmCore, PassedCalm, NamedCalm, listed_calm, mapped_calm, stretches_calm, object_calm, positional_calm, keyword_calm, parameters_calm, expression_calm, expressions_calm, filters_calm, target_calm, assignments_calm, iterable_calm}
 
 -- what stands at a place does not lean
 abbrev pub Rests : List Code → ℕ → Type 0
@@ -73,11 +77,29 @@ Begins (leave stays) = Unit {0}
 Begins (sealed c) = Begins c
 Begins (loading o c) = Begins c
 Begins (chosen holds a b) = Begins a × Begins b
+Begins (aside body rest make) = Unit {0}
 
 -- one instruction, which leads to the next alone
 abbrev IsStill : Core → Type 0
 IsStill (straight c) = aim_of c ≡ None
 IsStill _ = ⊥
+
+-- instructions one behind the other, each of which leads to the next alone
+abbrev AreStill : Core → Type 0
+AreStill empty = Unit {0}
+AreStill (straight c) = aim_of c ≡ None
+AreStill (both a b) = AreStill a × AreStill b
+AreStill _ = ⊥
+
+abbrev IsEmpty : Core → Type 0
+IsEmpty empty = Unit {0}
+IsEmpty _ = ⊥
+
+-- the first instruction of a core is its own, and does not lean
+abbrev Starts : Core → Type 0
+Starts (straight c) = leans (Some c) ≡ false
+Starts (both a b) = Starts a ⊎ (IsEmpty a × Starts b)
+Starts _ = ⊥
 
 -- no leap of a core leads to what leans: none stands behind a piece that leaps
 abbrev IsSafe : Core → Type 0
@@ -92,6 +114,7 @@ IsSafe (leave stays) = Unit {0}
 IsSafe (sealed c) = IsSafe c
 IsSafe (loading o c) = IsSafe c
 IsSafe (chosen holds a b) = IsSafe a × IsSafe b
+IsSafe (aside body rest make) = IsSafe body × Begins body × AreStill rest × Starts rest × ((to : ℕ) → aim_of (make to) ≡ Some to)
 
 calm_begins : (c : Core) → IsCalmCore c → Begins c
 calm_begins empty h = tt
@@ -105,6 +128,7 @@ calm_begins (leave stays) h = tt
 calm_begins (sealed c) h = calm_begins c h
 calm_begins (loading o c) h = calm_begins c h
 calm_begins (chosen holds a b) h = (calm_begins a h.0, calm_begins b h.1)
+calm_begins (aside body rest make) h = absurd h
 
 calm_safe : (c : Core) → IsCalmCore c → IsSafe c
 calm_safe empty h = tt
@@ -118,6 +142,7 @@ calm_safe (leave stays) h = tt
 calm_safe (sealed c) h = calm_safe c h
 calm_safe (loading o c) h = calm_safe c h
 calm_safe (chosen holds a b) h = (calm_safe a h.0, calm_safe b h.1)
+calm_safe (aside body rest make) h = absurd h
 
 -- where a piece is left, and its first place
 pub record Around (code : List Code) (ways : Ways) : Type 0 where
@@ -190,6 +215,22 @@ begins_at (loading (Some v) c) ways h k code place stands end =
 begins_at (loading None c) ways h k code place stands end = begins_at c no_ways h tt code place stands end
 begins_at (chosen true a b) ways h k code place stands end = begins_at a ways h.0 k code place stands end
 begins_at (chosen false a b) ways h k code place stands end = begins_at b ways h.1 k code place stands end
+begins_at (aside body rest make) ways h k code place stands end =
+    let inside = then_code (flat no_ways body) (one return) in
+    let behind = then_code (flat no_ways rest) (one (make (suc place))) in
+    let to = suc place + length (inside (suc place)) in
+    rests_there code place (jump to) (instruction_at code place (jump to) (inside (suc place)) (stands_first code place (skipped jump inside) behind stands)) refl
+
+-- so it is of what starts by itself
+starts_at : (c : Core) (ways : Ways) → Starts c → (code : List Code) (place : ℕ) → StandsAt code place (flat ways c place) → Rests code place
+starts_at (straight c) ways h code place stands = rests_there code place c (instruction_at code place c [] stands) h
+starts_at (both a b) ways (inl first) code place stands = starts_at a ways first code place (stands_first code place (flat ways a) (flat ways b) stands)
+starts_at (both empty b) ways (inr later) code place stands =
+    let same : place + length (flat ways empty place) ≡ place = omega arith in
+    rests_as code (place + length (flat ways empty place)) place same
+    (starts_at b ways later.1 code (place + length (flat ways empty place)) (stands_second code place (flat ways empty) (flat ways b) stands))
+starts_at (both a b) ways (inr later) code place stands = absurd later.0
+starts_at _ ways h code place stands = absurd h
 
 -- each instruction of a piece leads where something is so
 abbrev Aims : (ℕ → Type 0) → List Code → Type 0
@@ -220,6 +261,14 @@ steady_aims ok (c ∷ code) h = (aims_nowhere ok c (steady_stays c h.0), steady_
 still_aims : (ok : ℕ → Type 0) (c : Core) (ways : Ways) (place : ℕ) → IsStill c → Aims ok (flat ways c place)
 still_aims ok (straight c) ways place h = (aims_nowhere ok c h, tt)
 still_aims ok _ ways place h = absurd h
+
+all_still : (ok : ℕ → Type 0) (c : Core) (ways : Ways) (place : ℕ) → AreStill c → Aims ok (flat ways c place)
+all_still ok empty ways place h = tt
+all_still ok (straight c) ways place h = (aims_nowhere ok c h, tt)
+all_still ok (both a b) ways place h =
+    aims_both ok (flat ways a place) (flat ways b (place + length (flat ways a place))) (all_still ok a ways place h.0)
+    (all_still ok b ways (place + length (flat ways a place)) h.1)
+all_still ok _ ways place h = absurd h
 
 -- where a piece stands, nothing of it leads to what leans
 aims_core : (c : Core) (ways : Ways) → IsSafe c → (code : List Code) → Around code ways → (place : ℕ) → StandsAt code place (flat ways c place)
@@ -291,6 +340,28 @@ aims_core (loading (Some v) c) ways h code r place stands end = (aims_nowhere (R
 aims_core (loading None c) ways h code r place stands end = aims_core c no_ways h code (around_none code r.first) place stands end
 aims_core (chosen true a b) ways h code r place stands end = aims_core a ways h.0 code r place stands end
 aims_core (chosen false a b) ways h code r place stands end = aims_core b ways h.1 code r place stands end
+aims_core (aside body rest make) ways h code r place stands end =
+    let f = flat no_ways body in
+    let inside = then_code f (one return) in
+    let made = flat no_ways rest in
+    let behind = then_code made (one (make (suc place))) in
+    let ok = Rests code in
+    let to = suc place + length (inside (suc place)) in
+    let ends_at = suc place + length (f (suc place)) in
+    let past = place + length (skipped jump inside place) in
+    let leapt = stands_first code place (skipped jump inside) behind stands in
+    let stands_inside = behind_one code place (jump to) (inside (suc place)) leapt in
+    let stands_body = stands_first code (suc place) f (one return) stands_inside in
+    let ended = rests_there code ends_at return (instruction_at code ends_at return [] (stands_second code (suc place) f (one return) stands_inside)) refl in
+    let begins = begins_at body no_ways h.1 tt code (suc place) stands_body ended in
+    let there = rests_as code past to (sym (behind_skipped jump inside place))
+    (starts_at rest no_ways h.3 code past (stands_first code past made (one (make (suc place))) (stands_second code place (skipped jump inside) behind stands))) in
+    aims_both ok (skipped jump inside place) (behind past) (
+      aims_there ok (jump to) to refl there,
+      aims_both ok (f (suc place)) (return ∷ []) (aims_core body no_ways h.0 code (around_none code r.first) (suc place) stands_body ended) (aims_nowhere ok return refl, tt),
+    )
+    (aims_both ok (made past) (make (suc place) ∷ []) (all_still ok rest no_ways past h.2)
+    (aims_there ok (make (suc place)) (suc place) (h.4 (suc place)) begins, tt))
 
 -- statements
 expression_begins : (e : Expression) → Begins (expression_core e)
@@ -309,11 +380,13 @@ printed_begins : (p : Printed) (c : Core) → Begins c → Begins (printed_core 
 printed_begins prints_value c h = (h, inr refl)
 printed_begins (prints_block name) c h = refl
 printed_begins prints_super c h = refl
+printed_begins (prints_rounds e) c h = (expression_begins e, inr refl)
 
 printed_safe : (p : Printed) (c : Core) → IsSafe c → IsSafe (printed_core p c)
 printed_safe prints_value c h = (refl, inr (h, refl))
 printed_safe (prints_block name) c h = refl
 printed_safe prints_super c h = refl
+printed_safe (prints_rounds e) c h = (refl, inr (expression_safe e, refl))
 
 filters_safe : (e : Expression) → IsSafe (filters_core e)
 filters_safe e = calm_safe (filters_core e) (filters_calm e)
@@ -332,6 +405,77 @@ imports_safe : (names : Imports) → IsSafe (imports_core names)
 imports_safe no_imports = tt
 imports_safe (imports_more e alias more) = (target_safe (stored_as e alias), inr (imports_safe more, target_begins (stored_as e alias)))
 
+-- pieces one behind the other, each of which begins so, and leads so
+abbrev AreFine : Core → Type 0
+AreFine c = IsSafe c × Begins c
+
+calm_fine : (c : Core) → IsCalmCore c → AreFine c
+calm_fine c h = (calm_safe c h, calm_begins c h)
+
+both_fine : (a b : Core) → AreFine a → AreFine b → AreFine (both a b)
+both_fine a b f g = ((g.0, inr (f.0, g.1)), (f.1, inr g.1))
+
+one_fine : (c : Code) → is_steady c ≡ true → AreFine (straight c)
+one_fine c h = calm_fine (straight c) h
+
+-- names with their values, of which the last one is whatever is fine
+named_fine : (n : ℕ) (named : List (Passing (List ℕ × Core) Core)) (name : List ℕ) (c : Core) → NamedCalm named → AreFine c
+    → AreFine (entries_stretches_core n (named ++ alone (name, c) ∷ []))
+named_fine n [] name c h f = both_fine (straight (load_const (text name))) (both c empty) (one_fine (load_const (text name)) refl) (both_fine c empty f (tt, tt))
+named_fine n (alone x ∷ named) name c h f =
+    let rest = entries_stretches_core (suc n) (named ++ alone (name, c) ∷ []) in
+    both_fine (straight (load_const (text x.0))) (both x.1 rest) (one_fine (load_const (text x.0)) refl)
+    (both_fine x.1 rest (calm_fine x.1 h.0) (named_fine (suc n) named name c h.1 f))
+named_fine n (spreads x ∷ named) name c h f =
+    let rest = entries_stretches_core 0 (named ++ alone (name, c) ∷ []) in
+    both_fine (mapped_core n) (both x rest) (calm_fine (mapped_core n) (mapped_calm n)) (both_fine x rest (calm_fine x h.0) (named_fine 0 named name c h.1 f))
+
+passed_fine : (front : ℕ) (args : List (Passing Core Core)) (named : List (Passing (List ℕ × Core) Core)) → PassedCalm args
+    → AreFine (entries_stretches_core 0 named) → AreFine (passed_core front args named)
+passed_fine front args named h f =
+    let entries = entries_stretches_core 0 named in
+    let mapped = mapped_core (rest_count 0 named) in
+    let merged = merged_core (has_spread named) (map_count named) in
+    let count = rest_count front args + keyword_count named in
+    let run = run_core (has_spread args) (list_count front args) count in
+    both_fine (stretches_core front args) (both (both entries (both mapped merged)) run) (calm_fine (stretches_core front args) (stretches_calm front args h))
+    (both_fine (both entries (both mapped merged)) run
+    (both_fine entries (both mapped merged) f (calm_fine (both mapped merged) (mapped_calm (rest_count 0 named), (refl, tt))))
+    (calm_fine run ((listed_calm count, refl), tt)))
+
+calling_fine : (callee : Callee) (whole object : Core) (args : List (Passing Core Core)) (named : List (Passing (List ℕ × Core) Core)) → IsCalmCore whole → IsCalmCore object
+    → PassedCalm args → AreFine (entries_stretches_core 0 named) → AreFine (called_core callee whole object args named)
+calling_fine (by_name name) whole object args named f g h k =
+    let act = call_function name (passed_count 0 args named) in
+    both_fine (passed_core 0 args named) (straight act) (passed_fine 0 args named h k) (one_fine act refl)
+calling_fine (by_method name) whole object args named f g h k =
+    let act = call_method name (passed_count 1 args named) in
+    let passed = passed_core 1 args named in
+    both_fine object (both passed (straight act)) (calm_fine object g) (both_fine passed (straight act) (passed_fine 1 args named h k) (one_fine act refl))
+calling_fine (by_block name) whole object args named f g h k = calm_fine (called_core (by_block name) whole object args named) (refl, (refl, refl))
+calling_fine by_value whole object args named f g h k =
+    let act = call_object (passed_count 1 args named) in
+    let passed = passed_core 1 args named in
+    both_fine whole (both passed (straight act)) (calm_fine whole f) (both_fine passed (straight act) (passed_fine 1 args named h k) (one_fine act refl))
+
+-- what makes a macro
+encloses_still : (names : List (List ℕ)) → AreStill (enclosed_core names)
+encloses_still [] = tt
+encloses_still (name ∷ names) = (refl, encloses_still names)
+
+made_starts : (arguments : Expressions) (names : List (List ℕ)) → Starts (made_of_core arguments names)
+made_starts arguments [] = inr (tt, inl refl)
+made_starts arguments (name ∷ names) = inl (inl refl)
+
+declared_fine : (name : List ℕ) (arguments defaults : Expressions) (body : Statements) → AreFine (statements_core body)
+    → AreFine (declared_core name arguments defaults body (statements_core body))
+declared_fine name arguments defaults body f =
+    let parameters = parameters_core (reversed arguments no_expressions) (reversed defaults no_expressions) in
+    let names = enclosed_names arguments defaults body in
+    let bodied = both_fine parameters (statements_core body)
+    (calm_fine parameters (parameters_calm (reversed arguments no_expressions) (reversed defaults no_expressions))) f in
+    ((bodied.0, bodied.1, (encloses_still names, (refl, refl)), made_starts arguments names, (λ to. refl)), tt)
+
 -- the ends of loops, and branches, whatever their parts are
 loop_end_begins : (ss : Statements) (c : Core) → Begins (loop_end_core ss c)
 loop_end_begins ss c = ((refl, inl tt), refl)
@@ -345,11 +489,36 @@ branches_begin ss a b = (tt, (λ to. refl))
 branches_safe : (ss : Statements) (a b : Core) → IsSafe a → IsSafe b → Begins b → IsSafe (branches_core ss a b)
 branches_safe ss a b first second begins = ((first, second, begins), ((λ to. refl), first))
 
+-- how a call with a macro as its last keyword argument begins, whatever that one leads to
+named_begin : (n : ℕ) (named : List (Passing (List ℕ × Core) Core)) (name : List ℕ) (c : Core) → NamedCalm named → Begins c
+    → Begins (entries_stretches_core n (named ++ alone (name, c) ∷ []))
+named_begin n [] name c h f = (refl, inl tt)
+named_begin n (alone x ∷ named) name c h f = (refl, inl tt)
+named_begin n (spreads x ∷ named) name c h f =
+    (calm_begins (mapped_core n) (mapped_calm n), inr (calm_begins x h.0, inr (named_begin 0 named name c h.1 f)))
+
+passed_begins : (front : ℕ) (args : List (Passing Core Core)) (named : List (Passing (List ℕ × Core) Core)) → PassedCalm args
+    → Begins (entries_stretches_core 0 named) → Begins (passed_core front args named)
+passed_begins front args named h f =
+    let mapped = both (mapped_core (rest_count 0 named)) (merged_core (has_spread named) (map_count named)) in
+    let count = rest_count front args + keyword_count named in
+    let run = run_core (has_spread args) (list_count front args) count in (
+      calm_begins (stretches_core front args) (stretches_calm front args h),
+      inr ((f, inr (calm_begins mapped (mapped_calm (rest_count 0 named), (refl, tt)))), inr (calm_begins run ((listed_calm count, refl), tt))),
+    )
+
+called_begins : (callee : Callee) (whole object : Core) (args : List (Passing Core Core)) (named : List (Passing (List ℕ × Core) Core)) → IsCalmCore whole → IsCalmCore object
+    → PassedCalm args → Begins (entries_stretches_core 0 named) → Begins (called_core callee whole object args named)
+called_begins (by_name name) whole object args named f g h k = (passed_begins 0 args named h k, inr refl)
+called_begins (by_method name) whole object args named f g h k = (calm_begins object g, inr (passed_begins 1 args named h k, inr refl))
+called_begins (by_block name) whole object args named f g h k = (refl, inl tt)
+called_begins by_value whole object args named f g h k = (calm_begins whole f, inr (passed_begins 1 args named h k, inr refl))
+
 mutual
   statement_begins : (st : Statement) → Begins (statement_core st)
-  statement_begins (raw text) = refl
+  statement_begins (raw written) = refl
   statement_begins (print e) = printed_begins (printed_of e) (expression_core e) (expression_begins e)
-  statement_begins (for_loop target e condition false body otherwise) =
+  statement_begins (for_loop target e condition recursive body otherwise) =
       (calm_begins (iterable_core target e condition) (iterable_calm target e condition), inr (refl, inl tt))
   statement_begins (if_condition e body otherwise) = (expression_begins e, inr (branches_begin otherwise (statements_core body) (statements_core otherwise)))
   statement_begins (with_block _ body) = (refl, inl tt)
@@ -363,6 +532,13 @@ mutual
   statement_begins (from_import e names) = (refl, inl tt)
   statement_begins (extends e) = (expression_begins e, inr refl)
   statement_begins (tree.include e ignore_missing) = (expression_begins e, inr refl)
+  statement_begins (macro name arguments defaults body) = (tt, inr refl)
+  statement_begins (tree.call_block callee passed arguments defaults body) =
+      let caller = declared_core caller_name arguments defaults body (statements_core body) in (
+        called_begins (callee_of callee passed) (expression_core callee) (object_core callee) (positional_cores passed) (keyword_cores passed ++ alone (caller_name, caller) ∷ [])
+            (expression_calm callee) (object_calm callee) (positional_calm passed) (named_begin 0 (keyword_cores passed) caller_name caller (keyword_calm passed) tt),
+        inr refl,
+      )
   statement_begins (do_call callee args) = (expression_begins (call callee args), inr refl)
   statement_begins continue_loop = tt
   statement_begins break_loop = tt
@@ -374,9 +550,9 @@ mutual
 
 mutual
   statement_safe : (st : Statement) → IsSafe (statement_core st)
-  statement_safe (raw text) = refl
+  statement_safe (raw written) = refl
   statement_safe (print e) = printed_safe (printed_of e) (expression_core e) (expression_safe e)
-  statement_safe (for_loop target e condition false body otherwise) =
+  statement_safe (for_loop target e condition recursive body otherwise) =
       let other = statements_core otherwise in (
         ((loop_end_safe otherwise other (statements_safe otherwise), inr ((target_safe target, statements_safe body, statements_begin body), loop_end_begins otherwise other)), inl refl),
         inr (calm_safe (iterable_core target e condition) (iterable_calm target e condition), (refl, inl tt)),
@@ -405,6 +581,14 @@ mutual
       ((((((refl, inl refl), inr (imports_safe names, (refl, inl tt))), inl refl), inr (calm_safe core calm, (refl, inl tt))), inr (apart_safe e, (calm_begins core calm, inr (refl, inl tt)))), inl refl)
   statement_safe (extends e) = (refl, inr (expression_safe e, refl))
   statement_safe (tree.include e ignore_missing) = (refl, inr (expression_safe e, refl))
+  statement_safe (macro name arguments defaults body) =
+      (refl, inr ((declared_fine name arguments defaults body (statements_safe body, statements_begin body)).0, refl))
+  statement_safe (tree.call_block callee passed arguments defaults body) =
+      let caller = declared_core caller_name arguments defaults body (statements_core body) in
+      let named = named_fine 0 (keyword_cores passed) caller_name caller (keyword_calm passed) (declared_fine caller_name arguments defaults body (statements_safe body, statements_begin body)) in
+      let called = calling_fine (callee_of callee passed) (expression_core callee) (object_core callee) (positional_cores passed) (keyword_cores passed ++ alone (caller_name, caller) ∷ [])
+      (expression_calm callee) (object_calm callee) (positional_calm passed) named in
+      (refl, inr (called.0, refl))
   statement_safe (do_call callee args) = (refl, inr (expression_safe (call callee args), refl))
   statement_safe continue_loop = tt
   statement_safe break_loop = tt

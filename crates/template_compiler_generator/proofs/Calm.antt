@@ -7,11 +7,12 @@ use Rattle.template_tree.specs.declared.operators.UnaryOpKind.TheVariants.{Not, 
 use Rattle.template_tree.specs.Tree.{Expression, Optional, Expressions, Links, Arguments, Assignments, variable, constant, unary, binary, chain, conditional, attribute, item, call, filtered, tested, list_literal, tuple_literal, map_literal, absent, given, no_expressions, expressions_more, no_links, links_more, no_arguments, arguments_more, positional, keyword, positional_spread, keyword_spread, no_assignments, assignments_more}
 use Rattle.template_tree.specs.Tree as tree
 use Rattle.template_walk.specs.Expressions.{Passing, alone, spreads, Callee, by_name, by_method, by_block, by_value, callee_of}
+use Rattle.template_walk.specs.Statements.{first_of, rest_of}
 use Rattle.template_code.specs.Code.{Code}
 use Rattle.template_code_shapes.specs.Effects.{aim_of, leans}
-use Rattle.template_compiler_codegen.specs.Core.{Core, empty, straight, both, leaping, either, rounds, within, leave, sealed, loading, chosen}
+use Rattle.template_compiler_codegen.specs.Core.{Core, empty, straight, both, leaping, either, rounds, within, leave, sealed, loading, chosen, aside}
 use Rattle.template_compiler_codegen.specs.Expressions.{unary_code, listed_core, mapped_core, stretches_core, entries_stretches_core, rest_count, keywords_core, keyword_count, passed_core, called_core, filters_core, object_core, positional_cores, keyword_cores, expression_core, optional_core, expressions_core, codes_of, entries_core, chain_core, linked_core}
-use Rattle.template_compiler_codegen.specs.Statements.{target_core, targets_core, assignments_core, iterable_core}
+use Rattle.template_compiler_codegen.specs.Statements.{target_core, targets_core, assignments_core, iterable_core, parameter_core, parameters_core}
 
 -- an instruction that leads to the next one alone, and does not lean on the one before it
 abbrev pub is_steady : Code → Bool
@@ -34,31 +35,32 @@ IsCalmCore (leave stays) = Unit {0}
 IsCalmCore (sealed c) = IsCalmCore c
 IsCalmCore (loading o c) = IsCalmCore c
 IsCalmCore (chosen holds a b) = IsCalmCore a × IsCalmCore b
+IsCalmCore (aside body rest make) = ⊥
 
 abbrev EachCalm : List Core → Type 0
 EachCalm [] = Unit {0}
 EachCalm (c ∷ cores) = IsCalmCore c × EachCalm cores
 
 -- so has each argument none
-abbrev PassedCalm : List (Passing Core Core) → Type 0
+abbrev pub PassedCalm : List (Passing Core Core) → Type 0
 PassedCalm [] = Unit {0}
 PassedCalm (alone c ∷ args) = IsCalmCore c × PassedCalm args
 PassedCalm (spreads c ∷ args) = IsCalmCore c × PassedCalm args
 
-abbrev NamedCalm : List (Passing (List ℕ × Core) Core) → Type 0
+abbrev pub NamedCalm : List (Passing (List ℕ × Core) Core) → Type 0
 NamedCalm [] = Unit {0}
 NamedCalm (alone c ∷ named) = IsCalmCore c.1 × NamedCalm named
 NamedCalm (spreads c ∷ named) = IsCalmCore c × NamedCalm named
 
-listed_calm : (n : ℕ) → IsCalmCore (listed_core n)
+pub listed_calm : (n : ℕ) → IsCalmCore (listed_core n)
 listed_calm zero = tt
 listed_calm (suc n) = refl
 
-mapped_calm : (n : ℕ) → IsCalmCore (mapped_core n)
+pub mapped_calm : (n : ℕ) → IsCalmCore (mapped_core n)
 mapped_calm zero = tt
 mapped_calm (suc n) = refl
 
-stretches_calm : (n : ℕ) (args : List (Passing Core Core)) → PassedCalm args → IsCalmCore (stretches_core n args)
+pub stretches_calm : (n : ℕ) (args : List (Passing Core Core)) → PassedCalm args → IsCalmCore (stretches_core n args)
 stretches_calm n [] h = tt
 stretches_calm n (alone c ∷ args) h = (h.0, stretches_calm (suc n) args h.1)
 stretches_calm n (spreads c ∷ args) h = (listed_calm n, (h.0, stretches_calm 0 args h.1))
@@ -107,17 +109,17 @@ mutual
   expression_calm (tested name e args) = (expression_calm e, (passed_calm 1 (positional_cores args) (keyword_cores args) (positional_calm args) (keyword_calm args), refl))
   expression_calm _ = tt
 
-  object_calm : (e : Expression) → IsCalmCore (object_core e)
+  pub object_calm : (e : Expression) → IsCalmCore (object_core e)
   object_calm (attribute e name) = expression_calm e
   object_calm _ = tt
 
-  positional_calm : (args : Arguments) → PassedCalm (positional_cores args)
+  pub positional_calm : (args : Arguments) → PassedCalm (positional_cores args)
   positional_calm no_arguments = tt
   positional_calm (arguments_more (positional e) args) = (expression_calm e, positional_calm args)
   positional_calm (arguments_more (positional_spread e) args) = (expression_calm e, positional_calm args)
   positional_calm (arguments_more _ args) = positional_calm args
 
-  keyword_calm : (args : Arguments) → NamedCalm (keyword_cores args)
+  pub keyword_calm : (args : Arguments) → NamedCalm (keyword_cores args)
   keyword_calm no_arguments = tt
   keyword_calm (arguments_more (keyword name e) args) = (expression_calm e, keyword_calm args)
   keyword_calm (arguments_more (keyword_spread e) args) = (expression_calm e, keyword_calm args)
@@ -173,3 +175,11 @@ pub iterable_calm : (target e : Expression) (condition : Optional) → IsCalmCor
 iterable_calm target e absent = expression_calm e
 iterable_calm target e (given condition) =
     (refl, (expression_calm e, (refl, (((refl, target_calm target), (expression_calm condition, ((refl, (refl, refl)), refl))), (refl, refl)))))
+
+parameter_calm : (target : Expression) (default : Optional) → IsCalmCore (parameter_core target default)
+parameter_calm target absent = target_calm target
+parameter_calm target (given e) = (refl, (refl, (((λ to. refl), (refl, expression_calm e)), target_calm target)))
+
+pub parameters_calm : (targets defaults : Expressions) → IsCalmCore (parameters_core targets defaults)
+parameters_calm no_expressions defaults = tt
+parameters_calm (expressions_more target targets) defaults = (parameter_calm target (first_of defaults), parameters_calm targets (rest_of defaults))

@@ -6,7 +6,7 @@ use Rattle.template_walk.specs.Statements.{number_of, imported_names, stored_as}
 use Rattle.template_walk.specs.Runnable.{IsRunnable, IsTarget, AreRunnable, AreImports}
 use Rattle.template_code.specs.Code.{Code, begin_capture, discard_top, end_capture, export_locals, include, pop_frame, push_with}
 use Rattle.template_code_shapes.specs.declared.outline.Opened.TheVariants.{With as with_frame}
-use Rattle.template_code_shapes.specs.Shapes.{Shape, floor_of, given, opened, with_capture}
+use Rattle.template_code_shapes.specs.Shapes.{Shape, given, opened, with_capture}
 use Rattle.template_code_shapes.specs.Effects.{falling, traded, ends_capture, effect_of}
 use Rattle.template_compiler_codegen.specs.Core.{no_ways, flat}
 use Rattle.template_compiler_codegen.specs.Expressions.{Coded, then_code, one, expression_code, expressions_code}
@@ -14,11 +14,11 @@ use Rattle.template_compiler_codegen.specs.Statements.{imports_core, target_code
 use Rattle.template_compiler_codegen.proofs.Standing.{StandsAt, instruction_at, stands_first, stands_second}
 use Rattle.template_compiler_codegen.proofs.Expressions.{behind_single}
 use Rattle.template_compiler_generator.proofs.Segments.{Free, Goes}
-use Rattle.template_compiler_generator.proofs.Plain.{ground, IsPlain, traded_plain, capture_plain}
+use Rattle.template_compiler_generator.proofs.Plain.{Sits, IsPlain, captured_plain, traded_plain, capture_plain}
 use Rattle.template_compiler_generator.proofs.Moving.{Moves, goes_single, goes_both, moves_as, moves_nothing, moves_then, over_below, all_move, expression_moves, target_moves}
 
 -- a capture ends behind a frame that is open
-ended : (code : List Code) (place : ℕ) (s : Shape) → floor_of s.frames ≡ ground → effect_of code place end_capture (with_capture s) ≡ Some (falling (given 1 s))
+ended : (code : List Code) (place : ℕ) (s : Shape) → Sits s → effect_of code place end_capture (with_capture s) ≡ Some (falling (given 1 s))
 ended code place s plain = ap (option_map (λ below. falling (given 1 below))) (capture_plain s plain)
 
 -- a template that runs in a frame of its own, which stays open
@@ -42,7 +42,7 @@ apart_goes e r code place s plain h =
     (goes_single code last_at (include false) (given 1 t) t Free (stands_second code mid second last behind) (traded_plain 1 0 t plain.0)))
 
 -- a module is made of the text that the instruction before gives
-exports : (code : List Code) (before place : ℕ) (s : Shape) → floor_of s.frames ≡ ground → place ≡ suc before → slice_get code before ≡ Some end_capture
+exports : (code : List Code) (before place : ℕ) (s : Shape) → Sits s → place ≡ suc before → slice_get code before ≡ Some end_capture
     → effect_of code place export_locals (given 1 s) ≡ Some (falling (given 1 s))
 exports code before place s plain next at =
     ap (λ n. effect_of code n export_locals (given 1 s)) next ∙
@@ -72,7 +72,7 @@ import_moves e target r targeted code place s plain h =
     goes_both code place (one (begin_capture true)) apart s s1 s
     (goes_single code place (begin_capture true) s s1 Free (stands_first code place (one (begin_capture true)) apart h) refl)
     (goes_both code apart_at (apart_code e) captured s1 s2 s
-    (apart_goes e r code apart_at s1 plain (stands_first code apart_at (apart_code e) captured stands_apart))
+    (apart_goes e r code apart_at s1 (captured_plain code s plain) (stands_first code apart_at (apart_code e) captured stands_apart))
     (goes_both code end_at (one end_capture) exported s2 (given 1 s3) s
     (goes_single code end_at end_capture s2 (given 1 s3) Free here (ended code end_at s3 plain.0))
     (goes_both code export_at (one export_locals) closed (given 1 s3) (given 1 s3) s
@@ -124,13 +124,13 @@ from_import_moves e names r named code place s plain h =
     goes_both code place (one (begin_capture false)) apart s s1 s
     (goes_single code place (begin_capture false) s s1 Free (stands_first code place (one (begin_capture false)) apart h) refl)
     (goes_both code apart_at (apart_code e) looked s1 s2 s
-    (apart_goes e r code apart_at s1 plain (stands_first code apart_at (apart_code e) looked stands_apart))
+    (apart_goes e r code apart_at s1 (captured_plain code s plain) (stands_first code apart_at (apart_code e) looked stands_apart))
     (goes_both code look_at looks closed s2 (given n s2) s
-    (all_move (imported_names names) (names_run names named) code look_at s2 plain (stands_first code look_at looks closed stands_looks))
+    (all_move (imported_names names) (names_run names named) code look_at s2 (captured_plain code s plain) (stands_first code look_at looks closed stands_looks))
     (goes_both code close_at (one pop_frame) stored (given n s2) (given n s1) s
     (goes_single code close_at pop_frame (given n s2) (given n s1) Free (stands_first code close_at (one pop_frame) stored stands_close) refl)
     (goes_both code store_at stores ends (given n s1) s1 s
-    (imports_move names named code store_at s1 plain (stands_first code store_at stores ends stands_stores))
+    (imports_move names named code store_at s1 (captured_plain code s plain) (stands_first code store_at stores ends stands_stores))
     (goes_both code end_at (one end_capture) (one discard_top) s1 (given 1 s) s
     (goes_single code end_at end_capture s1 (given 1 s) Free (stands_first code end_at (one end_capture) (one discard_top) stands_ends) (ended code end_at s plain.0))
     (goes_single code drop_at discard_top (given 1 s) s Free (stands_second code end_at (one end_capture) (one discard_top) stands_ends) (traded_plain 1 0 s plain.0)))))))

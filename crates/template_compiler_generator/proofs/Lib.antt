@@ -8,6 +8,7 @@ pub mod Moving
 pub mod Rounds
 pub mod Keeping
 pub mod Importing
+pub mod Declaring
 pub mod Running
 pub mod Whole
 pub mod Pieces

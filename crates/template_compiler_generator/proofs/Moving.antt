@@ -14,7 +14,7 @@ use Rattle.template_walk.specs.Expressions.{Passing, alone, spreads, has_spread,
 use Rattle.template_walk.specs.Statements.{number_of}
 use Rattle.template_walk.specs.Runnable.{IsRunnable, IsRunnableIfGiven, AreRunnable, AreRunnableArguments, IsRunnableChain, AreRunnableLinks, AreFilters, IsTarget, AreTargets, AreAssignments}
 use Rattle.template_code.specs.Code.{Code, store_local, lookup, load_const, get_attr, set_attr, get_item, slice, build_map, build_kwargs, merge_kwargs, call_function, call_method, call_object, call_block, begin_capture, end_capture, apply_filter, perform_test, build_list, build_tuple, unpack_list, unpack_lists, operate, compare_and_preserve, swap, discard_top, jump, jump_if_false, jump_if_false_or_pop, jump_if_true_or_pop}
-use Rattle.template_code_shapes.specs.Shapes.{Shape, floor_of, single_form, counted_form, handed, given, topped, with_capture}
+use Rattle.template_code_shapes.specs.Shapes.{Shape, single_form, counted_form, handed, given, topped, with_capture}
 use Rattle.template_code_shapes.specs.Effects.{Effect, falling, made, jumping, effect_of}
 use Rattle.template_compiler_codegen.specs.Core.{Core, no_ways, flat}
 use Rattle.template_compiler_codegen.specs.Expressions.{Coded, then_code, one, nothing, dropped, loaded, skipped, either_code, unary_code, binary_code, listed_core, mapped_core, at_most_one, stretches_core, entries_stretches_core, list_count, rest_count, merged_core, merged_count, map_count, keywords_core, keyword_count, run_core, passed_core, passed_count, called_core, no_number, object_core, positional_cores, keyword_cores, expression_core, entry_count, expression_code, optional_code, expressions_code, codes_of, entries_code, chain_code, linked_code, filter_code, filters_code, passed_code, argument_count}
@@ -23,7 +23,7 @@ use Rattle.template_compiler_codegen.proofs.Standing.{StandsAt, behind_one, inst
 use Rattle.template_compiler_codegen.proofs.Expressions.{behind_single, behind_skipped}
 use Rattle.template_compiler_codegen.proofs.Passing.{no_lists}
 use Rattle.template_compiler_generator.proofs.Segments.{Flows, Free, Lands, Goes, goes_to, goes_out_as, goes_nowhere, goes_on, goes_then, goes_dead, goes_with, gate, flows_left, flows_right, lands_at}
-use Rattle.template_compiler_generator.proofs.Plain.{ground, IsPlain, taken_plain, traded_plain, lowered_plain, given_more, capture_plain, jumps_forward}
+use Rattle.template_compiler_generator.proofs.Plain.{Sits, IsPlain, given_plain, taken_plain, traded_plain, lowered_plain, given_more, capture_plain, jumps_forward}
 
 some_is : {A : Type 0} (x y : A) → Some x ≡ Some y → x ≡ y
 some_is x y e = cc
@@ -74,14 +74,14 @@ moves_then f g m k l x y code place s plain h =
 
 -- over more values
 pub over_more : (f : Coded) (n : ℕ) → Moves f 0 1 → Moves f n (suc n)
-over_more f n x code place s plain h = x code place (given n s) plain h
+over_more f n x code place s plain h = x code place (given n s) (given_plain code n s plain) h
 
 pub over_many : (f : Coded) (n k : ℕ) → Moves f 0 n → Moves f k (n + k)
 over_many f n k x code place s plain h =
-    goes_out_as code place (place + length (f place)) (given k s) (given n (given k s)) (given (n + k) s) Free (given_more n k s) (x code place (given k s) plain h)
+    goes_out_as code place (place + length (f place)) (given k s) (given n (given k s)) (given (n + k) s) Free (given_more n k s) (x code place (given k s) (given_plain code k s plain) h)
 
 pub under_more : (f : Coded) (n : ℕ) → Moves f 1 0 → Moves f (suc n) n
-under_more f n x code place s plain h = x code place (given n s) plain h
+under_more f n x code place s plain h = x code place (given n s) (given_plain code n s plain) h
 
 pub moves_loaded : (o : Option Val) (f : Coded) → Moves f 0 1 → Moves (loaded o f) 0 1
 moves_loaded (Some v) f x = moves_one (load_const v) 0 1 (λ code place s plain. refl)
@@ -98,7 +98,7 @@ moves_skipped leap f n is x code place s plain h =
     goes_to code place behind (place + length (skipped leap f place)) (given (suc n) s) (Some (given (suc n) s)) Free same
     (goes_then code place (suc place) behind (given (suc n) s) (given n s) (Some (given n s)) (Some (given (suc n) s)) (Lands e) Free Free
     (goes_on code place (leap behind) (given (suc n) s) e (instruction_at code place (leap behind) (f (suc place)) h)
-    (is code place behind (given n s) plain (instruction_at code place (leap behind) (f (suc place)) h) (omega arith) within) refl)
+    (is code place behind (given n s) (given_plain code n s plain) (instruction_at code place (leap behind) (f (suc place)) h) (omega arith) within) refl)
     (x code (suc place) s plain (behind_one code place (leap behind) (f (suc place)) h))
     (λ u g. some_is (given n s) u g)
     (λ table stands flows needs. (lands_at (Some (given n s)) behind (given (suc n) s) table (flows (given (suc n) s) refl), tt)))
@@ -184,7 +184,7 @@ compared_moves op f x = moves_then f (one (compare_and_preserve op)) 1 2 2 (over
 
 dropped_moves : Moves dropped 2 1
 dropped_moves = moves_then (one swap) (one discard_top) 2 2 1 (moves_one swap 2 2 (λ code place s plain. traded_plain 2 2 s plain.0))
-    (λ code place s plain h. moves_one discard_top 1 0 (λ code place t plain. traded_plain 1 0 t plain.0) code place (given 1 s) plain h)
+    (λ code place s plain h. moves_one discard_top 1 0 (λ code place t plain. traded_plain 1 0 t plain.0) code place (given 1 s) (given_plain code 1 s plain) h)
 
 -- each piece of code leaves a value
 abbrev EachMoves : List Core → Type 0
@@ -204,15 +204,15 @@ over_below f m k j x code place s plain h =
     let behind = place + length (f place) in
     let P : Shape → Type 0 = λ t. Goes code place behind t (Some (given (k + j) s)) Free in
     subst P (given_more m j s)
-    (goes_out_as code place behind (given m (given j s)) (given k (given j s)) (given (k + j) s) Free (given_more k j s) (x code place (given j s) plain h))
+    (goes_out_as code place behind (given m (given j s)) (given k (given j s)) (given (k + j) s) Free (given_more k j s) (x code place (given j s) (given_plain code j s plain) h))
 
 -- each argument leaves a value
-abbrev EachPassed : List (Passing Core Core) → Type 0
+abbrev pub EachPassed : List (Passing Core Core) → Type 0
 EachPassed [] = Unit {0}
 EachPassed (alone c ∷ args) = Moves (flat no_ways c) 0 1 × EachPassed args
 EachPassed (spreads c ∷ args) = Moves (flat no_ways c) 0 1 × EachPassed args
 
-abbrev EachNamed : List (Passing (List ℕ × Core) Core) → Type 0
+abbrev pub EachNamed : List (Passing (List ℕ × Core) Core) → Type 0
 EachNamed [] = Unit {0}
 EachNamed (alone c ∷ named) = Moves (flat no_ways c.1) 0 1 × EachNamed named
 EachNamed (spreads c ∷ named) = Moves (flat no_ways c) 0 1 × EachNamed named
@@ -287,7 +287,7 @@ abbrev with_handed : Option ℕ → Shape → Shape
 with_handed None s = topped counted_form s
 with_handed (Some n) s = given n s
 
-handed_plain : (count : Option ℕ) (s : Shape) → floor_of s.frames ≡ ground → handed count (with_handed count s) ≡ Some s
+handed_plain : (count : Option ℕ) (s : Shape) → Sits s → handed count (with_handed count s) ≡ Some s
 handed_plain None s plain = lowered_plain s (topped counted_form s).operands plain
 handed_plain (Some n) s plain = taken_plain n s plain
 
@@ -355,7 +355,7 @@ block_moves name code place s plain h =
     (goes_single code last_at end_capture s1 (given 1 s) Free (stands_second code mid second last behind)
     (ap (option_map (λ below. falling (given 1 below))) (capture_plain s plain.0))))
 
-called_moves : (callee : Callee) (whole object : Core) (args : List (Passing Core Core)) (named : List (Passing (List ℕ × Core) Core)) → Moves (flat no_ways whole) 0 1
+pub called_moves : (callee : Callee) (whole object : Core) (args : List (Passing Core Core)) (named : List (Passing (List ℕ × Core) Core)) → Moves (flat no_ways whole) 0 1
     → ((name : List ℕ) → callee ≡ by_method name → Moves (flat no_ways object) 0 1) → EachPassed args → EachNamed named
     → Moves (flat no_ways (called_core callee whole object args named)) 0 1
 called_moves (by_name name) whole object args named f g each others =
@@ -410,7 +410,7 @@ mutual
       (moves_one (build_map count) (count * 2) 1 (λ code place s plain. traded_plain (count * 2) 1 s plain.0)))
   expression_moves (call callee args) r =
       called_moves (callee_of callee args) (expression_core callee) (object_core callee) (positional_cores args) (keyword_cores args) (expression_moves callee r.0)
-      (λ name is. object_moves callee args r.0 name is) (positional_move args r.2) (keyword_move args r.2)
+      (λ name is. object_moves callee args r.0 name is) (positional_move args r.1) (keyword_move args r.1)
   expression_moves (filtered name (is_given e) args) r =
       moves_then (expression_code e) (filter_code name args) 0 1 1 (expression_moves e r.0)
       (applied_moves 1 (positional_cores args) (keyword_cores args) (positional_move args r.1) (keyword_move args r.1) (apply_filter name (argument_count 1 args) no_number) (λ code place s. refl))
@@ -421,19 +421,19 @@ mutual
   expression_moves _ r = absurd r
 
   -- the object of a method
-  object_moves : (e : Expression) (args : Arguments) → IsRunnable e → (name : List ℕ) → callee_of e args ≡ by_method name → Moves (flat no_ways (object_core e)) 0 1
+  pub object_moves : (e : Expression) (args : Arguments) → IsRunnable e → (name : List ℕ) → callee_of e args ≡ by_method name → Moves (flat no_ways (object_core e)) 0 1
   object_moves (attribute e name) args r other is = expression_moves e r
   object_moves (variable name) args r other is = absurd cc
   object_moves _ args r other is = absurd cc
 
-  positional_move : (args : Arguments) → AreRunnableArguments args → EachPassed (positional_cores args)
+  pub positional_move : (args : Arguments) → AreRunnableArguments args → EachPassed (positional_cores args)
   positional_move no_arguments r = tt
   positional_move (arguments_more (positional e) args) r = (expression_moves e r.0, positional_move args r.1)
   positional_move (arguments_more (keyword name e) args) r = positional_move args r.1
   positional_move (arguments_more (positional_spread e) args) r = (expression_moves e r.0, positional_move args r.1)
   positional_move (arguments_more (keyword_spread e) args) r = positional_move args r.1
 
-  keyword_move : (args : Arguments) → AreRunnableArguments args → EachNamed (keyword_cores args)
+  pub keyword_move : (args : Arguments) → AreRunnableArguments args → EachNamed (keyword_cores args)
   keyword_move no_arguments r = tt
   keyword_move (arguments_more (positional e) args) r = keyword_move args r.1
   keyword_move (arguments_more (keyword name e) args) r = (expression_moves e r.0, keyword_move args r.1)

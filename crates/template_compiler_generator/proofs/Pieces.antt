@@ -1,7 +1,8 @@
 -- What the code of a piece does, from the lemmas of generated code.
-use Rattle.std.proofs.Common.{ℕ, ◌+◌, List, ◌∷◌, length}
+use Rattle.std.proofs.Common.{ℕ, ◌+◌, List, ◌∷◌, length, refl}
 use Rattle.template_process.proofs.Below.{below-refl}
 use Rattle.template_code.specs.Code.{Operand, single, Code}
+use Rattle.template_code.specs.Counting.{counts_before}
 use Rattle.template_code.specs.Steps.{exec}
 use Rattle.template_walk.specs.Statements.{Exits}
 use Rattle.template_compiler_codegen.specs.Expressions.{expression_code}
@@ -33,8 +34,8 @@ expressions_anywhere e code place h behind =
     )
 
 pub statements_anywhere : StatementsPerformAnywhere
-statements_anywhere tree n ways code place h behind =
-    let done = performs_statements n tree ways code place (stands code place (statements_code ways tree place) h) behind in (
+statements_anywhere tree n ways none code place h behind =
+    let done = performs_statements n tree ways none code place (counts_before code place) refl (stands code place (statements_code ways tree place) h) behind in (
       done.0,
       λ operands exits lead.
           done.1 operands exits (exec code behind (place + length (statements_code ways tree place)) operands) (below-refl _)

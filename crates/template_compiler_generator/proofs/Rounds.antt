@@ -2,7 +2,7 @@
 use Rattle.std.proofs.Common.{◌≡◌, ℕ, suc, ◌<◌, ◌≤◌, Bool, true, false, cond, List, [], ◌∷◌, length, Option, None, Some, slice_get, refl, sym, ap, subst, ◌∙◌, arith}
 use Rattle.std.specs.Prelude.{option_map}
 use Rattle.template_code.specs.Code.{Code, jump, push_loop, iterate}
-use Rattle.template_code_shapes.specs.declared.outline.Opened.TheVariants.{Loop as loop_frame}
+use Rattle.template_code_shapes.specs.declared.outline.Opened.{Opened}
 use Rattle.template_code_shapes.specs.Shapes.{Shape, taken, given, opened, loop_opened, innermost_loop}
 use Rattle.template_code_shapes.specs.Effects.{Effect, falling, is_iterate, effect_of}
 use Rattle.template_compiler_codegen.proofs.Standing.{StandsAt, instruction_at}
@@ -45,10 +45,10 @@ module _ (code : List Code) (place push ends_at jump_at : ℕ) (s : Shape) where
       (λ table stands flows needs. (let P : ℕ → Type 0 = λ n. table n ≡ Some s in subst P last (flows s refl), stands)))
 
 -- a loop's frame is opened
-pub pushes : (code : List Code) (flags place mid ends : ℕ) (s : Shape) → ((below : Shape) → loop_opened flags place below ≡ loop_frame place) → IsPlain code s → mid ≡ suc place → slice_get code mid ≡ Some (iterate ends)
-    → effect_of code place (push_loop flags) (given 1 s) ≡ Some (falling (opened (loop_frame place) s))
-pushes code flags place mid ends s frame plain next at =
+pub pushes : (code : List Code) (flags place mid ends : ℕ) (s : Shape) (frame : Opened) → loop_opened flags place s ≡ frame → IsPlain code s → mid ≡ suc place → slice_get code mid ≡ Some (iterate ends)
+    → effect_of code place (push_loop flags) (given 1 s) ≡ Some (falling (opened frame s))
+pushes code flags place mid ends s frame is plain next at =
     let there : slice_get code (suc place) ≡ Some (iterate ends) = ap (slice_get code) (sym next) ∙ at in
     ap (λ o. cond (is_iterate o) (option_map (λ below. falling (opened (loop_opened flags place below) below)) (taken 1 (given 1 s))) None) there
     ∙ ap (option_map (λ below. falling (opened (loop_opened flags place below) below))) (taken_plain 1 s plain.0)
-    ∙ ap (λ o. Some (falling (opened o s))) (frame s)
+    ∙ ap (λ o. Some (falling (opened o s))) is

@@ -1,23 +1,27 @@
 -- The code of statements: it keeps the shape, or leaves a loop with what the loop began with.
-use Rattle.std.proofs.Common.{◌≡◌, ℕ, suc, ◌+◌, ◌<◌, ◌≤◌, Bool, true, false, ◌||◌, List, [], ◌∷◌, ◌++◌, length, Option, None, Some, slice_get, refl, sym, ap, ◌∙◌, length-append, arith}
-use Rattle.std.specs.Prelude.{IsTrue, option_map}
-use Rattle.template_tree.specs.Tree.{Expression, Statement, Statements, Assignments, call, absent, given as is_given, raw, print, for_loop, if_condition, with_block, set, set_block, auto_escape, filter_block, block, from_import, extends, continue_loop, break_loop, do_call, no_statements, statements_more}
+use Rattle.std.proofs.Common.{◌≡◌, ℕ, suc, ◌+◌, ◌<◌, ◌≤◌, Bool, true, false, ◌&&◌, ◌||◌, cond, List, [], ◌∷◌, ◌++◌, length, Option, None, Some, slice_get, refl, sym, ap, ◌∙◌, length-append, arith}
+use Rattle.std.specs.Prelude.{IsTrue, option_map, is_some, if◌then◌else◌}
+use Rattle.template_tree.specs.Tree.{Expression, Expressions, Arguments, Statement, Statements, Assignments, variable, attribute, call, no_arguments, arguments_more, positional, keyword, positional_spread, keyword_spread, absent, given as is_given, raw, print, for_loop, if_condition, with_block, set, set_block, auto_escape, filter_block, block, from_import, extends, macro, continue_loop, break_loop, do_call, no_statements, statements_more}
+use Rattle.template_tree.specs.Kinds.{is_self_name, is_empty}
 use Rattle.template_tree.specs.Tree as tree
-use Rattle.template_walk.specs.Statements.{Printed, prints_value, prints_block, prints_super, printed_of}
-use Rattle.template_walk.specs.Runnable.{IsRunnable, IsTarget, AreAssignments, IsRunnableStatement, AreRunnableStatements}
-use Rattle.template_code.specs.Code.{Code, emit_raw, emit, jump, jump_if_false, push_with, pop_frame, push_loop, iterate, push_did_not_iterate, pop_loop_frame, push_auto_escape, pop_auto_escape, begin_capture, end_capture, discard_top, fast_super, call_block, load_blocks, include}
-use Rattle.template_code_shapes.specs.declared.outline.Opened.TheVariants.{With as with_frame, Loop as loop_frame}
-use Rattle.template_code_shapes.specs.Shapes.{Shape, floor_of, given, opened, with_escape, with_capture, innermost_loop}
+use Rattle.template_names.specs.Enclosed.{enclosed_names, uses_caller}
+use Rattle.template_walk.specs.Expressions.{alone, attribute_called, callee_of}
+use Rattle.template_walk.specs.Statements.{Printed, prints_value, prints_block, prints_super, prints_rounds, printed_of, printed_by, printed_rounds, is_super_name, is_loop_name, caller_name}
+use Rattle.template_walk.specs.Runnable.{IsRunnable, AreRunnable, AreRunnableArguments, IsTarget, AreTargets, AreAssignments, IsRunnableStatement, AreRunnableStatements}
+use Rattle.template_code.specs.Code.{Code, emit_raw, emit, store_local, jump, jump_if_false, push_with, pop_frame, push_loop, iterate, push_did_not_iterate, pop_loop_frame, push_auto_escape, pop_auto_escape, begin_capture, end_capture, discard_top, fast_super, fast_recurse, call_block, load_blocks, include}
+use Rattle.template_code_shapes.specs.declared.outline.Opened.TheVariants.{With as with_frame}
+use Rattle.template_code_shapes.specs.Shapes.{Shape, given, opened, loop_opened, with_escape, with_capture, innermost_loop}
 use Rattle.template_code_shapes.specs.Effects.{Effect, falling, jumping, effect_of}
-use Rattle.template_compiler_codegen.specs.Expressions.{Coded, then_code, one, nothing, skipped, either_code, expression_core, expression_code, filters_code}
-use Rattle.template_compiler_codegen.specs.Core.{flat}
-use Rattle.template_compiler_codegen.specs.Statements.{Ways, own_ways, closing_with, target_code, assignments_code, loop_flags, rounds_code, iterable_code, loop_end_code, branches_code, left_by, printed_core, statement_code, statements_code}
+use Rattle.template_compiler_codegen.specs.Expressions.{Coded, then_code, one, nothing, skipped, either_code, object_core, positional_cores, keyword_cores, expression_core, expression_code, filters_code}
+use Rattle.template_compiler_codegen.specs.Core.{no_ways, flat}
+use Rattle.template_compiler_codegen.specs.Statements.{Ways, own_ways, closing_with, target_code, assignments_code, loop_flags, rounds_code, iterable_code, loop_end_code, branches_code, left_by, printed_core, declared_core, calling_core, statements_core, statement_code, statements_code}
 use Rattle.template_compiler_codegen.proofs.Standing.{StandsAt, behind_one, instruction_at, behind_then, stands_first, stands_second, first_part, last_part, stands_either, behind_either}
 use Rattle.template_compiler_codegen.proofs.Expressions.{behind_single, behind_skipped}
 use Rattle.template_compiler_codegen.proofs.Lengths.{long_statements}
 use Rattle.template_compiler_generator.proofs.Segments.{Free, Lands, Goes, goes_to, goes_on, goes_then, goes_dead, goes_with, gate, flows_any, lands_at}
-use Rattle.template_compiler_generator.proofs.Plain.{ground, IsPlain, taken_plain, traded_plain, escape_plain, capture_plain, jumps_forward, jumps_back}
-use Rattle.template_compiler_generator.proofs.Moving.{Moves, stands_within, goes_single, goes_both, moves_one, moves_nothing, tests_on, goes_either, moves_then, expression_moves, filters_move, target_moves, assignments_move}
+use Rattle.template_compiler_generator.proofs.Plain.{Sits, IsPlain, escaped_plain, captured_plain, frame_by, framed_plain, framed_loop, frame_ends, taken_plain, traded_plain, escape_plain, capture_plain, jumps_forward, jumps_back}
+use Rattle.template_compiler_generator.proofs.Moving.{Moves, stands_within, goes_single, goes_both, moves_one, moves_nothing, tests_on, goes_either, moves_then, called_moves, expression_moves, object_moves, positional_move, keyword_move, filters_move, target_moves, assignments_move}
+use Rattle.template_compiler_generator.proofs.Declaring.{declared_moves, named_last}
 use Rattle.template_compiler_generator.proofs.Rounds.{Returns, goes_asked, pushes}
 use Rattle.template_compiler_generator.proofs.Keeping.{iterable_moves}
 use Rattle.template_compiler_generator.proofs.Importing.{import_moves, from_import_moves}
@@ -154,7 +158,7 @@ closes_then code place mid last behind s1 s N true same within p q = (
 
 -- a body with something open, which is closed behind it
 runs_closed : (looping : Bool) (ways : Ways) (close : Code) (widen : Shape → Shape) (body : Coded) → ((code : List Code) (s : Shape) → IsPlain code s → IsPlain code (widen s))
-    → ((code : List Code) (place : ℕ) (s : Shape) → floor_of s.frames ≡ ground → effect_of code place close (widen s) ≡ Some (falling s)) → Runs looping (closing_with close ways) 0 body
+    → ((code : List Code) (place : ℕ) (s : Shape) → Sits s → effect_of code place close (widen s) ≡ Some (falling s)) → Runs looping (closing_with close ways) 0 body
     → (code : List Code) (place : ℕ) (s base : Shape) → IsPlain code s → StandsAt code place (then_code body (one close) place) → (IsTrue looping → IsInside code ways s base place (place + length (then_code body (one close) place)))
     → (falls : Bool) × Goes code place (place + length (then_code body (one close) place)) (widen s) (gate falls s) (Outs looping ways base)
 runs_closed looping ways close widen body plainly closes x code place s base plain h inside =
@@ -245,15 +249,16 @@ goes_round target body targeted x code place push s plain loop home h =
     (λ inside. x (own_ways ends_at place) code begins s s plain (first_part code begins piece (jump place ∷ []) behind_stored) inside))
 
 -- behind the rounds
-goes_ended : (looping : Bool) (ways : Ways) (otherwise : Statements) (f : Coded) → Runs looping ways 0 f → (code : List Code) (place push : ℕ) (s base : Shape) → IsPlain code s
+goes_ended : (looping : Bool) (ways : Ways) (recursive : Bool) (otherwise : Statements) (f : Coded) → Runs looping ways 0 f → (code : List Code) (place push : ℕ) (s base : Shape) → IsPlain code s
     → StandsAt code place (loop_end_code otherwise f place) → (IsTrue looping → IsInside code ways s base place (place + length (loop_end_code otherwise f place)))
-    → Goes code place (place + length (loop_end_code otherwise f place)) (opened (loop_frame push) s) (Some s) (Outs looping ways base)
-goes_ended looping ways no_statements f x code place push s base plain h inside = goes_single code place pop_loop_frame (opened (loop_frame push) s) s (Outs looping ways base) h refl
-goes_ended looping ways (statements_more st sts) f x code place push s base plain h inside =
+    → Goes code place (place + length (loop_end_code otherwise f place)) (opened (frame_by recursive push s) s) (Some s) (Outs looping ways base)
+goes_ended looping ways recursive no_statements f x code place push s base plain h inside =
+    goes_single code place pop_loop_frame (opened (frame_by recursive push s) s) s (Outs looping ways base) h (ap (option_map falling) (frame_ends recursive 0 push s))
+goes_ended looping ways recursive (statements_more st sts) f x code place push s base plain h inside =
     let N = Outs looping ways base in
     let leap = skipped jump_if_false f in
     let closed = then_code (one pop_loop_frame) leap in
-    let s1 = opened (loop_frame push) s in
+    let s1 = opened (frame_by recursive push s) s in
     let mid = place + length (one push_did_not_iterate place) in
     let leap_at = mid + length (one pop_loop_frame mid) in
     let behind = leap_at + length (leap leap_at) in
@@ -264,33 +269,40 @@ goes_ended looping ways (statements_more st sts) f x code place push s base plai
     let stands_closed = stands_second code place (one push_did_not_iterate) closed h in
     goes_to code place behind whole s1 (Some s) N (sym (same ∙ same_closed))
     (goes_then code place mid behind s1 (given 1 s1) (Some (given 1 s1)) (Some s) N N N
-    (goes_single code place push_did_not_iterate s1 (given 1 s1) N (stands_first code place (one push_did_not_iterate) closed h) refl)
+    (goes_single code place push_did_not_iterate s1 (given 1 s1) N (stands_first code place (one push_did_not_iterate) closed h)
+    (ap (λ o. cond (is_some o) (Some (falling (given 1 s1))) None) (framed_loop recursive push s)))
     (goes_then code mid leap_at behind (given 1 s1) (given 1 s) (Some (given 1 s)) (Some s) N N N
-    (goes_single code mid pop_loop_frame (given 1 s1) (given 1 s) N (stands_first code mid (one pop_loop_frame) leap stands_closed) refl)
+    (goes_single code mid pop_loop_frame (given 1 s1) (given 1 s) N (stands_first code mid (one pop_loop_frame) leap stands_closed)
+    (ap (option_map falling) (frame_ends recursive 1 push s)))
     (runs_skipped looping ways f x code leap_at s base plain (stands_second code mid (one pop_loop_frame) leap stands_closed)
     (λ t. inside_part code ways s base place whole leap_at behind (omega arith) (omega arith) (inside t)))
     (λ u e. some_is (given 1 s) u e) (λ table stands flows needs. (needs, needs)))
     (λ u e. some_is (given 1 s1) u e) (λ table stands flows needs. (needs, needs)))
 
+-- the frame that a loop's flags open
+flags_frame : (recursive : Bool) (place : ℕ) (s : Shape) → loop_opened (loop_flags recursive) place s ≡ frame_by recursive place s
+flags_frame true place s = refl
+flags_frame false place s = refl
+
 -- a loop over the value on top
-runs_loop : (looping : Bool) (ways : Ways) (target : Expression) (body otherwise : Statements) → IsTarget target → ((w : Ways) → Runs true w 0 (statements_code w body)) → Runs looping ways 0 (statements_code ways otherwise)
-    → Runs looping ways 1 (then_code (one (push_loop loop_flags)) (then_code (rounds_code (target_code target) (bodied body)) (loop_end_code otherwise (statements_code ways otherwise))))
-runs_loop looping ways target body otherwise targeted x y code place s base plain h inside =
+runs_loop : (looping : Bool) (ways : Ways) (recursive : Bool) (target : Expression) (body otherwise : Statements) → IsTarget target → ((w : Ways) → Runs true w 0 (statements_code w body)) → Runs looping ways 0 (statements_code ways otherwise)
+    → Runs looping ways 1 (then_code (one (push_loop (loop_flags recursive))) (then_code (rounds_code (target_code target) (bodied body)) (loop_end_code otherwise (statements_code ways otherwise))))
+runs_loop looping ways recursive target body otherwise targeted x y code place s base plain h inside =
     let N = Outs looping ways base in
     let f = statements_code ways otherwise in
     let rounds = rounds_code (target_code target) (bodied body) in
     let end = loop_end_code otherwise f in
     let later = then_code rounds end in
-    let s1 = opened (loop_frame place) s in
-    let mid = place + length (one (push_loop loop_flags) place) in
-    let next : mid ≡ suc place = sym (behind_single place (push_loop loop_flags)) in
+    let s1 = opened (frame_by recursive place s) s in
+    let mid = place + length (one (push_loop (loop_flags recursive)) place) in
+    let next : mid ≡ suc place = sym (behind_single place (push_loop (loop_flags recursive))) in
     let end_at = mid + length (rounds mid) in
     let behind = end_at + length (end end_at) in
     let later_at = mid + length (later mid) in
-    let whole = place + length (then_code (one (push_loop loop_flags)) later place) in
-    let same : whole ≡ later_at = behind_then (one (push_loop loop_flags)) later place in
+    let whole = place + length (then_code (one (push_loop (loop_flags recursive))) later place) in
+    let same : whole ≡ later_at = behind_then (one (push_loop (loop_flags recursive))) later place in
     let same_later : later_at ≡ behind = behind_then rounds end mid in
-    let stands_later = stands_second code place (one (push_loop loop_flags)) later h in
+    let stands_later = stands_second code place (one (push_loop (loop_flags recursive))) later h in
     let stands_rounds = stands_first code mid rounds end stands_later in
     let stored = target_code target (suc mid) in
     let begins = suc mid + length stored in
@@ -298,10 +310,10 @@ runs_loop looping ways target body otherwise targeted x y code place s base plai
       true,
       goes_to code place behind whole (given 1 s) (Some s) N (sym (same ∙ same_later))
           (goes_then code place mid behind (given 1 s) s1 (Some s1) (Some s) N N N
-          (goes_single code place (push_loop loop_flags) (given 1 s) s1 N (stands_first code place (one (push_loop loop_flags)) later h) (pushes code loop_flags place mid ends s (λ below. refl) plain next (instruction_at code mid (iterate ends) (stored ++ (bodied body ends mid begins ++ (jump mid ∷ []))) stands_rounds)))
+          (goes_single code place (push_loop (loop_flags recursive)) (given 1 s) s1 N (stands_first code place (one (push_loop (loop_flags recursive))) later h) (pushes code (loop_flags recursive) place mid ends s (frame_by recursive place s) (flags_frame recursive place s) plain next (instruction_at code mid (iterate ends) (stored ++ (bodied body ends mid begins ++ (jump mid ∷ []))) stands_rounds)))
           (goes_then code mid end_at behind s1 s1 (Some s1) (Some s) Free N N
-          (goes_round target body targeted x code mid place s1 plain refl next stands_rounds)
-          (goes_ended looping ways otherwise f y code end_at place s base plain (stands_second code mid rounds end stands_later)
+          (goes_round target body targeted x code mid place s1 (framed_plain code recursive place s plain) (framed_loop recursive place s) next stands_rounds)
+          (goes_ended looping ways recursive otherwise f y code end_at place s base plain (stands_second code mid rounds end stands_later)
           (λ t. inside_part code ways s base place whole end_at behind (omega arith) (omega arith) (inside t)))
           (λ u e. some_is s1 u e) (λ table stands flows needs. (tt, needs)))
           (λ u e. some_is s1 u e) (λ table stands flows needs. (needs, needs))),
@@ -350,7 +362,7 @@ runs_escaped looping ways body x code place s base plain h inside =
     let behind = mid + length (bare mid) in
     let whole = place + length (then_code (one push_auto_escape) bare place) in
     let same : whole ≡ behind = behind_then (one push_auto_escape) bare place in
-    let closed = runs_closed looping ways pop_auto_escape with_escape body (λ code t k. k) (λ code place t k. ap (option_map falling) (escape_plain t k)) x code mid s base plain (stands_second code place (one push_auto_escape) bare h)
+    let closed = runs_closed looping ways pop_auto_escape with_escape body (λ code t k. escaped_plain code t k) (λ code place t k. ap (option_map falling) (escape_plain t k)) x code mid s base plain (stands_second code place (one push_auto_escape) bare h)
     (λ t. inside_part code ways s base place whole mid behind (omega arith) (omega arith) (inside t)) in (
       closed.0,
       goes_to code place behind whole (given 1 s) (gate closed.0 s) N (sym same)
@@ -377,7 +389,7 @@ runs_captured looping ways body taking takes x code place s base plain h inside 
     let same_later : later_at ≡ behind = behind_then body tail mid in
     let stands_later = stands_second code place (one (begin_capture true)) later h in
     let stands_tail = stands_second code mid body tail stands_later in
-    let inner = x code mid s1 base plain (stands_first code mid body tail stands_later) (λ t. inside_more whole mid tail_at (omega arith) (omega arith) (inside t)) in
+    let inner = x code mid s1 base (captured_plain code s plain) (stands_first code mid body tail stands_later) (λ t. inside_more whole mid tail_at (omega arith) (omega arith) (inside t)) in
     let stored : Goes code tail_at behind s1 (Some s) Free =
     goes_both code tail_at (one end_capture) taking s1 (given 1 s) s
     (goes_single code tail_at end_capture s1 (given 1 s) Free (stands_first code tail_at (one end_capture) taking stands_tail) (ended code tail_at))
@@ -412,20 +424,67 @@ runs_still : (looping : Bool) (ways : Ways) (c : Code) → ((code : List Code) (
 runs_still looping ways c is = runs_moves looping ways 0 (one c) (moves_one c 0 0 (λ code place s plain. is code place s))
 
 -- what a print writes
-runs_printed : (looping : Bool) (ways : Ways) (printed : Printed) (e : Expression) → IsRunnable e → Runs looping ways 0 (flat ways (printed_core printed (expression_core e)))
-runs_printed looping ways prints_value e r =
-    runs_with looping ways 0 1 (expression_code e) (one emit) (expression_moves e r) (runs_moves looping ways 1 (one emit) (moves_one emit 1 0 (λ code place s plain. traded_plain 1 0 s plain.0)))
-runs_printed looping ways (prints_block name) e r = runs_still looping ways (call_block name) (λ code place s. refl)
-runs_printed looping ways prints_super e r = runs_still looping ways fast_super (λ code place s. refl)
+abbrev PrintsRunnable : Printed → Type 0
+PrintsRunnable (prints_rounds e) = IsRunnable e
+PrintsRunnable _ = Unit {0}
+
+rounds_printed : (args : Arguments) → AreRunnableArguments args → PrintsRunnable (printed_rounds args)
+rounds_printed no_arguments r = tt
+rounds_printed (arguments_more (positional e) no_arguments) r = r.0
+rounds_printed (arguments_more (positional e) (arguments_more a more)) r = tt
+rounds_printed (arguments_more (keyword name e) more) r = tt
+rounds_printed (arguments_more (positional_spread e) more) r = tt
+rounds_printed (arguments_more (keyword_spread e) more) r = tt
+
+named_printed : (is_super is_loop : Bool) (args : Arguments) → AreRunnableArguments args
+    → PrintsRunnable (if is_super then prints_super else if is_loop then printed_rounds args else prints_value)
+named_printed true is_loop args r = tt
+named_printed false true args r = rounds_printed args r
+named_printed false false args r = tt
+
+attribute_printed : (b : Bool) (name : List ℕ) (args : Arguments) → PrintsRunnable (printed_by (attribute_called b name) args)
+attribute_printed true name args = tt
+attribute_printed false name args = tt
+
+printed_runs : (e : Expression) → IsRunnable e → PrintsRunnable (printed_of e)
+printed_runs (call (variable name) args) r = named_printed (is_super_name name && is_empty args) (is_loop_name name) args r.1
+printed_runs (call (attribute e name) args) r = attribute_printed (is_self_name e && is_empty args) name args
+printed_runs (call callee args) r = tt
+printed_runs e r = tt
+
+emit_runs : (looping : Bool) (ways : Ways) (c : Code) → ((code : List Code) (place : ℕ) (s : Shape) → IsPlain code s → effect_of code place c (given 1 s) ≡ Some (falling s))
+    → (e : Expression) → IsRunnable e → Runs looping ways 0 (then_code (expression_code e) (one c))
+emit_runs looping ways c is e r = runs_with looping ways 0 1 (expression_code e) (one c) (expression_moves e r) (runs_moves looping ways 1 (one c) (moves_one c 1 0 is))
+
+runs_printed : (looping : Bool) (ways : Ways) (printed : Printed) (e : Expression) → IsRunnable e → PrintsRunnable printed
+    → Runs looping ways 0 (flat ways (printed_core printed (expression_core e)))
+runs_printed looping ways prints_value e r h = emit_runs looping ways emit (λ code place s plain. traded_plain 1 0 s plain.0) e r
+runs_printed looping ways (prints_block name) e r h = runs_still looping ways (call_block name) (λ code place s. refl)
+runs_printed looping ways prints_super e r h = runs_still looping ways fast_super (λ code place s. refl)
+runs_printed looping ways (prints_rounds x) e r h = emit_runs looping ways fast_recurse (λ code place s plain. traded_plain 1 0 s plain.0) x h
+
+-- the body of a macro, from its parameters on: nothing leaves it, and its end is the run's
+declared_runs : (name : List ℕ) (arguments defaults : Expressions) (body : Statements) → AreTargets arguments → AreRunnable defaults
+    → Runs false no_ways 0 (statements_code no_ways body) → Moves (flat no_ways (declared_core name arguments defaults body (statements_core body))) 0 1
+declared_runs name arguments defaults body targets run x =
+    declared_moves name arguments defaults (enclosed_names arguments defaults body) (uses_caller arguments defaults body) (statements_code no_ways body) targets run
+    (λ code place s plain h. inner (x code place s s plain h (λ t. absurd cc)))
+  where
+    inner : {code : List Code} {from to : ℕ} {s : Shape} → (falls : Bool) × Goes code from to s (gate falls s) (Outs false no_ways s)
+        → (falls : Bool) × Goes code from to s (gate falls s) Free
+    inner {code} {from} {to} {s} g = (
+      g.0,
+      goes_with code from to s (gate g.0 s) (gate g.0 s) (Outs false no_ways s) Free g.1 (λ table flows. flows) (λ table stands flows needs. (λ t. absurd cc)),
+    )
 
 mutual
   pub statement_runs : (looping : Bool) (st : Statement) → IsRunnableStatement looping st → (ways : Ways) → Runs looping ways 0 (statement_code ways st)
   statement_runs looping (raw text) r ways = runs_still looping ways (emit_raw text) (λ code place s. refl)
-  statement_runs looping (print e) r ways = runs_printed looping ways (printed_of e) e r
-  statement_runs looping (for_loop target e condition false body otherwise) r ways =
-      runs_with looping ways 0 1 (iterable_code target e condition) (then_code (one (push_loop loop_flags)) (then_code (rounds_code (target_code target) (bodied body)) (loop_end_code otherwise (statements_code ways otherwise))))
+  statement_runs looping (print e) r ways = runs_printed looping ways (printed_of e) e r (printed_runs e r)
+  statement_runs looping (for_loop target e condition recursive body otherwise) r ways =
+      runs_with looping ways 0 1 (iterable_code target e condition) (then_code (one (push_loop (loop_flags recursive))) (then_code (rounds_code (target_code target) (bodied body)) (loop_end_code otherwise (statements_code ways otherwise))))
       (iterable_moves target e condition r.0 r.1 r.2)
-      (runs_loop looping ways target body otherwise r.0 (λ w. statements_run true body r.3 w) (statements_run looping otherwise r.4 ways))
+      (runs_loop looping ways recursive target body otherwise r.0 (λ w. statements_run true body r.3 w) (statements_run looping otherwise r.4 ways))
   statement_runs looping (if_condition e body otherwise) r ways =
       runs_with looping ways 0 1 (expression_code e) (branches_code otherwise (statements_code ways body) (statements_code ways otherwise)) (expression_moves e r.0)
       (runs_branches looping ways otherwise (statements_code ways body) (statements_code ways otherwise) (statements_run looping body r.1 ways) (statements_run looping otherwise r.2 ways))
@@ -456,6 +515,18 @@ mutual
   statement_runs looping (tree.include e ignore_missing) r ways =
       runs_with looping ways 0 1 (expression_code e) (one (include ignore_missing)) (expression_moves e r)
       (runs_moves looping ways 1 (one (include ignore_missing)) (moves_one (include ignore_missing) 1 0 (λ code place s plain. traded_plain 1 0 s plain.0)))
+  statement_runs looping (macro name arguments defaults body) r ways =
+      let declared = flat no_ways (declared_core name arguments defaults body (statements_core body)) in
+      runs_with looping ways 0 1 declared (one (store_local name)) (declared_runs name arguments defaults body r.0 r.1 (statements_run false body r.2 no_ways))
+      (runs_moves looping ways 1 (one (store_local name)) (moves_one (store_local name) 1 0 (λ code place s plain. traded_plain 1 0 s plain.0)))
+  statement_runs looping (tree.call_block callee passed arguments defaults body) r ways =
+      let caller = declared_core caller_name arguments defaults body (statements_core body) in
+      let declared = declared_runs caller_name arguments defaults body r.1 r.2 (statements_run false body r.3 no_ways) in
+      runs_with looping ways 0 1 (flat no_ways (calling_core callee passed caller)) (one emit)
+      (called_moves (callee_of callee passed) (expression_core callee) (object_core callee) (positional_cores passed) (keyword_cores passed ++ alone (caller_name, caller) ∷ [])
+      (expression_moves callee r.0.0) (λ name is. object_moves callee passed r.0.0 name is) (positional_move passed r.0.1)
+      (named_last (keyword_cores passed) caller_name caller (keyword_move passed r.0.1) declared))
+      (runs_moves looping ways 1 (one emit) (moves_one emit 1 0 (λ code place s plain. traded_plain 1 0 s plain.0)))
   statement_runs looping (do_call callee args) r ways =
       runs_with looping ways 0 1 (expression_code (call callee args)) (one discard_top) (expression_moves (call callee args) r)
       (runs_moves looping ways 1 (one discard_top) (moves_one discard_top 1 0 (λ code place s plain. traded_plain 1 0 s plain.0)))

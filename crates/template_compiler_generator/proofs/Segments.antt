@@ -84,6 +84,37 @@ goes_on code place c s e at is nowhere = record {
         let O : Option Effect → Type 0 = λ o. IsSomeAnd o (Leads table place) in
         subst Q (some_is s u (sym stood ∙ stands)) (subst R (some_is c d (sym at ∙ there)) (subst O (sym is) leads))
 
+-- one that makes a macro, whose body is entered with a shape
+pub goes_making : (code : List Code) (place : ℕ) (c : Code) (s t : Shape) (offset : ℕ) (inner : Shape) → slice_get code place ≡ Some c
+    → effect_of code place c s ≡ Some (record { falls = Some t; jumps = None; enters = Some (offset, inner) })
+    → Goes code place (suc place) s (Some t) (λ table. table offset ≡ Some inner)
+goes_making code place c s t offset inner at is = record {
+  ordered = omega arith;
+  own = λ q. Some s;
+  enters = λ table agrees flows. agrees place (omega arith) (omega arith);
+  fine = λ table agrees flows needs q low high.
+      let here : place ≡ q = omega arith in
+      let P : ℕ → Type 0 = λ n. Fine code table n in
+      subst P here (fine_here table (agrees place (omega arith) (omega arith))
+      (record { falls = flows; jumps = λ to u e. absurd cc; enters = λ to u e. entered table needs to u e }));
+}
+  where
+    effect : Effect
+    effect = record { falls = Some t; jumps = None; enters = Some (offset, inner) }
+
+    entered : (table : ℕ → Option Shape) → table offset ≡ Some inner → (to : ℕ) (u : Shape) → ◌≡◌ {A = Option (ℕ × Shape)} (Some (offset, inner)) (Some (to, u)) → table to ≡ Some u
+    entered table stands to u e =
+        let same : ◌≡◌ {A = ℕ × Shape} (offset, inner) (to, u) = some_is {A = ℕ × Shape} (offset, inner) (to, u) e in
+        let P : ℕ → Type 0 = λ n. table n ≡ Some u in
+        subst P (ap (λ (w : ℕ × Shape). w.0) same) (stands ∙ ap (λ (w : ℕ × Shape). Some w.1) same)
+
+    fine_here : (table : ℕ → Option Shape) → table place ≡ Some s → Leads table place effect → Fine code table place
+    fine_here table stood leads u d stands there =
+        let Q : Shape → Type 0 = λ v. IsSomeAnd (effect_of code place d v) (Leads table place) in
+        let R : Code → Type 0 = λ b. IsSomeAnd (effect_of code place b s) (Leads table place) in
+        let O : Option Effect → Type 0 = λ o. IsSomeAnd o (Leads table place) in
+        subst Q (some_is s u (sym stood ∙ stands)) (subst R (some_is c d (sym at ∙ there)) (subst O (sym is) leads))
+
 -- one segment, and another, which is entered from the first or by a jump
 pub goes_then : (code : List Code) (a b c : ℕ) (s t : Shape) (middle exit : Option Shape) (A B N : (ℕ → Option Shape) → Type 0) → Goes code a b s middle A → Goes code b c t exit B
     → ((u : Shape) → middle ≡ Some u → t ≡ u) → ((table : ℕ → Option Shape) → table b ≡ Some t → Flows table exit c → N table → A table × B table) → Goes code a c s exit N
@@ -115,6 +146,49 @@ goes_then code a b c s t middle exit A B N x y joins meets = record {
 
     between : (table : ℕ → Option Shape) → table b ≡ Some t → Flows table middle b
     between table at_b u goes = at_b ∙ ap Some (joins u goes)
+
+-- three of which the first leads past the second, which is entered from elsewhere
+pub goes_past : (code : List Code) (a b c d : ℕ) (s t u : Shape) (exit : Option Shape) (A B C N : (ℕ → Option Shape) → Type 0) → Goes code a b s None A → Goes code b c t None B
+    → Goes code c d u exit C → ((table : ℕ → Option Shape) → table b ≡ Some t → table c ≡ Some u → Flows table exit d → N table → A table × B table × C table) → Goes code a d s exit N
+goes_past code a b c d s t u exit A B C N x y z meets = record {
+  ordered = let one = x.ordered in let two = y.ordered in let three = z.ordered in omega arith;
+  own = own;
+  enters = λ table agrees flows. x.enters table (first table agrees) (λ v e. absurd cc);
+  fine = λ table agrees flows needs q low high.
+      let at_b = y.enters table (second table agrees) (λ v e. absurd cc) in
+      let at_c = z.enters table (third table agrees) flows in
+      let all = meets table at_b at_c flows needs in
+      elim (below_cases q b) [
+        | inl below ↦ x.fine table (first table agrees) (λ v e. absurd cc) all.0 q low below
+        | inr above ↦ elim (below_cases q c) [
+          | inl within ↦ y.fine table (second table agrees) (λ v e. absurd cc) all.1 q above within
+          | inr behind ↦ z.fine table (third table agrees) flows all.2 q behind high
+        ]
+      ];
+}
+  where
+    own : ℕ → Option Shape
+    own q = cond (nat_lt q b) (x.own q) (cond (nat_lt q c) (y.own q) (z.own q))
+
+    first : (table : ℕ → Option Shape) → Agrees table own a d → Agrees table x.own a b
+    first table agrees q low high =
+        let two = y.ordered in
+        let three = z.ordered in
+        agrees q low (omega arith) ∙ ap (λ w. cond w (x.own q) (cond (nat_lt q c) (y.own q) (z.own q))) (lt-ltb q b high)
+
+    second : (table : ℕ → Option Shape) → Agrees table own a d → Agrees table y.own b c
+    second table agrees q low high =
+        let one = x.ordered in
+        let three = z.ordered in
+        agrees q (omega arith) (omega arith) ∙ ap (λ w. cond w (x.own q) (cond (nat_lt q c) (y.own q) (z.own q))) (le-ltb q b low) ∙
+        ap (λ w. cond w (y.own q) (z.own q)) (lt-ltb q c high)
+
+    third : (table : ℕ → Option Shape) → Agrees table own a d → Agrees table z.own c d
+    third table agrees q low high =
+        let one = x.ordered in
+        let two = y.ordered in
+        agrees q (omega arith) high ∙ ap (λ w. cond w (x.own q) (cond (nat_lt q c) (y.own q) (z.own q))) (le-ltb q b (omega arith)) ∙
+        ap (λ w. cond w (y.own q) (z.own q)) (le-ltb q c low)
 
 -- behind a segment that nothing leaves nothing is reached
 pub goes_dead : (code : List Code) (a b c : ℕ) (s : Shape) (N : (ℕ → Option Shape) → Type 0) → b ≤ c → Goes code a b s None N → Goes code a c s None N

@@ -13,11 +13,16 @@ use Rattle.template_compiler_codegen.proofs.Standing.{StandsAt}
 use Rattle.template_compiler_generator.specs.Certificates.{TemplatesAreCertified, ExpressionsAreCertified}
 use Rattle.template_compiler_generator.proofs.Aims.{template_calm, expression_calm_whole}
 use Rattle.template_compiler_generator.proofs.Segments.{Agrees, Flows, Free, Goes, goes_to, gate, gate_is}
+use Rattle.template_compiler_generator.proofs.Plain.{Sits}
 use Rattle.template_compiler_generator.proofs.Moving.{expression_moves}
 use Rattle.template_compiler_generator.proofs.Running.{Outs, statements_run}
 
 stands_whole : (code : List Code) → StandsAt code 0 code
 stands_whole code = record { front = []; back = []; is = sym (append-nil code); at = refl }
+
+-- where a run begins nothing is open
+begins_plain : Sits start
+begins_plain = (omega arith, omega arith, omega arith)
 
 -- a segment's own shapes, and behind it its exit
 abbrev table_of : ℕ → (ℕ → Option Shape) → Option Shape → ℕ → Option Shape
@@ -42,7 +47,7 @@ pub templates_certified : TemplatesAreCertified
 templates_certified tree r =
     let code = template_code tree in
     let same : 0 + length code ≡ length code = omega arith in
-    let g = statements_run false tree r no_ways code 0 start start (refl, template_calm tree) (stands_whole code) (λ t. absurd cc) in
+    let g = statements_run false tree r no_ways code 0 start start (begins_plain, template_calm tree) (stands_whole code) (λ t. absurd cc) in
     certified Template code (gate g.0 start) (free code (gate g.0 start) (goes_to code 0 (0 + length code) (length code) start (gate g.0 start) (Outs false no_ways start) same g.1)) (λ s e. sym (gate_is g.0 start s e))
   where
     free : (code : List Code) (exit : Option Shape) → Goes code 0 (length code) start exit (Outs false no_ways start) → Goes code 0 (length code) start exit Free
@@ -57,7 +62,7 @@ pub expressions_certified : ExpressionsAreCertified
 expressions_certified e r =
     let code = standalone_code e in
     let same : 0 + length code ≡ length code = omega arith in
-    let g = expression_moves e r code 0 start (refl, expression_calm_whole e) (stands_whole code) in
+    let g = expression_moves e r code 0 start (begins_plain, expression_calm_whole e) (stands_whole code) in
     certified ExpressionStream code (Some (given 1 start)) (goes_to code 0 (0 + length code) (length code) start (Some (given 1 start)) Free same g) (λ s h. some_is s h)
   where
     some_is : (s : Shape) → Some (given 1 start) ≡ Some s → s ≡ given 1 start

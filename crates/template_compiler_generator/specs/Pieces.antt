@@ -1,10 +1,11 @@
 -- What generated code does wherever it stands.
 use Rattle.std.specs.Prelude.{◌≡◌, ℕ, ◌+◌, List, ◌∷◌, ◌++◌, length}
 use Rattle.template_tree.specs.Tree.{Expression, Statements}
-use Rattle.template_process.specs.Process.{Process, Below}
+use Rattle.template_process.specs.Process.{no_counts, Process, Below}
 use Rattle.template_walk.specs.Expressions.{expression_walk}
 use Rattle.template_walk.specs.Statements.{Exits, statements_walk}
 use Rattle.template_code.specs.Code.{Operand, single, Code}
+use Rattle.template_code.specs.Counting.{counts_in, counts_before}
 use Rattle.template_code.specs.Steps.{exec}
 use Rattle.template_compiler_codegen.specs.Expressions.{expression_code}
 use Rattle.template_compiler_codegen.specs.Statements.{Ways, left_by, statements_code}
@@ -34,11 +35,12 @@ pub record WaysLead (code : List Code) (bound : ℕ) (operands : List Operand) (
   pub on_break : LeadsTo code bound operands ways.closings ways.break_to exits.on_break
   pub on_continue : LeadsTo code bound operands ways.closings ways.continue_to exits.on_continue
 
--- The same of statements: the code does there what their walk does, as far as that goes under its bound, with the exits that
--- its ways out lead to, and goes on behind the piece over the same operands.
+-- The same of statements: the code does there what their walk does behind so many macros and loops as are made or may be called
+-- again in the code before, as far as that goes under its bound, with the exits that its ways out lead to, where none is made on
+-- them, and goes on behind the piece over the same operands.
 abbrev pub StatementsPerformAnywhere : Type 0
-StatementsPerformAnywhere = (tree : Statements) (n : ℕ) (ways : Ways) (code : List Code) (place : ℕ)
+StatementsPerformAnywhere = (tree : Statements) (n : ℕ) (ways : Ways) → counts_in ways.closings ≡ no_counts → (code : List Code) (place : ℕ)
     → HasPiece code place (statements_code ways tree place)
     → (behind : ℕ) → (before : ℕ) × ((operands : List Operand) (exits : Exits) → WaysLead code behind operands ways exits
-    → Below (statements_walk n tree exits (exec code behind (place + length (statements_code ways tree place)) operands))
+    → Below (statements_walk n (counts_before code place) tree exits (exec code behind (place + length (statements_code ways tree place)) operands))
     (exec code before place operands))

@@ -1,3 +1,3 @@
-pub mod Bodies
-pub mod Decided
-pub mod Parts
+mod Trees
+pub mod Expressions
+pub mod Statements

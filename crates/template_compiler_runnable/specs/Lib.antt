@@ -1,2 +1,1 @@
-pub mod Running
-pub mod Runs
+pub mod Laws

@@ -1,10 +1,14 @@
-//! Whether a tree runs, of a template or of an expression: whether all of its constructs have a walk.
+//! Laws of trees: what is read has a walk.
 #![tactic(auto)]
 
-mod expressions;
-mod filters;
-mod statements;
-mod targets;
+ghost use Rattle.template_compiler_runnable.specs.Laws.{ExpressionsRun, TemplatesRun};
 
-pub use expressions::is_runnable_expr;
-pub use statements::is_runnable;
+/// A law, as the contract of a function that does nothing: an expression that the grammar reads has a walk.
+pub fn expressions_run()
+    ensures { ExpressionsRun }
+{}
+
+/// A law, as the contract of a function that does nothing: a template that the grammar reads has a walk.
+pub fn templates_run()
+    ensures { TemplatesRun }
+{}

@@ -1,6 +1,7 @@
 pub mod Assignments
 pub mod Bodies
 pub mod Closings
+pub mod Declaring
 pub mod Elifs
 pub mod Filtering
 pub mod Importing

@@ -1,27 +1,30 @@
 -- The trees of nodes, from the parts that a node holds, and how deep those are.
-use Rattle.std.proofs.Common.{◌≡◌, ℕ, ◌<◌, Bool, true, false, Option, List, length, get_or, Box, Global, rules, refl, sym, ap, subst, ◌∙◌, arith, [], ◌∷◌}
+use Rattle.std.proofs.Common.{◌≡◌, ℕ, ◌<◌, true, Option, List, length, get_or, Box, Global, rules, refl, sym, ap, ◌∙◌, arith, [], ◌∷◌}
 use Rattle.template_tree.specs.Tree.{Expression, Optional, Statement, Statements, absent, given, for_loop, with_block, set_block, auto_escape, filter_block, no_statements, statements_more}
 use Rattle.template_tree_statements.specs.View.{assignments_in, statement_of}
 use Rattle.template_tree.specs.View.{expression_of, optional_in}
+use Rattle.template_tree.specs.declared.calls.Call.{Call as CallNode}
 use Rattle.template_tree.specs.declared.expressions.Expr.{Expr}
 use Rattle.template_tree.specs.declared.span.Spanned.{Spanned}
 use Rattle.template_tree_statements.specs.declared.statements.AutoEscape.{AutoEscape as AutoEscapeNode}
-use Rattle.template_tree_statements.specs.declared.statements.CallBlock.{CallBlock as CallBlockNode, CallBlock' as called}
+use Rattle.template_tree_statements.specs.declared.statements.CallBlock.{CallBlock as CallBlockNode, CallBlock' as called, out-CallBlock}
+use Rattle.template_tree_statements.specs.declared.statements.Macro.{Macro as MacroNode}
 use Rattle.template_tree_statements.specs.declared.statements.FilterBlock.{FilterBlock as FilterBlockNode}
 use Rattle.template_tree_statements.specs.declared.statements.ForLoop.{ForLoop as ForLoopNode}
 use Rattle.template_tree_statements.specs.declared.statements.IfCond.{IfCond as IfCondNode}
 use Rattle.template_tree_statements.specs.declared.statements.SetBlock.{SetBlock as SetBlockNode}
 use Rattle.template_tree_statements.specs.declared.statements.WithBlock.{WithBlock as WithBlockNode}
-use Rattle.template_tree_statements.specs.declared.statements.Stmt.{Stmt, AutoEscape, CallBlock, FilterBlock, ForLoop, IfCond, SetBlock, WithBlock, size-Stmt, the_lemmas}
+use Rattle.template_tree_statements.specs.declared.statements.Stmt.{Stmt, AutoEscape, CallBlock, FilterBlock, ForLoop, IfCond, Macro, SetBlock, WithBlock, size-Stmt, the_lemmas}
 use Rattle.template_tree_parts.proofs.Rows.{statements_row}
 use Rattle.template_tree_parts.proofs.Trees.{escape_tree, for_tree, if_tree, with_tree}
 use Rattle.template_walk.specs.Runnable.{IsTarget, IsRunnableStatement, AreRunnableStatements}
 use Rattle.template_tree_parts.specs.Listed.{statements_in}
+use Rattle.template_compiler_statement_codegen.specs.Macros.{call_block_of, macro_of}
 use Rattle.template_compiler_statement_codegen.specs.Filtered.{AreFiltersIfGiven}
 use Rattle.template_compiler_statement_codegen.specs.Listed.{IsRunnableTree, body_deep, condition_deep, condition_of}
 use Rattle.template_compiler_statement_codegen.proofs.Bodies.{body_below}
 
--- a call's block is no runnable statement
+-- a call's block is no whole template
 with_value : Box (Spanned CallBlockNode) Global → CallBlockNode → Box (Spanned CallBlockNode) Global
 with_value n v = record { ptr = n.ptr; alloc = n.alloc; value = record { node = v; span = n.value.span } }
 
@@ -33,13 +36,54 @@ pub call_no_tree : (n : Box (Spanned CallBlockNode) Global) → IsRunnableTree (
 unfolding with_value
 call_no_tree n h = tree_by n n.value.node h
 
-statement_by : (n : Box (Spanned CallBlockNode) Global) (v : CallBlockNode) → IsRunnableStatement true (statement_of (CallBlock (with_value n v))) → ⊥
-unfolding with_value
-statement_by n (called call q name args defaults shape body inner) h = h
+-- a macro, and a call block: their trees, and the body that is smaller than the node
+macro_tree : (n : Box (Spanned MacroNode) Global) → statement_of (Macro n) ≡ macro_of n.value.node
+macro_tree n = search (rules, the_lemmas, statements_row)
 
-pub call_no_statement : (n : Box (Spanned CallBlockNode) Global) → IsRunnableStatement true (statement_of (CallBlock n)) → ⊥
+pub macro_is : (s : Stmt) (n : Box (Spanned MacroNode) Global) (m : MacroNode) → s ≡ Macro n → m ≡ n.value.node → statement_of s ≡ macro_of m
+macro_is s n m node read = ap (λ (x : Stmt). statement_of x) node ∙ macro_tree n ∙ ap (λ (x : MacroNode). macro_of x) (sym read)
+
+macro_body_smaller : (n : Box (Spanned MacroNode) Global) (i : ℕ) (d : Stmt) → i < length n.value.node.body.items
+    → size-Stmt (get_or n.value.node.body.items i d) < size-Stmt (Macro n)
+macro_body_smaller n i d h = search (rules, the_lemmas)
+
+macro_positive : (n : Box (Spanned MacroNode) Global) → 0 < size-Stmt (Macro n)
+macro_positive n = search (rules, the_lemmas)
+
+pub macro_deep : (s : Stmt) (n : Box (Spanned MacroNode) Global) (body : List Stmt) → s ≡ Macro n → body ≡ n.value.node.body.items
+    → body_deep body < size-Stmt s
+macro_deep s n body node read = rw (node, read) (body_below n.value.node.body.items (size-Stmt (Macro n)) (macro_positive n) (macro_body_smaller n))
+
+-- what a node of a call block holds
+abbrev pub call_in : Box (Spanned CallBlockNode) Global → Spanned CallNode
+call_in n = (out-CallBlock n.value.node).call.value
+
+abbrev pub macro_in : Box (Spanned CallBlockNode) Global → Spanned MacroNode
+macro_in n = (out-CallBlock n.value.node).macro_decl.value
+
+block_by : (n : Box (Spanned CallBlockNode) Global) (v : CallBlockNode)
+    → statement_of (CallBlock (with_value n v)) ≡ call_block_of (call_in (with_value n v)).node (macro_in (with_value n v)).node
+unfolding with_value out-CallBlock
+block_by n (called call q name args defaults shape body inner) = search (rules, the_lemmas, statements_row)
+
+pub call_block_is : (s : Stmt) (n : Box (Spanned CallBlockNode) Global) (c : Spanned CallNode) (m : Spanned MacroNode) → s ≡ CallBlock n
+    → c ≡ call_in n → m ≡ macro_in n → statement_of s ≡ call_block_of c.node m.node
 unfolding with_value
-call_no_statement n h = statement_by n n.value.node h
+call_block_is s n c m node call macro =
+    ap (λ (x : Stmt). statement_of x) node ∙ block_by n n.value.node ∙
+    ap (λ (x : Spanned CallNode). call_block_of x.node (macro_in n).node) (sym call) ∙
+    ap (λ (x : Spanned MacroNode). call_block_of c.node x.node) (sym macro)
+
+block_below : (n : Box (Spanned CallBlockNode) Global) (v : CallBlockNode)
+    → body_deep (macro_in (with_value n v)).node.body.items < size-Stmt (CallBlock (with_value n v))
+unfolding with_value out-CallBlock
+block_below n (called call q name args defaults shape body inner) =
+    body_below _ _ (search (rules, the_lemmas)) (λ i d h. search (rules, the_lemmas))
+
+pub call_block_deep : (s : Stmt) (n : Box (Spanned CallBlockNode) Global) (m : Spanned MacroNode) → s ≡ CallBlock n → m ≡ macro_in n
+    → body_deep m.node.body.items < size-Stmt s
+unfolding with_value
+call_block_deep s n m node read = rw (node, read) (block_below n n.value.node)
 
 -- bodies are smaller than the node
 true_body_smaller : (n : Box (Spanned IfCondNode) Global) (i : ℕ) (d : Stmt) → i < length n.value.node.true_body.items
@@ -158,28 +202,13 @@ condition_is s n c node read =
 pub condition_within : (s : Stmt) (n : Box (Spanned IfCondNode) Global) (c : IfCondNode) → s ≡ IfCond n → c ≡ n.value.node → condition_deep c < size-Stmt s
 condition_within s n c node read = rw (node, read) (condition_smaller n)
 
--- a loop that runs has no call of itself
-loop_plain : (target e : Expression) (condition : Optional) (recursive : Bool) (body otherwise : Statements)
-    → IsRunnableStatement true (for_loop target e condition recursive body otherwise)
-    → for_loop target e condition recursive body otherwise ≡ for_loop target e condition false body otherwise
-loop_plain target e condition false body otherwise h = refl
-loop_plain target e condition true body otherwise h = absurd h
-
 abbrev pub loop_of : ForLoopNode → Statement
 loop_of l =
-    for_loop (expression_of l.target) (expression_of l.iter) (optional_in l.filter_expr) false (statements_in l.body.items)
+    for_loop (expression_of l.target) (expression_of l.iter) (optional_in l.filter_expr) l.recursive (statements_in l.body.items)
     (statements_in l.else_body.items)
 
-pub loop_is : (s : Stmt) (n : Box (Spanned ForLoopNode) Global) (l : ForLoopNode) → IsRunnableStatement true (statement_of s)
-    → s ≡ ForLoop n → l ≡ n.value.node → statement_of s ≡ loop_of l
-loop_is s n l h node read =
-    let v = n.value.node in
-    let tree : statement_of s ≡ for_loop (expression_of v.target) (expression_of v.iter) (optional_in v.filter_expr) v.recursive (statements_in v.body.items)
-    (statements_in v.else_body.items) = ap (λ (x : Stmt). statement_of x) node ∙ for_tree n in
-    tree ∙
-    loop_plain (expression_of v.target) (expression_of v.iter) (optional_in v.filter_expr) v.recursive (statements_in v.body.items)
-    (statements_in v.else_body.items) (subst (λ (x : Statement). IsRunnableStatement true x) tree h) ∙
-    ap (λ (x : ForLoopNode). loop_of x) (sym read)
+pub loop_is : (s : Stmt) (n : Box (Spanned ForLoopNode) Global) (l : ForLoopNode) → s ≡ ForLoop n → l ≡ n.value.node → statement_of s ≡ loop_of l
+loop_is s n l node read = ap (λ (x : Stmt). statement_of x) node ∙ for_tree n ∙ ap (λ (x : ForLoopNode). loop_of x) (sym read)
 
 -- the parts of a block that runs are runnable
 pub set_block_runs : (target : Expression) (filters : Optional) (body : Statements) → IsRunnableStatement true (set_block target filters body)

@@ -1,6 +1,6 @@
 -- A whole stream: what runs outside of loops runs inside of them too, and nothing is open at first.
 use Rattle.std.proofs.Common.{◌≡◌, ℕ, Bool, true, false, List, [], ap, subst, ◌∙◌, refl}
-use Rattle.template_tree.specs.Tree.{Statement, Statements, absent, given, template, raw, print, for_loop, if_condition, with_block, set, set_block, auto_escape, filter_block, block, import, from_import, extends, include, continue_loop, break_loop, do_call, no_statements, statements_more}
+use Rattle.template_tree.specs.Tree.{Statement, Statements, absent, given, template, raw, print, for_loop, if_condition, with_block, set, set_block, auto_escape, filter_block, block, import, from_import, extends, include, macro, call_block, continue_loop, break_loop, do_call, no_statements, statements_more}
 use Rattle.template_walk.specs.Runnable.{IsRunnableStatement, AreRunnableStatements}
 use Rattle.template_code.specs.declared.listing.Instructions.{Instructions}
 use Rattle.template_compiler_codegen.specs.Statements.{Ways, no_ways, statements_code}
@@ -15,7 +15,7 @@ mutual
   looser_statement : (looping : Bool) (s : Statement) → IsRunnableStatement looping s → IsRunnableStatement true s
   looser_statement looping (raw text) h = tt
   looser_statement looping (print e) h = h
-  looser_statement looping (for_loop target e condition false body otherwise) h = (h.0, h.1, h.2, h.3, looser_statements looping otherwise h.4)
+  looser_statement looping (for_loop target e condition recursive body otherwise) h = (h.0, h.1, h.2, h.3, looser_statements looping otherwise h.4)
   looser_statement looping (if_condition e body otherwise) h = (h.0, looser_statements looping body h.1, looser_statements looping otherwise h.2)
   looser_statement looping (with_block pairs body) h = (h.0, looser_statements looping body h.1)
   looser_statement looping (set target e) h = h
@@ -28,6 +28,8 @@ mutual
   looser_statement looping (from_import e names) h = h
   looser_statement looping (extends e) h = h
   looser_statement looping (include e ignore_missing) h = h
+  looser_statement looping (macro name arguments defaults body) h = h
+  looser_statement looping (call_block callee passed arguments defaults body) h = h
   looser_statement looping (do_call callee args) h = h
   looser_statement looping continue_loop h = refl
   looser_statement looping break_loop h = refl

@@ -6,3 +6,4 @@ pub mod Refusals
 pub mod Filtered
 pub mod Printing
 pub mod Imports
+pub mod Macros

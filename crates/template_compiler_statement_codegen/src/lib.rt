@@ -4,6 +4,7 @@
 mod breaks;
 mod imports;
 mod iterables;
+mod macros;
 mod prints;
 mod puts;
 mod rounds;

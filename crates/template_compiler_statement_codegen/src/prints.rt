@@ -1,10 +1,10 @@
-//! What a print writes: a value; or what a block, or `super()`, writes by itself.
+//! What a print writes: a value; or what a block, `super()`, or the rounds of a loop over a value write by themselves.
 ghost use Rattle.std.specs.Prelude.{◌≡◌, OnOk, IfErr};
 ghost use Rattle.template_tree.specs.Tree.{print};
 ghost use Rattle.template_tree.specs.View.{arguments_in, expression_of};
 ghost use Rattle.template_walk.specs.Runnable.{IsRunnable};
-ghost use Rattle.template_walk.specs.Statements.{is_super_name, printed_of};
-ghost use Rattle.template_code.specs.Code.{emit};
+ghost use Rattle.template_walk.specs.Statements.{is_loop_name, is_super_name, printed_of, printed_rounds};
+ghost use Rattle.template_code.specs.Code.{emit, fast_recurse};
 ghost use Rattle.template_code.specs.Listing.{code_in};
 ghost use Rattle.template_compiler_codegen.specs.Expressions.{then_code, one, expression_code};
 ghost use Rattle.template_compiler_codegen.specs.Statements.{no_ways, statement_code};
@@ -18,15 +18,16 @@ use std::alloc::Global;
 use std::borrow::CowStr;
 use template_code::{Instruction, Instructions};
 use template_compiler_expression_codegen::has_no_arguments;
-use template_tree::{Call, CallType, Expr};
+use template_tree::{Call, CallArg, CallType, Expr, Span};
 use template_values_errors::ErrorKind;
 
 // What a print writes.
 #[derive(Clone, Copy)]
-pub(crate) enum Printing<'source> {
+pub(crate) enum Printing<'ast, 'source> {
     Value,
     Block(&'source str),
     Super,
+    Rounds(&'ast Expr<'source>),
 }
 
 // What is printed.
@@ -47,6 +48,7 @@ pub(crate) fn compile_print<'source>(
             put(code, Instruction::CallBlock(name), Some(expr.span()))
         }
         Printing::Super => put(code, Instruction::FastSuper, Some(expr.span())),
+        Printing::Rounds(value) => print_rounds(alloc, code, value, expr.span()),
     }
 }
 
@@ -65,8 +67,25 @@ fn print_value<'source>(
     put(code, Instruction::Emit, None)
 }
 
+// The rounds of a loop over a value.
+#[inline(always)]
+fn print_rounds<'source>(
+    alloc: Global,
+    code: &mut Instructions<'source>,
+    value: &Expr<'source>,
+    span: Span,
+) -> Result<(), ErrorKind>
+    requires { IsRunnable (expression_of value.now) }
+    ensures put { OnOk result
+        (Puts (then_code (expression_code (expression_of value.now)) (one fast_recurse)) code.old code.new) }
+    ensures refused { IfErr result (Refuses (code_in code.new)) }
+{
+    compile_expr(alloc, code, value)?;
+    put(code, Instruction::FastRecurse, Some(span))
+}
+
 // What the print of an expression writes.
-fn printing_of<'source>(expr: &Expr<'source>) -> Printing<'source>
+fn printing_of<'ast, 'source>(expr: &'ast Expr<'source>) -> Printing<'ast, 'source>
     ensures { printed_as result ≡ printed_of (expression_of expr.now) }
 {
     match expr {
@@ -89,7 +108,7 @@ fn printing_of<'source>(expr: &Expr<'source>) -> Printing<'source>
 }
 
 // The same of a call.
-fn call_printing<'source>(call: &Call<'source>) -> Printing<'source>
+fn call_printing<'ast, 'source>(call: &'ast Call<'source>) -> Printing<'ast, 'source>
     ensures { printed_as result ≡ printed_of (call_of call.now) }
 {
     match call.identify_call() {
@@ -101,16 +120,31 @@ fn call_printing<'source>(call: &Call<'source>) -> Printing<'source>
 }
 
 // The same of a call of a name.
-fn named_printing<'source>(call: &Call<'source>, name: &str) -> Printing<'source>
+fn named_printing<'ast, 'source>(call: &'ast Call<'source>, name: &str) -> Printing<'ast, 'source>
     ensures { printed_as result ≡ printed_named name.now (arguments_in call.now.args.items) }
 {
-    if !is_super(name) {
-        return Printing::Value;
+    if is_super(name) && has_no_arguments(call) {
+        return Printing::Super;
     }
-    if has_no_arguments(call) {
-        Printing::Super
+    if is_loop(name) {
+        rounds_printing(&call.args)
     } else {
         Printing::Value
+    }
+}
+
+// The same of a call of `loop` with arguments: its rounds run over one that is passed by its place, if there is no other.
+fn rounds_printing<'ast, 'source>(arguments: &'ast [CallArg<'source>]) -> Printing<'ast, 'source>
+    ensures { printed_as result ≡ printed_rounds (arguments_in arguments.now) }
+{
+    if arguments.len() != 1 {
+        return Printing::Value;
+    }
+    match &arguments[0] {
+        CallArg::Pos(value) => Printing::Rounds(value),
+        CallArg::Kwarg(_, _) => Printing::Value,
+        CallArg::PosSplat(_) => Printing::Value,
+        CallArg::KwargSplat(_) => Printing::Value,
     }
 }
 
@@ -119,4 +153,11 @@ fn is_super(name: &str) -> bool
     ensures { result ≡ is_super_name name.now }
 {
     name == "super"
+}
+
+// Whether what is called is the loop around the print.
+fn is_loop(name: &str) -> bool
+    ensures { result ≡ is_loop_name name.now }
+{
+    name == "loop"
 }

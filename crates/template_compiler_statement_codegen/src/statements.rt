@@ -3,16 +3,19 @@
 ghost use Rattle.std.specs.Prelude.{◌≡◌, ◌++◌, [], true, false, length, OnOk, IfOk, IfErr};
 ghost use Rattle.template_tree.specs.Tree.{auto_escape, filter_block, for_loop, set_block, with_block};
 ghost use Rattle.template_tree_statements.specs.View.{statement_of, assignments_in};
-ghost use Rattle.template_tree.specs.View.{expression_of, optional_in};
+ghost use Rattle.template_tree.specs.View.{arguments_in, expression_of, optional_in};
 ghost use Rattle.template_walk.specs.Runnable.{IsRunnable, IsRunnableIfGiven, AreFilters, IsTarget, AreAssignments, IsRunnableStatement, AreRunnableStatements};
+ghost use Rattle.template_walk.specs.Statements.{caller_name};
 ghost use Rattle.template_code.specs.Code.{call_block, discard_top, emit, emit_raw, include, load_blocks};
 ghost use Rattle.template_code.specs.Listing.{code_in, TakesNoMore};
 ghost use Rattle.template_compiler_codegen.specs.Expressions.{then_code, one, expression_code, filters_code};
-ghost use Rattle.template_compiler_codegen.specs.Statements.{loop_end_code, no_ways, own_ways, rounds_code, statements_code, target_code};
+ghost use Rattle.template_compiler_codegen.specs.Statements.{loop_end_code, loop_flags, no_ways, own_ways, rounds_code, statement_code, statements_code, target_code};
 ghost use Rattle.template_compiler_emission.specs.Puts.{Keeps, Puts};
+ghost use Rattle.template_compiler_expression_codegen.specs.Begun.{begun_code, ended_code};
 ghost use Rattle.template_compiler_expression_codegen.specs.Calls.{call_of};
 ghost use Rattle.template_compiler_statement_codegen.specs.Breaks.{breaks_in, led, loop_end_places};
 ghost use Rattle.template_tree_parts.specs.Listed.{statements_in};
+ghost use Rattle.template_compiler_statement_codegen.specs.Macros.{call_block_of, calling_code, declared_code, macro_of};
 ghost use Rattle.template_compiler_statement_codegen.specs.Filtered.{AreFiltersIfGiven, filtered_store};
 ghost use Rattle.template_compiler_statement_codegen.specs.Listed.{IsRunnableTree, body_in, condition_of};
 ghost use Rattle.template_compiler_statement_codegen.specs.Refusals.{Refuses};
@@ -20,6 +23,7 @@ ghost use Rattle.template_compiler_statement_codegen.specs.Rounds.{Lowers, Lower
 
 use crate::imports::{compile_from_import, compile_import};
 use crate::iterables::compile_iterable;
+use crate::macros::{make_macro, store_parameters};
 use crate::prints::compile_print;
 use crate::puts::{append, compile_call, compile_expr, compile_filters, put, reserve};
 use crate::rounds::{Closing, Round, put_break, put_continue};
@@ -27,10 +31,13 @@ use crate::targets::{store, store_all};
 use crate::tell_breaks;
 use std::alloc::Global;
 use std::borrow::CowStr;
-use template_code::{CaptureMode, Instruction, Instructions, LOOP_FLAG_WITH_LOOP_VAR};
+use template_code::{
+    CaptureMode, Instruction, Instructions, LOOP_FLAG_RECURSIVE, LOOP_FLAG_WITH_LOOP_VAR,
+};
 use template_compiler_emission::{Leap, land};
-use template_tree::{Call, Expr, Span, Spanned};
-use template_tree_statements::{ForLoop, IfCond, Stmt};
+use template_compiler_expression_codegen::{begin_call, end_call};
+use template_tree::{Call, CallType, Expr, Span, Spanned};
+use template_tree_statements::{ForLoop, IfCond, Macro, Stmt};
 use template_values_errors::{Error, ErrorKind};
 
 /// Puts the code of a whole template behind the instructions. Linear in the template, besides what the
@@ -194,9 +201,9 @@ fn compile_any<'source>(
         }
         Stmt::Continue(n) => put_continue(code, &*round, &n.span),
         Stmt::Break(n) => put_break(code, round, &n.span),
+        Stmt::Macro(n) => compile_macro(alloc, code, &n.node, &n.span),
+        Stmt::CallBlock(n) => compile_call_block(alloc, code, &n.node.call, &n.node.macro_decl),
         Stmt::Template(_) => unreachable!(),
-        Stmt::Macro(_) => unreachable!(),
-        Stmt::CallBlock(_) => unreachable!(),
     }
 }
 
@@ -492,6 +499,105 @@ fn compile_auto_escape<'source>(
     compile_closed(alloc, code, round, Closing::AutoEscape, body, span)
 }
 
+// A macro, which is stored under its name.
+#[cycle(statement)]
+#[inline(never)]
+fn compile_macro<'source>(
+    alloc: Global,
+    code: &mut Instructions<'source>,
+    declared: &Macro<'source>,
+    span: &Span,
+) -> Result<(), ErrorKind>
+    requires { IsRunnableStatement true (macro_of declared.now) }
+    ensures put { OnOk result (Puts (statement_code no_ways (macro_of declared.now)) code.old code.new) }
+    ensures refused { IfErr result (Refuses (code_in code.new)) }
+{
+    compile_declared(alloc, code, declared.name, declared, span)?;
+    let name = CowStr::Borrowed(declared.name);
+    put(code, Instruction::StoreLocal(name), None)
+}
+
+// A call whose value is printed. What stands in the block is made a macro, which is its last keyword argument, but where
+// a block is called.
+#[cycle(statement)]
+#[inline(never)]
+fn compile_call_block<'source>(
+    alloc: Global,
+    code: &mut Instructions<'source>,
+    call: &Spanned<Call<'source>>,
+    declared: &Spanned<Macro<'source>>,
+) -> Result<(), ErrorKind>
+    requires { IsRunnableStatement true (call_block_of call.now.node declared.now.node) }
+    ensures put { OnOk result
+        (Puts (statement_code no_ways (call_block_of call.now.node declared.now.node)) code.old code.new) }
+    ensures refused { IfErr result (Refuses (code_in code.new)) }
+{
+    compile_called(alloc, code, call, declared)?;
+    put(code, Instruction::Emit, None)
+}
+
+// Its call.
+#[cycle(statement)]
+fn compile_called<'source>(
+    alloc: Global,
+    code: &mut Instructions<'source>,
+    call: &Spanned<Call<'source>>,
+    declared: &Spanned<Macro<'source>>,
+) -> Result<(), ErrorKind>
+    requires { IsRunnableStatement true (call_block_of call.now.node declared.now.node) }
+    ensures put { OnOk result (Puts (calling_code call.now.node declared.now.node) code.old code.new) }
+    ensures refused { IfErr result (Refuses (code_in code.new)) }
+{
+    match call.node.identify_call() {
+        CallType::Block(_) => compile_call(alloc, code, call),
+        _ => compile_with_caller(alloc, code, call, declared),
+    }
+}
+
+// A call with a macro as its last keyword argument.
+#[cycle(statement)]
+fn compile_with_caller<'source>(
+    alloc: Global,
+    code: &mut Instructions<'source>,
+    call: &Spanned<Call<'source>>,
+    declared: &Spanned<Macro<'source>>,
+) -> Result<(), ErrorKind>
+    requires call { IsRunnable (call_of call.now.node) }
+    requires declared { IsRunnableStatement true (macro_of declared.now.node) }
+    ensures put { OnOk result
+        (Puts (then_code (begun_code (expression_of call.now.node.expr) (arguments_in call.now.node.args.items) caller_name)
+        (then_code (declared_code caller_name declared.now.node)
+        (ended_code (expression_of call.now.node.expr) (arguments_in call.now.node.args.items)))) code.old code.new) }
+    ensures refused { IfErr result (Refuses (code_in code.new)) }
+{
+    let begun = begin_call(alloc, code, &call.node, "caller", &call.span)?;
+    compile_declared(alloc, code, "caller", &declared.node, &declared.span)?;
+    end_call(code, &call.node, begun)
+}
+
+// A macro, which is on top then. Its body runs where it is called, and is leapt over where it is made.
+#[cycle(statement)]
+fn compile_declared<'source>(
+    alloc: Global,
+    code: &mut Instructions<'source>,
+    name: &'source str,
+    declared: &Macro<'source>,
+    span: &Span,
+) -> Result<(), ErrorKind>
+    requires { IsRunnableStatement true (macro_of declared.now) }
+    ensures put { OnOk result (Puts (declared_code name.now declared.now) code.old code.new) }
+    ensures refused { IfErr result (Refuses (code_in code.new)) }
+{
+    let leap = reserve(code, Leap::Always, Some(*span))?;
+    let begins = code.len() as u32;
+    store_parameters(alloc, code, &declared.args, &declared.defaults)?;
+    let mut round = Round::new(alloc, 0);
+    compile_body(alloc, code, &mut round, &declared.body)?;
+    put(code, Instruction::Return, Some(*span))?;
+    land(code, leap, Leap::Always);
+    make_macro(alloc, code, name, declared, begins)
+}
+
 // A loop: what it goes over, its rounds, and what runs where no item was given.
 #[cycle(statement)]
 #[inline(never)]
@@ -508,7 +614,7 @@ fn compile_loop<'source>(
     requires body { AreRunnableStatements true (statements_in node.now.body.items) }
     requires otherwise { AreRunnableStatements true (statements_in node.now.else_body.items) }
     ensures lowered { OnOk result
-        (LowersStatement (for_loop (expression_of node.now.target) (expression_of node.now.iter) (optional_in node.now.filter_expr) false
+        (LowersStatement (for_loop (expression_of node.now.target) (expression_of node.now.iter) (optional_in node.now.filter_expr) node.now.recursive
         (statements_in node.now.body.items) (statements_in node.now.else_body.items))
         code.old code.new round.old round.new) }
     ensures refused { IfErr result (Refuses (code_in code.new)) }
@@ -521,9 +627,24 @@ fn compile_loop<'source>(
         &node.filter_expr,
         span,
     )?;
-    put(code, Instruction::PushLoop(LOOP_FLAG_WITH_LOOP_VAR), None)?;
+    put(
+        code,
+        Instruction::PushLoop(loop_flags(node.recursive)),
+        None,
+    )?;
     compile_rounds(alloc, code, &node.target, &node.body, *span)?;
     compile_loop_end(alloc, code, round, &node.else_body)
+}
+
+// A loop has its variable; its rounds may be called again or not.
+fn loop_flags(recursive: bool) -> u8
+    ensures { result ≡ loop_flags recursive }
+{
+    if recursive {
+        LOOP_FLAG_WITH_LOOP_VAR + LOOP_FLAG_RECURSIVE
+    } else {
+        LOOP_FLAG_WITH_LOOP_VAR
+    }
 }
 
 // The rounds of a loop, whose ways out are its own. They ask where the items come from, and go back where the loop

@@ -1,3 +1,5 @@
 mod Alone
+mod Declared
+mod Ordered
 mod Rounds
 mod Taking

@@ -22,6 +22,11 @@ place_in_part places (rounds target body) =
     place_in_target places target
     || not (is_stored_in places.name target) && (not (bytes_eq places.name (codes "loop")) && place_within places body)
 
+-- so it is where it is the rounds of a loop
+abbrev pub place_in_rounds : Places → Part → Bool
+place_in_rounds places (rounds target body) = place_in_part places (rounds target body)
+place_in_rounds places _ = false
+
 -- whether it uses the name
 abbrev pub is_used_by_part : List ℕ → Part → Bool
 is_used_by_part name part = not (is_stored_everywhere name) && place_in_part (anywhere name) part

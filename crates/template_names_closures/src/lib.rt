@@ -7,6 +7,6 @@ mod closures;
 mod listing;
 mod parts;
 
-pub use closures::find_macro_closure;
-pub use listing::units;
-pub use parts::{Unit, used_names};
+pub use closures::{MacroUses, find_macro_closure, find_macro_uses};
+pub use listing::{units, units_among};
+pub use parts::{Unit, use_loop_rounds, used_names};

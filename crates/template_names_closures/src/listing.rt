@@ -30,6 +30,22 @@ pub fn units<'tree, 'source>(
     Ok(found)
 }
 
+/// The units in statements, in order of place: each block and each recursive loop, those inside others too. Linear.
+///
+/// # Errors
+///
+/// Want of memory.
+pub fn units_among<'tree, 'source>(
+    alloc: Global,
+    body: &'tree [Stmt<'source>],
+) -> Result<Vec<Unit<'tree, 'source>>, AllocError>
+    ensures { IfOk result (λ units. parts_in units.items ≡ units_among (statements_in body.now)) }
+{
+    let mut found = Vec::new(alloc);
+    take_units(&mut found, body)?;
+    Ok(found)
+}
+
 // The units in the statements of a body.
 #[cycle(statement)]
 fn take_units<'tree, 'source>(

@@ -5,7 +5,7 @@ ghost use Rattle.template_tree.specs.View.{expression_of};
 ghost use Rattle.template_tree_parts.specs.Listed.{statements_in};
 ghost use Rattle.template_names.specs.Among.{nothing};
 ghost use Rattle.template_names.specs.Goes.{Goes};
-ghost use Rattle.template_names_closures.specs.Units.{is_used_by_part, part_of, place_in_part, rounds};
+ghost use Rattle.template_names_closures.specs.Units.{is_used_by_part, part_of, place_in_part, place_in_rounds, rounds};
 
 use crate::begin::begin;
 use std::alloc::{AllocError, Global};
@@ -45,6 +45,24 @@ fn use_unit<'source>(names: &mut Names<'source>, unit: &Unit<'_, 'source>) -> Re
     match unit {
         Unit::Template(node) => use_region(names, &node.children),
         Unit::Block(node) => use_region(names, &node.body),
+        Unit::Loop(node) => use_rounds(names, node),
+    }
+}
+
+/// Uses the names in a unit, where that is the rounds of a loop.
+///
+/// # Errors
+///
+/// Want of memory.
+pub fn use_loop_rounds<'source>(
+    names: &mut Names<'source>,
+    unit: &Unit<'_, 'source>,
+) -> Result<(), AllocError>
+    ensures { OnOk result (Goes (λ places. place_in_rounds places (part_of unit.now)) nothing names.old names.new) }
+{
+    match unit {
+        Unit::Template(_) => Ok(()),
+        Unit::Block(_) => Ok(()),
         Unit::Loop(node) => use_rounds(names, node),
     }
 }

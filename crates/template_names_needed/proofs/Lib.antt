@@ -1,3 +1,4 @@
 mod Deep
+mod Looping
 mod Taking
 mod Telling

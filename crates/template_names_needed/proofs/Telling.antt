@@ -6,15 +6,16 @@ use Rattle.template_tree_statements.specs.declared.statements.Block.{Block as Bl
 use Rattle.template_tree_parts.specs.Listed.{statements_in}
 use Rattle.template_walk.specs.Blocks.{Block, blocks_in}
 use Rattle.template_walk.specs.Imported.{is_imported}
-use Rattle.template_machine_meaning.specs.Isolation.{is_needed, is_used_by_block}
+use Rattle.template_machine_meaning.specs.Isolation.{is_needed, is_used_by_block, is_used_by_rounds}
 use Rattle.template_compiler_blocks.specs.Seen.{trees_in}
 use Rattle.template_names.specs.Among.{Adds, Among, is_among, just, nothing}
 use Rattle.template_names.specs.Goes.{Goes, knows, no_place, tells}
 use Rattle.template_names.specs.Names.{IsToldFor, Places, anywhere, is_stored_everywhere, is_used, place_within}
 use Rattle.template_names.specs.declared.state.Names.{Names}
 use Rattle.template_names.proofs.Laws.{and_false, goes_then, turned, uses_then}
+use Rattle.template_names_closures.specs.declared.parts.Unit.{Unit}
 use Rattle.template_names_undeclared.specs.Found.{AddsSome}
-use Rattle.template_names_needed.specs.Needed.{needed_by, place_in_blocks}
+use Rattle.template_names_needed.specs.Needed.{is_used_by_one, needed_by, place_in_blocks, place_in_loops}
 
 -- nothing was found or known before
 from_nothing : (k s e u : Bool) → k ≡ false → IsTrue (not k && ((false || (not s && false)) || (not e && u))) ↔ IsTrue (not e && u)
@@ -62,18 +63,25 @@ blocks_use q (b ∷ nodes) =
     and_over (not (is_stored_everywhere q)) within (place_in_blocks (anywhere q) nodes) ∙
     ap (λ x. (not (is_stored_everywhere q) && within) || x) (blocks_use q nodes)
 
--- so of a template and its blocks
-pub told_needed : (tree : Statements) (nodes : List (Bor BlockNode)) (a b c d e : Names) → trees_in nodes ≡ blocks_in tree →
+-- so of a template, its blocks and its recursive loops
+pub told_needed : (tree : Statements) (nodes : List (Bor BlockNode)) (units : List Unit) (a b c d e f : Names) → trees_in nodes ≡ blocks_in tree →
+    ((q : List ℕ) → place_in_loops (anywhere q) units ≡ is_used_by_rounds q tree) →
     a.nested ≡ false → ((q : List ℕ) → tells a q ≡ false) → ((q : List ℕ) → knows a q ≡ false) →
     Goes no_place (just (codes "self")) a b → Goes no_place (just (codes "super")) b c →
     Goes (λ p. place_within p tree) nothing c d → Goes (λ p. place_in_blocks p nodes) nothing d e →
-    (q : List ℕ) → tells e q ≡ (is_used q tree || is_used_by_block q (blocks_in tree))
-told_needed tree nodes a b c d e blocks mode fresh unknown self super goes more q =
+    Goes (λ p. place_in_loops p units) nothing e f →
+    (q : List ℕ) → tells f q ≡ is_used_by_one q tree
+told_needed tree nodes units a b c d e f blocks loops mode fresh unknown self super goes more rest q =
     let stored = not (is_stored_everywhere q) in
     let within = place_within (anywhere q) tree in
-    told (λ p. place_within p tree || place_in_blocks p nodes) a b c e mode fresh unknown self super (uses_then c d e goes more) q ∙
-    and_over stored within (place_in_blocks (anywhere q) nodes) ∙ ap (λ x. (stored && within) || x) (blocks_use q nodes) ∙
-    ap (λ (bs : List Block). is_used q tree || is_used_by_block q bs) blocks
+    let inside = place_in_blocks (anywhere q) nodes in
+    let again = place_in_loops (anywhere q) units in
+    told (λ p. (place_within p tree || place_in_blocks p nodes) || place_in_loops p units) a b c f mode fresh unknown self super
+    (uses_then c e f (uses_then c d e goes more) rest) q ∙
+    and_over stored (within || inside) again ∙
+    ap (λ x. x || (stored && again)) (and_over stored within inside ∙ ap (λ x. (stored && within) || x) (blocks_use q nodes) ∙
+    ap (λ (bs : List Block). is_used q tree || is_used_by_block q bs) blocks) ∙
+    ap (λ x. (is_used q tree || is_used_by_block q (blocks_in tree)) || (stored && x)) (loops q)
 
 -- what is told is what is found
 pub found_as : {E : Type 0} (among : Among) (d : Names) (r : Result (BTreeSet (String Global)) E) → ((q : List ℕ) → tells d q ≡ among q) →
@@ -83,11 +91,11 @@ found_as among d (Err error) same is = tt
 
 -- with the names that are imported
 pub all_needed : (tree : Statements) (found new : BTreeSet (String Global)) (imported : List (Bor (List ℕ))) →
-    ((q : List ℕ) → contains_text found q ≡ (is_used q tree || is_used_by_block q (blocks_in tree))) →
+    ((q : List ℕ) → contains_text found q ≡ is_used_by_one q tree) →
     ((q : List ℕ) → is_among imported q ≡ is_imported q tree) → Adds (is_among imported) found new →
     (q : List ℕ) → contains_text new q ≡ is_needed q tree
 all_needed tree found new imported used named adds q =
-    adds q ∙ ap (λ b. b || is_among imported q) (used q) ∙ ap (λ b. (is_used q tree || is_used_by_block q (blocks_in tree)) || b) (named q)
+    adds q ∙ ap (λ b. b || is_among imported q) (used q) ∙ ap (λ b. is_used_by_one q tree || b) (named q)
 
 -- what is added to a set
 pub added : {T E : Type 0} (tree : Statements) (needed old new : BTreeSet (String Global)) (r : Result T E) →

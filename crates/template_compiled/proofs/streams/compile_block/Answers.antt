@@ -14,5 +14,5 @@ put_body-requires c = subst (λ (ss : List Stmt). AreRunnableStatements false (s
 pub returns-clause-stream : goal.returns-clause-stream
 returns-clause-stream c =
     let code = λ (ss : List Stmt) (l : List Code). l ++ statements_code no_ways (statements_in ss) (length l) in
-    ap (stream_with c.args.block.now.name.now c.args.block.now.required) (c.shrink_to_fit.ensures.code ∙ c.in_ok-number_names.ensures.numbered
+    ap (stream_with c.args.block.now.name.now c.args.block.now.required) (c.number_parts.ensures.code ∙ c.shrink_to_fit.ensures.code ∙ c.in_ok-number_names.ensures.numbered
     ∙ ap numbered_in (c.in_ok-put_body.ensures.put.code ∙ ap (code c.deref.result.now) c.new-instructions.ensures.empty ∙ ap (λ (ss : List Stmt). code ss []) c.deref.ensures.value))

@@ -397,7 +397,7 @@ fold_node-compile_call-requires t c =
     let read = ap (λ (x : Spanned CallNode). x.node) c.deref-in-Call.ensures in
     let tree = call_is e n called c.in-Call.is read in
     let runs : IsRunnable (call (expression_of called.expr) (arguments_in called.args.items)) = subst (λ (x : Expression). IsRunnable x) tree c.requires in
-    (omega (arith, call_deep e n called c.in-Call.is read, c.decreases), runs.2)
+    (omega (arith, call_deep e n called c.in-Call.is read, c.decreases), runs.1)
 
 pub fold_node-returns-in-Call-clause-put : goal.fold_node-returns-in-Call-clause-put
 fold_node-returns-in-Call-clause-put t c =

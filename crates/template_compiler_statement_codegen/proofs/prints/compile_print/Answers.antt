@@ -1,10 +1,10 @@
 use Rattle.std.proofs.Common.{sym, ap, ◌∙◌}
 use Rattle.std.proofs.lemmas.Result.{on_ok_weaker}
 use Rattle.template_tree.specs.View.{expression_of}
-use Rattle.template_walk.specs.Statements.{prints_value, prints_block, prints_super}
+use Rattle.template_walk.specs.Statements.{prints_value, prints_block, prints_super, prints_rounds}
 use Rattle.template_compiler_statement_codegen.specs.Printing.{printed_as}
 use Rattle.template_compiler_statement_codegen.specs.declared.prints.Printing.{Printing}
-use Rattle.template_compiler_statement_codegen.proofs.Writing.{puts_printed}
+use Rattle.template_compiler_statement_codegen.proofs.Writing.{puts_printed, rounds_run}
 use Rattle.template_compiler_statement_codegen.proofs.prints.compile_print.Goals as goal
 
 pub returns-in-Value-clause-put : goal.returns-in-Value-clause-put
@@ -18,3 +18,13 @@ returns-in-Block-clause-put c = on_ok_weaker c.put.result (λ put.
 pub returns-in-Super-clause-put : goal.returns-in-Super-clause-put
 returns-in-Super-clause-put c = on_ok_weaker c.put-in-Super.result (λ put.
     puts_printed (expression_of c.args.expr.now) prints_super (ap (λ (p : Printing). printed_as p) (sym c.in-Super.is) ∙ c.printing_of.ensures) put) c.put-in-Super.ensures.put
+
+pub print_rounds-requires : goal.print_rounds-requires
+print_rounds-requires c =
+    rounds_run (expression_of c.args.expr.now) (expression_of c.in-Rounds.value.now)
+    (ap (λ (p : Printing). printed_as p) (sym c.in-Rounds.is) ∙ c.printing_of.ensures) c.requires
+
+pub returns-in-Rounds-clause-put : goal.returns-in-Rounds-clause-put
+returns-in-Rounds-clause-put c = on_ok_weaker c.print_rounds.result (λ put.
+    puts_printed (expression_of c.args.expr.now) (prints_rounds (expression_of c.in-Rounds.value.now))
+    (ap (λ (p : Printing). printed_as p) (sym c.in-Rounds.is) ∙ c.printing_of.ensures) put) c.print_rounds.ensures.put

@@ -1,23 +1,33 @@
-use Rattle.std.proofs.Common.{◌≡◌, ℕ, ◌<◌, List, [], ◌∷◌, ◌++◌, length, get_or, vec_len, true, ap, sym, subst, ◌∙◌, arith, refl}
+use Rattle.std.proofs.Common.{◌≡◌, ℕ, ◌+◌, ◌*◌, ◌<◌, List, [], ◌∷◌, ◌++◌, length, get_or, vec_len, true, false, ap, sym, subst, ◌∙◌, arith, refl, rules}
 use Rattle.std.proofs.lemmas.Result.{on_ok_weaker}
 use Rattle.template_tree_statements.specs.View.{assignments_in, statement_of}
 use Rattle.template_tree.specs.Tree.{Statement, auto_escape, filter_block, with_block}
 use Rattle.template_tree_statements.specs.declared.statements.AutoEscape.{AutoEscape as AutoEscapeNode}
+use Rattle.template_tree_statements.specs.declared.statements.CallBlock.{CallBlock as CallBlockNode, out-CallBlock}
 use Rattle.template_tree_statements.specs.declared.statements.FilterBlock.{FilterBlock as FilterBlockNode}
 use Rattle.template_tree_statements.specs.declared.statements.ForLoop.{ForLoop as ForLoopNode}
 use Rattle.template_tree_statements.specs.declared.statements.IfCond.{IfCond as IfCondNode}
+use Rattle.template_tree_statements.specs.declared.statements.Macro.{Macro as MacroNode}
 use Rattle.template_tree_statements.specs.declared.statements.SetBlock.{SetBlock as SetBlockNode}
 use Rattle.template_tree_statements.specs.declared.statements.Stmt.{Stmt}
 use Rattle.template_tree_statements.specs.declared.statements.WithBlock.{WithBlock as WithBlockNode}
-use Rattle.template_tree.specs.View.{expression_of, optional_in}
-use Rattle.template_walk.specs.Runnable.{AreRunnableStatements, IsRunnableStatement}
+use Rattle.template_tree.specs.View.{arguments_in, expression_of, expressions_in, optional_in}
+use Rattle.template_tree.specs.CallView.{called}
+use Rattle.template_tree.specs.declared.calls.CallType.{CallType}
+use Rattle.template_tree.specs.declared.expressions.Expr.{Expr}
+use Rattle.template_walk.specs.Runnable.{AreRunnable, AreRunnableStatements, AreTargets, IsRunnableStatement}
+use Rattle.template_code.specs.Code.{push_loop}
 use Rattle.template_code.specs.Listing.{code_in}
-use Rattle.template_compiler_codegen.specs.Statements.{statements_code, target_code}
-use Rattle.template_compiler_emission.specs.declared.leaps.Leap.TheVariants.{IfFalse}
+use Rattle.template_compiler_codegen.specs.Statements.{no_ways, statements_code, target_code}
+use Rattle.template_compiler_emission.specs.declared.leaps.Leap.TheVariants.{Always, IfFalse}
+use Rattle.template_compiler_emission.specs.Puts.{Puts}
+use Rattle.template_compiler_emission.proofs.Putting.{puts_then}
+use Rattle.template_compiler_expression_codegen.proofs.Begun.{puts_block_called, puts_with_caller}
 use Rattle.template_compiler_expression_codegen.proofs.Putting.{landed_at, puts_as}
 use Rattle.template_tree.specs.declared.span.Spanned.{Spanned}
 use Rattle.template_tree_parts.specs.Listed.{statements_in}
 use Rattle.template_compiler_statement_codegen.specs.Breaks.{breaks_in}
+use Rattle.template_compiler_statement_codegen.specs.Macros.{backwards, macro_of, parameters_code}
 use Rattle.template_compiler_statement_codegen.specs.Listed.{body_deep, condition_deep, condition_of}
 use Rattle.template_compiler_statement_codegen.specs.Rounds.{LowersBody, places_in, ways_of}
 use Rattle.template_compiler_statement_codegen.specs.declared.rounds.Closing.{Closing}
@@ -28,8 +38,10 @@ use Rattle.template_compiler_statement_codegen.proofs.Closings.{lowers_captured,
 use Rattle.template_compiler_statement_codegen.proofs.Elifs.{RemainsAt, alone, before_other, chain_begins, chain_ends, chain_next, later_runs}
 use Rattle.template_compiler_statement_codegen.proofs.Filtering.{lowers_filter_block, lowers_set_block}
 use Rattle.template_compiler_statement_codegen.proofs.Looping.{ends_alone, ends_otherwise, puts_rounds}
-use Rattle.template_compiler_statement_codegen.proofs.Lowering.{lowers_behind, remains_told}
-use Rattle.template_compiler_statement_codegen.proofs.Nodes.{call_no_statement, condition_is, condition_within, elif_smaller, elif_tree, escape_deep, escape_is, filter_block_deep, filter_block_is, loop_deep, loop_is, loop_of, loop_other_deep, set_block_deep, set_block_is, set_block_runs, with_deep, with_is}
+use Rattle.template_compiler_statement_codegen.proofs.Declaring.{caller_of, never_block, puts_declared}
+use Rattle.template_compiler_statement_codegen.proofs.Lowering.{lowers_behind, lowers_put, remains_told}
+use Rattle.template_compiler_statement_codegen.proofs.Nodes.{call_block_deep, call_block_is, condition_is, condition_within, elif_smaller, elif_tree, escape_deep, escape_is, filter_block_deep, filter_block_is, loop_deep, loop_is, loop_of, loop_other_deep, macro_deep, macro_is, set_block_deep, set_block_is, set_block_runs, with_deep, with_is}
+use Rattle.template_compiler_statement_codegen.proofs.Wholes.{looser_statements, puts_whole_body}
 use Rattle.template_compiler_statement_codegen.proofs.Writing.{lowers_printed}
 use Rattle.template_compiler_statement_codegen.proofs.statements.+statement.Goals as goal
 
@@ -204,10 +216,6 @@ compile_rounds-returns-clause-put t c =
     c.in_ok-store.ensures.put c.in_ok-compile_body.ensures.lowered c.in_ok-put.ensures.put c.land.ensures.landed c.land.ensures.same
     c.tell_breaks.ensures.told c.tell_breaks.ensures.same
 
-pub compile_any-unreachable-requires-in-CallBlock : goal.compile_any-unreachable-requires-in-CallBlock
-compile_any-unreachable-requires-in-CallBlock t c =
-    call_no_statement c.in-CallBlock.field-0 (subst (λ (s : Stmt). IsRunnableStatement true (statement_of s)) c.in-CallBlock.is c.requires)
-
 pub compile_any-compile_condition-requires : goal.compile_any-compile_condition-requires
 compile_any-compile_condition-requires t c =
     let s = c.args.statement.now in
@@ -231,7 +239,7 @@ compile_any-compile_loop-requires t c =
     let body_is = ap (λ (l : ForLoopNode). l.body.items) is in
     let other_is = ap (λ (l : ForLoopNode). l.else_body.items) is in
     let runs : IsRunnableStatement true (loop_of v) =
-    subst (λ (x : Statement). IsRunnableStatement true x) (loop_is s n v c.requires c.in-ForLoop.is is) c.requires in (
+    subst (λ (x : Statement). IsRunnableStatement true x) (loop_is s n v c.in-ForLoop.is is) c.requires in (
       omega (arith, loop_deep s n v.body.items c.in-ForLoop.is body_is, loop_other_deep s n v.else_body.items c.in-ForLoop.is other_is, c.decreases),
       (runs.0, (runs.1, (runs.2, (runs.3, runs.4)))),
     )
@@ -240,7 +248,7 @@ pub compile_any-returns-in-ForLoop-clause-lowered : goal.compile_any-returns-in-
 compile_any-returns-in-ForLoop-clause-lowered t c =
     let v = c.deref-in-ForLoop.result.now.node in
     let is = ap (λ (l : Spanned ForLoopNode). l.node) c.deref-in-ForLoop.ensures in
-    let tree = loop_is c.args.statement.now c.in-ForLoop.n v c.requires c.in-ForLoop.is is in
+    let tree = loop_is c.args.statement.now c.in-ForLoop.n v c.in-ForLoop.is is in
     rw tree c.compile_loop.ensures.lowered
 
 pub compile_any-compile_set_block-requires : goal.compile_any-compile_set_block-requires
@@ -332,7 +340,8 @@ compile_any-returns-in-AutoEscape-clause-lowered t c =
 pub compile_loop-returns-clause-lowered : goal.compile_loop-returns-clause-lowered
 compile_loop-returns-clause-lowered t c = rw (sym c.deref.ensures.value, sym c.deref-2.ensures.value) (on_ok_weaker c.compile_loop_end.result (λ last.
     lowers_behind c.in_ok-compile_iterable.ensures.put
-    (lowers_behind c.in_ok-put.ensures.put (lowers_behind c.in_ok-compile_rounds.ensures.put last))) c.compile_loop_end.ensures.lowered)
+    (lowers_behind (puts_as (ap push_loop c.loop_flags.ensures) c.in_ok-put.ensures.put)
+    (lowers_behind c.in_ok-compile_rounds.ensures.put last))) c.compile_loop_end.ensures.lowered)
 
 pub compile_any-returns-in-EmitExpr-clause-lowered : goal.compile_any-returns-in-EmitExpr-clause-lowered
 compile_any-returns-in-EmitExpr-clause-lowered t c =
@@ -341,5 +350,100 @@ compile_any-returns-in-EmitExpr-clause-lowered t c =
 pub compile_any-unreachable-requires : goal.compile_any-unreachable-requires
 compile_any-unreachable-requires t c = subst (λ (s : Stmt). IsRunnableStatement true (statement_of s)) c.in-Template.is c.requires
 
-pub compile_any-unreachable-requires-in-Macro : goal.compile_any-unreachable-requires-in-Macro
-compile_any-unreachable-requires-in-Macro t c = subst (λ (s : Stmt). IsRunnableStatement true (statement_of s)) c.in-Macro.is c.requires
+pub compile_any-compile_macro-requires : goal.compile_any-compile_macro-requires
+compile_any-compile_macro-requires t c =
+    let s = c.args.statement.now in
+    let n = c.in-Macro.n in
+    let v = c.deref-in-Macro.result.now.node in
+    let is = ap (λ (m : Spanned MacroNode). m.node) c.deref-in-Macro.ensures in (
+      omega (arith, macro_deep s n v.body.items c.in-Macro.is (ap (λ (m : MacroNode). m.body.items) is), c.decreases),
+      subst (λ (x : Statement). IsRunnableStatement true x) (macro_is s n v c.in-Macro.is is) c.requires,
+    )
+
+pub compile_any-returns-in-Macro-clause-lowered : goal.compile_any-returns-in-Macro-clause-lowered
+compile_any-returns-in-Macro-clause-lowered t c =
+    let v = c.deref-in-Macro.result.now.node in
+    let tree = macro_is c.args.statement.now c.in-Macro.n v c.in-Macro.is (ap (λ (m : Spanned MacroNode). m.node) c.deref-in-Macro.ensures) in
+    rw tree (on_ok_weaker c.compile_macro.result (λ put. lowers_put c.args.round.now put) c.compile_macro.ensures.put)
+
+pub compile_any-compile_call_block-requires : goal.compile_any-compile_call_block-requires
+compile_any-compile_call_block-requires t c =
+    let s = c.args.statement.now in
+    let n = c.in-CallBlock.n in
+    let call = c.deref-in-CallBlock-2.ensures ∙ ap (λ (b : Spanned CallBlockNode). (out-CallBlock b.node).call.value) c.deref-in-CallBlock.ensures in
+    let declared = c.deref-in-CallBlock-4.ensures ∙ ap (λ (b : Spanned CallBlockNode). (out-CallBlock b.node).macro_decl.value) c.deref-in-CallBlock-3.ensures in (
+      omega (arith, call_block_deep s n c.deref-in-CallBlock-4.result.now c.in-CallBlock.is declared, c.decreases),
+      subst (λ (x : Statement). IsRunnableStatement true x)
+          (call_block_is s n c.deref-in-CallBlock-2.result.now c.deref-in-CallBlock-4.result.now c.in-CallBlock.is call declared) c.requires,
+    )
+
+pub compile_any-returns-in-CallBlock-clause-lowered : goal.compile_any-returns-in-CallBlock-clause-lowered
+compile_any-returns-in-CallBlock-clause-lowered t c =
+    let call = c.deref-in-CallBlock-2.ensures ∙ ap (λ (b : Spanned CallBlockNode). (out-CallBlock b.node).call.value) c.deref-in-CallBlock.ensures in
+    let declared = c.deref-in-CallBlock-4.ensures ∙ ap (λ (b : Spanned CallBlockNode). (out-CallBlock b.node).macro_decl.value) c.deref-in-CallBlock-3.ensures in
+    let tree = call_block_is c.args.statement.now c.in-CallBlock.n c.deref-in-CallBlock-2.result.now c.deref-in-CallBlock-4.result.now
+    c.in-CallBlock.is call declared in
+    rw tree (on_ok_weaker c.compile_call_block.result (λ put. lowers_put c.args.round.now put) c.compile_call_block.ensures.put)
+
+pub compile_macro-returns-clause-put : goal.compile_macro-returns-clause-put
+compile_macro-returns-clause-put t c = on_ok_weaker c.put.result (λ stored. puts_then c.in_ok-compile_declared.ensures.put stored) c.put.ensures.put
+
+pub compile_call_block-returns-clause-put : goal.compile_call_block-returns-clause-put
+compile_call_block-returns-clause-put t c = on_ok_weaker c.put.result (λ printed. puts_then c.in_ok-compile_called.ensures.put printed) c.put.ensures.put
+
+pub compile_called-compile_call-requires : goal.compile_called-compile_call-requires
+compile_called-compile_call-requires t c = c.requires.0
+
+pub compile_called-compile_with_caller-requires : goal.compile_called-compile_with_caller-requires
+compile_called-compile_with_caller-requires t c =
+    (omega (arith, c.decreases), (c.requires.0, (c.requires.1, c.requires.2, c.requires.3)))
+
+pub compile_called-returns-in-Block-clause-put : goal.compile_called-returns-in-Block-clause-put
+compile_called-returns-in-Block-clause-put t c =
+    let call = c.args.call.now.node in
+    on_ok_weaker c.compile_call.result (λ put.
+    puts_block_called (expression_of call.expr) (arguments_in call.args.items) c.in-Block.field-0.now (caller_of c.args.declared.now.node)
+    (sym c.identify_call.ensures ∙ ap (λ (k : CallType). called k) c.in-Block.is) put) c.compile_call.ensures.put
+
+pub compile_called-returns-in_default-clause-put : goal.compile_called-returns-in_default-clause-put
+compile_called-returns-in_default-clause-put t c =
+    let call = c.args.call.now.node in
+    on_ok_weaker c.compile_with_caller.result (λ put.
+    puts_with_caller (expression_of call.expr) (arguments_in call.args.items) (caller_of c.args.declared.now.node)
+    (λ name is. never_block c.identify_call.result c.in_default.not-Block name (c.identify_call.ensures ∙ is)) put) c.compile_with_caller.ensures.put
+
+pub compile_with_caller-returns-clause-put : goal.compile_with_caller-returns-clause-put
+compile_with_caller-returns-clause-put t c = on_ok_weaker c.end_call.result (λ last.
+    puts_then c.in_ok-begun.ensures.put (puts_then c.in_ok-compile_declared.ensures.put last)) c.end_call.ensures.put
+
+pub compile_declared-store_parameters-requires : goal.compile_declared-store_parameters-requires
+compile_declared-store_parameters-requires t c =
+    let runs : IsRunnableStatement true (macro_of c.args.declared.now) = search rules in
+    record {
+      arguments = subst (λ (es : List Expr). AreTargets (expressions_in es)) (sym c.deref.ensures.value) runs.0;
+      defaults = subst (λ (es : List Expr). AreRunnable (expressions_in es)) (sym c.deref-2.ensures.value) runs.1;
+    }
+
+pub compile_declared-compile_body-requires : goal.compile_declared-compile_body-requires
+compile_declared-compile_body-requires t c =
+    let runs : IsRunnableStatement true (macro_of c.args.declared.now) = search rules in
+    let deep : 8 * body_deep c.args.declared.now.body.items + 3 ≡ t = search rules in
+    let same = ap (λ (ss : List Stmt). body_deep ss) c.deref-3.ensures.value in (
+      omega (arith, same, deep),
+      looser_statements false (statements_in c.deref-3.result.now)
+          (subst (λ (ss : List Stmt). AreRunnableStatements false (statements_in ss)) (sym c.deref-3.ensures.value) runs.2),
+    )
+
+pub compile_declared-returns-clause-put : goal.compile_declared-returns-clause-put
+compile_declared-returns-clause-put t c =
+    let m = c.args.declared.now in
+    let stored = subst (λ (ds : List Expr). Puts (parameters_code (backwards m.args.items) (backwards ds)) c.reserve.new.code c.store_parameters.new.code) c.deref-2.ensures.value
+    (subst (λ (es : List Expr). Puts (parameters_code (backwards es) (backwards c.deref-2.result.now)) c.reserve.new.code c.store_parameters.new.code)
+    c.deref.ensures.value c.in_ok-store_parameters.ensures.put) in
+    let body = subst (λ (ss : List Stmt). Puts (statements_code no_ways (statements_in ss)) c.store_parameters.new.code c.compile_body.new.code) c.deref-3.ensures.value
+    (puts_whole_body (statements_in c.deref-3.result.now) c.new-round.result c.compile_body.new.round c.new-round.ensures.asks c.new-round.ensures.closings
+    c.in_ok-compile_body.ensures.lowered) in
+    let landed = landed_at Always c.in_ok-leap.leap (code_in c.args.code.now) (code_in c.put.new.code) (code_in c.land.new.code)
+    c.in_ok-leap.ensures.place c.land.ensures.landed in
+    on_ok_weaker c.make_macro.result (λ made.
+    puts_declared c.args.name.now m c.len-begins.result c.len-begins.ensures.len c.in_ok-leap.ensures.put stored body c.in_ok-put.ensures.put landed c.land.ensures.same made) c.make_macro.ensures.put

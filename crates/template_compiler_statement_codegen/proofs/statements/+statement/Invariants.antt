@@ -31,6 +31,21 @@ decreases-compile_captured l = 8 * body_deep l.body.now + 3
 abbrev pub decreases-compile_auto_escape : goal.decreases-compile_auto_escape
 decreases-compile_auto_escape l = 8 * body_deep l.body.now + 4
 
+abbrev pub decreases-compile_macro : goal.decreases-compile_macro
+decreases-compile_macro l = 8 * body_deep l.declared.now.body.items + 4
+
+abbrev pub decreases-compile_call_block : goal.decreases-compile_call_block
+decreases-compile_call_block l = 8 * body_deep l.declared.now.node.body.items + 6
+
+abbrev pub decreases-compile_called : goal.decreases-compile_called
+decreases-compile_called l = 8 * body_deep l.declared.now.node.body.items + 5
+
+abbrev pub decreases-compile_with_caller : goal.decreases-compile_with_caller
+decreases-compile_with_caller l = 8 * body_deep l.declared.now.node.body.items + 4
+
+abbrev pub decreases-compile_declared : goal.decreases-compile_declared
+decreases-compile_declared l = 8 * body_deep l.declared.now.body.items + 3
+
 abbrev pub decreases-compile_loop : goal.decreases-compile_loop
 decreases-compile_loop l = 8 * max (body_deep l.node.now.body.items) (body_deep l.node.now.else_body.items) + 4
 

@@ -6,6 +6,7 @@ use Rattle.template_names_undeclared.specs.Found.{Adds, AddsSome}
 use Rattle.template_names_needed.specs.Needed.{needed_by}
 use Rattle.template_compiled.specs.Names.{uses}
 use Rattle.template_compiled.specs.Sources.{tree_in}
+use Rattle.template_compiled.proofs.Trees.{tree_runs}
 use Rattle.template_compiled.proofs.compiled.CompiledTemplate.add_undeclared.Goals as goal
 
 on_err : {T E : Type 0} (P : Type 0) (r : Result T E) → P → OnErr r P
@@ -13,7 +14,7 @@ on_err P (Ok value) holds = tt
 on_err P (Err error) holds = holds
 
 pub children-requires : goal.children-requires
-children-requires c = subst IsRunnableTree (sym c.in_ok-tree.ensures.tree) c.tree.ensures.faithful.has_tree.1
+children-requires c = subst IsRunnableTree (sym c.in_ok-tree.ensures.tree) (tree_runs c.args.self.now.source)
 
 pub returns-clause-added : goal.returns-clause-added
 returns-clause-added c =

@@ -1,10 +1,7 @@
-use Rattle.std.proofs.Common.{◌≡◌, ◌∙◌, ap, List, ℕ, false, true, Some, cond, bytes_eq, string_bytes, rules}
+use Rattle.std.proofs.Common.{◌≡◌, ◌∙◌, ap, List, ℕ, Some, cond, bytes_eq, string_bytes, rules}
 use Rattle.std.proofs.lemmas.Map.Text.{btree_map_updates_text}
 use Rattle.std.proofs.lemmas.Slice.Eq.{bytes_eq-Decides}
 use Rattle.std.specs.BTreeMap.{get_by_text}
-use Rattle.template_compiler_runnable.specs.Running.{statements_run}
-use Rattle.template_compiler_runnable.proofs.Decided.{Decides-statements_run}
-use Rattle.template_compiled.specs.Sources.{tree_in}
 use Rattle.template_compiled.proofs.Updates.{holds_inserted}
 use Rattle.template_compiled.proofs.templates.CompiledTemplates.insert.Goals as goal
 
@@ -14,9 +11,6 @@ invariant_of-self c =
     record {
       named = holds_inserted (λ name t. t.name ≡ name) c.put_under.result c.in_ok-name.name c.args.template c.args.self.now.by_name c.put_under.new.standing
           c.put_under.ensures.stands c.put_under.ensures.unchanged (λ name yes. own ∙ (bytes_eq-Decides (string_bytes c.in_ok-name.name) name).0 yes) c.args.self.now.named;
-      running = holds_inserted (λ name t. statements_run false (tree_in t.source) ≡ true) c.put_under.result c.in_ok-name.name c.args.template c.args.self.now.by_name
-          c.put_under.new.standing c.put_under.ensures.stands c.put_under.ensures.unchanged
-          (λ name yes. (Decides-statements_run false (tree_in c.args.template.source)).1 c.requires.has_tree.1) c.args.self.now.running;
     }
 
 pub returns-clause-stands : goal.returns-clause-stands
