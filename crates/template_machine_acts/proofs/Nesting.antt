@@ -4,12 +4,13 @@ use Rattle.std.proofs.lemmas.List.{map-append}
 use Rattle.std.specs.Io.KnownBytes.{Appends}
 use Rattle.template_values_errors.specs.declared.ErrorKind.{ErrorKind}
 use Rattle.template_values_errors.specs.declared.ErrorKind.TheVariants.{OutOfFuel}
-use Rattle.template_process.specs.Process.{Counts, Ask, Answer, Process, breaks_off}
+use Rattle.template_process.specs.Process.{Counts, Ask, Answer, fails, breaks_off, Process}
 use Rattle.template_process.specs.Drive.{End, ends, faults, breaks, waits, mistaken, cuts, sticks}
 use Rattle.template_process.specs.Trace.{Item, paid, written, Run, run, replied, go_on, behind, ended, text_of, price_of}
 use Rattle.template_code.specs.Code.{Code}
 use Rattle.template_machine_output.specs.Writes.{AppendsBeginning}
 use Rattle.template_machine_meaning.specs.World.{World}
+use Rattle.template_machine_meaning.specs.Turnings.{Turning, turned}
 use Rattle.template_machine_meaning.specs.Plans.{Within, caller_of, after_by, given, wrapped_by, told_by, came_from, settled}
 use Rattle.template_machine_meaning.specs.Surroundings.{Programs, runners, answer}
 use Rattle.template_machine_going.specs.Spots.{Spot}
@@ -17,7 +18,7 @@ use Rattle.template_machine_going.specs.Paying.{Paid}
 use Rattle.template_machine_going.specs.Acts.{Next, deed_at}
 use Rattle.template_machine_going.proofs.Paths.{behind-behind}
 use Rattle.template_machine_going.specs.Strays.{IsLost}
-use Rattle.template_machine_acts.specs.Nested.{Enters, begun, NestedActs, NestedFaults, NestedRunsOut, NestedWants, NestedStrays}
+use Rattle.template_machine_acts.specs.Nested.{Enters, begun, NestedActs, NestedTurns, NestedFaults, NestedRunsOut, NestedWants, NestedStrays}
 
 pub price-wrapped : (wraps : List ErrorKind) (items : List Item) → price_of (map (wrapped_by wraps) items) ≡ price_of items
 price-wrapped wraps [] = refl
@@ -35,7 +36,7 @@ module _ (s : Programs) (before : Counts) (c : Code) (x : Spot World) (e : Ask) 
   abbrev later : ℕ → Run World → Run World
   later n r =
       go_on (λ a t. run (answer s n) (follow next a) t) (after_by y.purpose (caller_of x.world) r.after)
-      (told_by y.wraps (given y.purpose (caller_of x.world) r.after) r.end)
+      (turned (after_by y.purpose (caller_of x.world) r.after) y.behind (told_by y.wraps (given y.purpose (caller_of x.world) r.after) r.end))
 
   abbrev whole : ℕ → Run World → Run World
   whole n r = behind (map (wrapped_by y.wraps) r.items) (later n r)
@@ -54,23 +55,48 @@ module _ (s : Programs) (before : Counts) (c : Code) (x : Spot World) (e : Ask) 
       ∙ sym (behind-behind (map (wrapped_by y.wraps) items) (map (wrapped_by y.wraps) r.items) (later n r))
 
 pub nested_acts : NestedActs
-nested_acts s before c x z e follow y runs least items operands after within is leads world pays text = record {
+nested_acts s before c x z e follow y runs least items operands after a within is told leads world pays text = record {
   items = map (wrapped_by y.wraps) items;
   least = least;
   is = λ next n le.
       comes_behind s before c x e follow y runs least within next n le items (ended (ends operands) after) (is n le)
+      ∙ ap (λ t. behind (map (wrapped_by y.wraps) items) (go_on (λ b u. run (answer s n) (follow next b) u) (after_by y.purpose (caller_of x.world) after) t)) told
       ∙ ap (λ p. behind (map (wrapped_by y.wraps) items) (run (answer s n) p (after_by y.purpose (caller_of x.world) after))) (leads next)
       ∙ ap (λ w. behind (map (wrapped_by y.wraps) items) (run (answer s n) (next z.place z.operands) w)) (sym world);
   pays = subst (λ p. Paid p x.left z.left) (sym (price-wrapped y.wraps items)) pays;
   text = subst (Appends x.taken z.taken) (sym (text-wrapped y.wraps items)) text;
 }
 
+pub nested_turns : NestedTurns
+nested_turns s before c x e follow y runs least items operands ended_in kinds later after within is told pays text next = record {
+  items = map (wrapped_by y.wraps) items;
+  least = least;
+  world = after_by y.purpose (caller_of x.world) ended_in;
+  is = λ n le.
+      comes_behind s before c x e follow y runs least within next n le items (ended (ends operands) ended_in) (is n le)
+      ∙ ap (λ t. behind (map (wrapped_by y.wraps) items) (go_on (λ b u. run (answer s n) (follow next b) u) (after_by y.purpose (caller_of x.world) ended_in) t)) told;
+  pays = subst (λ p. Paid p x.left later) (sym (price-wrapped y.wraps items)) pays;
+  text = subst (Appends x.taken after) (sym (text-wrapped y.wraps items)) text;
+}
+
+-- nothing is made of a fault, nor of what broke off
+turned_fails : (w : World) (ts : List Turning) (kinds : List ErrorKind) → turned w ts (fails kinds) ≡ fails kinds
+turned_fails w [] kinds = refl
+turned_fails w (t ∷ ts) kinds = turned_fails w ts kinds
+
+turned_breaks : (w : World) (ts : List Turning) → turned w ts breaks_off ≡ breaks_off
+turned_breaks w [] = refl
+turned_breaks w (t ∷ ts) = turned_breaks w ts
+
 pub nested_faults : NestedFaults
 nested_faults s before c x e follow y runs least kinds later after within stops next = record {
   items = map (wrapped_by y.wraps) stops.items;
   least = least + stops.least;
   world = after_by y.purpose (caller_of x.world) stops.world;
-  is = λ n le. comes_behind s before c x e follow y runs least within next n (omega arith) stops.items (ended (faults kinds) stops.world) (stops.is n (omega arith));
+  is = λ n le.
+      comes_behind s before c x e follow y runs least within next n (omega arith) stops.items (ended (faults kinds) stops.world) (stops.is n (omega arith))
+      ∙ ap (λ t. behind (map (wrapped_by y.wraps) stops.items) (go_on (λ a w. run (answer s n) (follow next a) w) (after_by y.purpose (caller_of x.world) stops.world) t))
+      (turned_fails (after_by y.purpose (caller_of x.world) stops.world) y.behind (y.wraps ++ kinds));
   pays = subst (λ p. Paid p x.left later) (sym (price-wrapped y.wraps stops.items)) stops.pays;
   text = subst (Appends x.taken after) (sym (text-wrapped y.wraps stops.items)) stops.text;
 }
@@ -116,6 +142,8 @@ nested_strays s before c x e follow y runs least within stops next = record {
   is = λ n le.
       comes_behind s before c x e follow y runs least within next n (omega arith) stops.items (ended stops.end stops.world) (stops.is n (omega arith))
       ∙ ap (λ t. behind (map (wrapped_by y.wraps) stops.items) (go_on (λ a w. run (answer s n) (follow next a) w) (after_by y.purpose (caller_of x.world) stops.world) t))
-      (told_lost y.wraps (given y.purpose (caller_of x.world) stops.world) stops.end stops.lost);
+      (ap (turned (after_by y.purpose (caller_of x.world) stops.world) y.behind)
+      (told_lost y.wraps (given y.purpose (caller_of x.world) stops.world) stops.end stops.lost)
+      ∙ turned_breaks (after_by y.purpose (caller_of x.world) stops.world) y.behind);
   lost = tt;
 }

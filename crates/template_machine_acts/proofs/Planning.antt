@@ -2,18 +2,18 @@
 use Rattle.std.proofs.Common.{suc, [], ◌∷◌, if◌then◌else◌, refl, ap}
 use Rattle.std.proofs.KnownBytes.{Appends-nil}
 use Rattle.template_process.specs.Process as events
-use Rattle.template_process.specs.Process.{done}
-use Rattle.template_code.specs.Code.{single, load_blocks, include}
+use Rattle.template_process.specs.Process.{done, value}
+use Rattle.template_code.specs.Code.{single, fast_recurse, load_blocks, include}
 use Rattle.template_code.specs.Steps.{deed, giving, on_taken}
 use Rattle.template_machine_meaning.specs.World.{World, looked_up}
-use Rattle.template_machine_meaning.specs.Calls.{call_reply}
+use Rattle.template_machine_meaning.specs.Calls.{call_plan}
 use Rattle.template_machine_meaning.specs.Functions.{name_called}
-use Rattle.template_machine_meaning.specs.Plans.{replies, settled, caller_of, after_by}
+use Rattle.template_machine_meaning.specs.Plans.{settled, caller_of, after_by}
 use Rattle.template_machine_meaning.specs.Blocks.{super_called}
 use Rattle.template_machine_meaning.specs.Surroundings.{runners, answer}
 use Rattle.template_machine_going.proofs.Paths.{paid_nothing}
 use Rattle.template_machine_acts.specs.Comings.{behind_it, surrounded}
-use Rattle.template_machine_acts.specs.Blocks.{done_behind, value_behind, CallBlockAsks, FastSuperAsks, SuperAsks, LoadBlocksAsks, IncludeAsks, SuperPlanned, PlannedActs, PlannedFaults, DoneActs, ValueActs}
+use Rattle.template_machine_acts.specs.Blocks.{done_behind, value_behind, CallBlockAsks, FastSuperAsks, SuperAsks, LoadBlocksAsks, IncludeAsks, RecurseAsks, SuperPlanned, PlannedActs, PlannedFaults, DoneActs, ValueActs}
 use Rattle.template_machine_acts.proofs.Acting.{events_act, events_fault}
 use Rattle.template_machine_acts.proofs.Nesting.{nested_acts}
 
@@ -33,9 +33,12 @@ load_blocks_asks before x v below e next = ap (λ o. deed next before load_block
 pub include_asks : IncludeAsks
 include_asks before x ignore v below e next = ap (λ o. deed next before (include ignore) x.place o) e
 
+pub recurse_asks : RecurseAsks
+recurse_asks before x v below e next = ap (λ o. deed next before fast_recurse x.place o) e
+
 pub super_planned : SuperPlanned
 super_planned s w name vs is =
-    ap (λ b. if b then super_called s.around w vs else replies (call_reply s.around w (name_called w.globals (looked_up name w) vs))) is
+    ap (λ b. if b then super_called s.around w vs else call_plan s.around w (name_called w.globals (looked_up name w) vs)) is
 
 pub planned_acts : PlannedActs
 planned_acts s before c x e below after asking is =
@@ -51,10 +54,10 @@ pub done_acts : DoneActs
 done_acts s before c x e below y runs least items operands after left taken within is end pays text =
     nested_acts s before c x
     (record x { place = suc x.place; operands = below; world = after_by y.purpose (caller_of x.world) after; left = left; taken = taken })
-    e (done_behind x below) y runs least items operands after within is (λ next. ap (done_behind x below next) end) refl pays text
+    e (done_behind x below) y runs least items operands after done within is end (λ next. refl) refl pays text
 
 pub value_acts : ValueActs
 value_acts s before c x e below y runs least items operands after v left taken within is end pays text =
     nested_acts s before c x
     (record x { place = suc x.place; operands = single v ∷ below; world = after_by y.purpose (caller_of x.world) after; left = left; taken = taken })
-    e (value_behind x below) y runs least items operands after within is (λ next. ap (value_behind x below next) end) refl pays text
+    e (value_behind x below) y runs least items operands after (value v) within is end (λ next. refl) refl pays text

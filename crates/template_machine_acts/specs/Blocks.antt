@@ -5,14 +5,14 @@ use Rattle.template_values_errors.specs.declared.ErrorKind.{ErrorKind}
 use Rattle.template_values_model.specs.Val.{Val}
 use Rattle.template_walk.specs.Statements.{is_super_name}
 use Rattle.template_process.specs.Process as events
-use Rattle.template_process.specs.Process.{Counts, Ask, Answer, Process, done, value, fails, on_done, on_value}
+use Rattle.template_process.specs.Process.{Counts, Ask, Answer, Process, done, value, tells, fails, on_done, on_value}
 use Rattle.template_process.specs.Drive.{ends}
 use Rattle.template_process.specs.Trace.{Item, Run, behind, ended, text_of, price_of}
-use Rattle.template_code.specs.Code.{Operand, single, Code, call_function, call_block, fast_super, load_blocks, include}
+use Rattle.template_code.specs.Code.{Operand, single, Code, call_function, call_block, fast_super, fast_recurse, load_blocks, include}
 use Rattle.template_code.specs.Steps.{handed}
 use Rattle.template_machine_meaning.specs.World.{World}
 use Rattle.template_machine_meaning.specs.Replies.{told, changed}
-use Rattle.template_machine_meaning.specs.Plans.{Within, replies, caller_of, after_by, given}
+use Rattle.template_machine_meaning.specs.Plans.{Within, replies, caller_of, after_by}
 use Rattle.template_machine_meaning.specs.Blocks.{super_called}
 use Rattle.template_machine_meaning.specs.Surroundings.{plan, Programs, answer}
 use Rattle.template_machine_going.specs.Spots.{Spot}
@@ -21,7 +21,7 @@ use Rattle.template_machine_going.specs.Acts.{Next, Acts}
 use Rattle.template_machine_going.specs.Outcomes.{FaultsWith}
 use Rattle.template_machine_acts.specs.Events.{AsksThen}
 use Rattle.template_machine_acts.specs.Comings.{behind_it, surrounded}
-use Rattle.template_machine_acts.specs.Nested.{Enters, begun}
+use Rattle.template_machine_acts.specs.Nested.{Enters, begun, told_behind}
 
 -- the run goes on behind the instruction, over these operands, once the event is done; or with the value that it gives on top
 abbrev pub done_behind : Spot World → List Operand → Next → Answer → Process
@@ -51,6 +51,10 @@ abbrev pub IncludeAsks : Type 0
 IncludeAsks = (before : Counts) (x : Spot World) (ignore : Bool) (v : Val) (below : List Operand) → x.operands ≡ single v ∷ below
     → AsksThen before (include ignore) x (events.include ignore v) (done_behind x below)
 
+abbrev pub RecurseAsks : Type 0
+RecurseAsks = (before : Counts) (x : Spot World) (v : Val) (below : List Operand) → x.operands ≡ single v ∷ below
+    → AsksThen before fast_recurse x (events.recurse v) (done_behind x below)
+
 abbrev pub SuperPlanned : Type 0
 SuperPlanned = (s : Programs) (w : World) (name : List ℕ) (vs : List Val) → is_super_name name ≡ true
     → plan s.around w (events.call_function name vs) ≡ super_called s.around w vs
@@ -73,7 +77,7 @@ DoneActs = (s : Programs) (before : Counts) (c : Code) (x : Spot World) (e : Ask
     (runs : ℕ → World → Run World) (least : ℕ) (items : List Item) (operands : List Val) (after : World)
     (left : Option ℕ) (taken : Option (List ℕ)) → Enters s before c x e (done_behind x below) y runs least
     → ((n : ℕ) → least ≤ n → begun y runs n ≡ behind items (ended (ends operands) after))
-    → given y.purpose (caller_of x.world) after ≡ done
+    → told_behind y x.world after ≡ tells done
     → Paid (price_of items) x.left left → Appends x.taken taken (text_of items)
     → Acts (answer s) before c x
     (record x { place = suc x.place; operands = below; world = after_by y.purpose (caller_of x.world) after; left = left; taken = taken })
@@ -84,7 +88,7 @@ ValueActs = (s : Programs) (before : Counts) (c : Code) (x : Spot World) (e : As
     (runs : ℕ → World → Run World) (least : ℕ) (items : List Item) (operands : List Val) (after : World) (v : Val)
     (left : Option ℕ) (taken : Option (List ℕ)) → Enters s before c x e (value_behind x below) y runs least
     → ((n : ℕ) → least ≤ n → begun y runs n ≡ behind items (ended (ends operands) after))
-    → given y.purpose (caller_of x.world) after ≡ value v
+    → told_behind y x.world after ≡ tells (value v)
     → Paid (price_of items) x.left left → Appends x.taken taken (text_of items)
     → Acts (answer s) before c x
     (record x { place = suc x.place; operands = single v ∷ below; world = after_by y.purpose (caller_of x.world) after; left = left; taken = taken })

@@ -3,11 +3,12 @@ use Rattle.std.specs.Prelude.{◌≡◌, ℕ, ◌≤◌, ◌++◌, List, Option,
 use Rattle.std.specs.Io.KnownBytes.{Appends}
 use Rattle.template_values_errors.specs.declared.ErrorKind.{ErrorKind}
 use Rattle.template_values_model.specs.Val.{Val}
-use Rattle.template_process.specs.Process.{Counts, Ask, Answer, Process}
+use Rattle.template_process.specs.Process.{Counts, Ask, Answer, Told, tells, fails, Process}
 use Rattle.template_process.specs.Drive.{ends}
 use Rattle.template_process.specs.Trace.{Item, Run, behind, ended, text_of, price_of}
 use Rattle.template_code.specs.Code.{Code}
 use Rattle.template_machine_meaning.specs.World.{World}
+use Rattle.template_machine_meaning.specs.Turnings.{turned}
 use Rattle.template_machine_meaning.specs.Plans.{Within, enters, caller_of, after_by, given}
 use Rattle.template_machine_meaning.specs.Surroundings.{plan, Programs, runners, answer}
 use Rattle.template_machine_going.specs.Spots.{Spot}
@@ -30,14 +31,27 @@ pub record Enters (s : Programs) (before : Counts) (c : Code) (x : Spot World) (
 abbrev pub begun : Within → (ℕ → World → Run World) → ℕ → Run World
 begun y runs n = runs n y.begins
 
--- A run within that comes to its end: the run goes on at what that gives, with what it left put back.
+-- what is told where it ended in a world
+abbrev pub told_behind : Within → World → World → Told
+told_behind y w after = turned (after_by y.purpose (caller_of w) after) y.behind (tells (given y.purpose (caller_of w) after))
+
+-- A run within that comes to its end: the run goes on at what is made of what that gives, with what it left put back.
 abbrev pub NestedActs : Type 0
 NestedActs = (s : Programs) (before : Counts) (c : Code) (x z : Spot World) (e : Ask) (follow : Next → Answer → Process) (y : Within)
-    (runs : ℕ → World → Run World) (least : ℕ) (items : List Item) (operands : List Val) (after : World)
+    (runs : ℕ → World → Run World) (least : ℕ) (items : List Item) (operands : List Val) (after : World) (a : Answer)
     → Enters s before c x e follow y runs least
     → ((n : ℕ) → least ≤ n → begun y runs n ≡ behind items (ended (ends operands) after))
-    → LeadsTo follow (given y.purpose (caller_of x.world) after) z → z.world ≡ after_by y.purpose (caller_of x.world) after
+    → told_behind y x.world after ≡ tells a → LeadsTo follow a z → z.world ≡ after_by y.purpose (caller_of x.world) after
     → Paid (price_of items) x.left z.left → Appends x.taken z.taken (text_of items) → Acts (answer s) before c x z
+
+-- So it does where nothing can be made of what that gives: the instruction faults.
+abbrev pub NestedTurns : Type 0
+NestedTurns = (s : Programs) (before : Counts) (c : Code) (x : Spot World) (e : Ask) (follow : Next → Answer → Process) (y : Within)
+    (runs : ℕ → World → Run World) (least : ℕ) (items : List Item) (operands : List Val) (ended_in : World) (kinds : List ErrorKind) (later : Option ℕ)
+    (after : Option (List ℕ)) → Enters s before c x e follow y runs least
+    → ((n : ℕ) → least ≤ n → begun y runs n ≡ behind items (ended (ends operands) ended_in))
+    → told_behind y x.world ended_in ≡ fails kinds
+    → Paid (price_of items) x.left later → Appends x.taken after (text_of items) → FaultsWith (answer s) before c x kinds later after
 
 -- A run within that faults: so does the instruction, which wraps the fault.
 abbrev pub NestedFaults : Type 0

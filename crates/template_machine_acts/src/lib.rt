@@ -2,14 +2,14 @@
 #![tactic(auto)]
 
 ghost use Rattle.template_machine_acts.specs.Answers.{AddCountedActs, ConstantActs, DiscardActs, DoubleActs, JumpActs, LookupActs, SwapActs, SwapCountedActs, UndefinedActs};
-ghost use Rattle.template_machine_acts.specs.Blocks.{CallBlockAsks, DoneActs, FastSuperAsks, IncludeAsks, LoadBlocksAsks, PlannedActs, PlannedFaults, SuperAsks, SuperPlanned, ValueActs};
-ghost use Rattle.template_machine_acts.specs.Calls.{ApplyFilterActs, BuildKwargsActs, CallFunctionActs, CallMethodActs, CallObjectActs, MergeKwargsActs, PerformTestActs};
+ghost use Rattle.template_machine_acts.specs.Blocks.{CallBlockAsks, DoneActs, FastSuperAsks, IncludeAsks, LoadBlocksAsks, PlannedActs, PlannedFaults, RecurseAsks, SuperAsks, SuperPlanned, ValueActs};
+ghost use Rattle.template_machine_acts.specs.Calls.{BuildKwargsActs, MergeKwargsActs};
 ghost use Rattle.template_machine_acts.specs.Captures.{BeginCaptureActs, EndCaptureActs, PrintCaptures, WriteCaptures};
 ghost use Rattle.template_machine_acts.specs.Events.{BreaksAstray, EventsAct, EventsFault, PassesActs, StuckAstray};
 ghost use Rattle.template_machine_acts.specs.Includes.{IncludeActs, IncludeFaults, IncludeRunsOut, IncludeStrays, IncludeWants};
-ghost use Rattle.template_machine_acts.specs.Nested.{NestedActs, NestedFaults, NestedRunsOut, NestedStrays, NestedWants};
+ghost use Rattle.template_machine_acts.specs.Nested.{NestedActs, NestedFaults, NestedRunsOut, NestedStrays, NestedTurns, NestedWants};
 ghost use Rattle.template_machine_acts.specs.Refusals.{ChoiceRefused, IncludeRefused, MissingActs, RoomRefused};
-ghost use Rattle.template_machine_acts.specs.Scopes.{CloseEscapeActs, CloseFrameActs, CloseLoopActs, DidNotIterateActs, ExportActs, NextItemActs, NoItemActs, OpenEscapeActs, OpenFrameActs, OpenLoopActs, SetAttributeActs, StoreActs};
+ghost use Rattle.template_machine_acts.specs.Scopes.{BuildMacroActs, CloseEscapeActs, CloseFrameActs, CloseLoopActs, DidNotIterateActs, EncloseActs, ExportActs, GetClosureActs, NextItemActs, NoItemActs, OpenEscapeActs, OpenFrameActs, OpenLoopActs, RoundsLeave, SetAttributeActs, StoreActs};
 ghost use Rattle.template_machine_acts.specs.Values.{BuildListActs, BuildMapActs, BuildTupleActs, CompareActs, GetAttributeActs, GetItemActs, InvertActs, JumpIfFalseActs, JumpIfFalseOrPopActs, JumpIfTrueOrPopActs, NegateActs, OperateActs, SliceActs, UnpackActs, UnpackListsActs};
 ghost use Rattle.template_machine_acts.specs.Writings.{PrintActs, PrintFaults, WriteActs};
 
@@ -60,16 +60,10 @@ pub fn containers_act()
     ensures counted { UnpackListsActs }
 {}
 
-/// Keyword arguments are built and merged, or that faults; and names, methods and values are called, filters and tests too: what
-/// is replied to the call, a value in the world that it leaves or a fault, is what the instruction comes to.
+/// Keyword arguments are built and merged, or that faults.
 pub fn calls_act()
     ensures kwargs { BuildKwargsActs }
     ensures merged { MergeKwargsActs }
-    ensures function { CallFunctionActs }
-    ensures method { CallMethodActs }
-    ensures object { CallObjectActs }
-    ensures filter { ApplyFilterActs }
-    ensures test { PerformTestActs }
 {}
 
 /// Jumps on a value's truth lead on or to their targets, or fault.
@@ -87,18 +81,27 @@ pub fn frames_act()
     ensures closed { CloseFrameActs }
 {}
 
+/// The innermost frame's closure holds names and goes on top, and a macro is made with it.
+pub fn macros_act()
+    ensures enclosed { EncloseActs }
+    ensures given { GetClosureActs }
+    ensures made { BuildMacroActs }
+{}
+
 /// A namespace takes an attribute, or that faults.
 pub fn namespaces_act()
     ensures set { SetAttributeActs }
 {}
 
-/// A loop opens over the items of a value, gives one after another, tells whether it gave any, and closes.
+/// A loop opens over the items of a value, gives one after another, tells whether it gave any, and closes; where its rounds were
+/// called the run ends there.
 pub fn loops_act()
     ensures opened { OpenLoopActs }
     ensures next { NextItemActs }
     ensures over { NoItemActs }
     ensures did_not_iterate { DidNotIterateActs }
     ensures closed { CloseLoopActs }
+    ensures left { RoundsLeave }
 {}
 
 /// An escape that a value names is in force until it is closed.
@@ -122,10 +125,11 @@ pub fn writings_act()
     ensures refuse { PrintFaults }
 {}
 
-/// An instruction whose event enters a run within comes to what that run comes to: it goes on where that ends, and
-/// faults, runs out of fuel, stops or is lost where that does.
+/// An instruction whose event enters a run within comes to what that run comes to: it goes on where that ends, unless nothing can be
+/// made of what that gives, and faults, runs out of fuel, stops or is lost where that does.
 pub fn nested_act()
     ensures acts { NestedActs }
+    ensures turns { NestedTurns }
     ensures faults { NestedFaults }
     ensures runs_out { NestedRunsOut }
     ensures wants { NestedWants }
@@ -159,6 +163,7 @@ pub fn blocks_ask()
     ensures super_named { SuperAsks }
     ensures load { LoadBlocksAsks }
     ensures includes { IncludeAsks }
+    ensures again { RecurseAsks }
     ensures planned { SuperPlanned }
 {}
 

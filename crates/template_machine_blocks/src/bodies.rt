@@ -1,11 +1,11 @@
 //! The bodies of one block.
-ghost use Rattle.std.specs.Prelude.{◌≡◌, ◌+◌, ◌^◌, ◌<◌, ◌∷◌, ◌++◌, [], IfErr, IfSome, OnErr, OnOk, length, option_map, slice_get, suc};
+ghost use Rattle.std.specs.Prelude.{◌≡◌, ◌+◌, ◌^◌, ◌<◌, ◌∷◌, ◌++◌, [], IfErr, IfOk, IfSome, OnErr, OnOk, length, option_map, slice_get, suc};
 ghost use Rattle.template_values_errors.specs.Memory.{NoMemory};
 ghost use Rattle.template_machine_blocks.specs.Streams.{home_of};
 ghost use Rattle.template_machine_meaning.specs.Bodies.{placed};
 
 use crate::home::Home;
-use std::alloc::Global;
+use std::alloc::{AllocError, Global};
 use std::marker::Model;
 use template_values_errors::Error;
 
@@ -27,6 +27,17 @@ impl<'env> Model for Bodies<'env> {
     ghost coded = { bodies_code };
 
     ghost view = { λ b. record { homes = map home_of b.homes.items; place = b.place } };
+}
+
+impl<'env> Clone for Bodies<'env> {
+    ghost is_clone = { λ bodies copy. copy ≡ bodies };
+
+    fn clone(&self) -> Result<Bodies<'env>, AllocError> {
+        Ok(Bodies {
+            homes: copies_of(*self.homes.allocator(), self.homes.as_slice())?,
+            place: self.place,
+        })
+    }
 }
 
 impl<'env> Bodies<'env> {
@@ -95,4 +106,15 @@ impl<'env> Bodies<'env> {
         }
         self.home_at(self.place + 1)
     }
+}
+
+// The same homes.
+fn copies_of<'env>(alloc: Global, homes: &[Home<'env>]) -> Result<Vec<Home<'env>>, AllocError>
+    ensures { IfOk result (λ copies. copies.items ≡ homes.now) }
+{
+    let mut copies = Vec::with_capacity(alloc, homes.len())?;
+    for home in homes {
+        copies.push(*home)?;
+    }
+    Ok(copies)
 }

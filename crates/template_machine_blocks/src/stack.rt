@@ -1,5 +1,5 @@
 //! What stands under the names of blocks.
-ghost use Rattle.std.specs.Prelude.{◌≡◌, ◌+◌, ◌^◌, ◌<◌, [], IfErr, IfNone, IfSome, None, OnErr, OnOk, option_copied, slice_get, suc};
+ghost use Rattle.std.specs.Prelude.{◌≡◌, ◌+◌, ◌^◌, ◌<◌, [], IfErr, IfNone, IfOk, IfSome, None, OnErr, OnOk, option_copied, slice_get, suc};
 ghost use Rattle.template_values_errors.specs.Memory.{NoMemory};
 ghost use Rattle.template_code_blocks.specs.Streams.{heads_of, streams_in};
 ghost use Rattle.template_machine_meaning.specs.Bodies.{bodies_at, with_bodies, with_body, with_place};
@@ -62,6 +62,20 @@ impl<'env> BlockStack<'env> {
         BlockStack {
             bodies: BTreeMap::new(alloc),
         }
+    }
+
+    /// The same blocks. Linear in their number, and in that of their bodies.
+    ///
+    /// # Errors
+    ///
+    /// [`ErrorKind::OutOfMemory`](template_values_errors::ErrorKind::OutOfMemory)
+    pub fn copy(&self) -> Result<BlockStack<'env>, Error>
+        ensures same { IfOk result (λ blocks. blocks ≡ self.now) }
+        ensures refused { IfErr result NoMemory }
+    {
+        Ok(BlockStack {
+            bodies: self.bodies.clone()?,
+        })
     }
 
     /// The bodies that a template gives to its blocks go behind those that are there. Logarithmic in the number of blocks for

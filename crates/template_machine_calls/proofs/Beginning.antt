@@ -8,10 +8,11 @@ use Rattle.template_callables.specs.Callables.{View, Says}
 use Rattle.template_callables.specs.Callbacks.{AnswersUnder}
 use Rattle.template_callables.specs.declared.answer.Answer.{Answer}
 use Rattle.template_process.specs.Process.{fails}
-use Rattle.template_machine_meaning.specs.Calls.{called_reply}
+use Rattle.template_machine_meaning.specs.Calls.{called_plan}
 use Rattle.template_machine_meaning.specs.Functions as functions
-use Rattle.template_machine_meaning.specs.Functions.{gives, makes, compares, invokes, method_of, name_called, value_called, method_called}
+use Rattle.template_machine_meaning.specs.Functions.{gives, makes, compares, invokes, calls, runs_again, method_of, found_called, name_called, value_called, method_called}
 use Rattle.template_machine_meaning.specs.Keys.{Around}
+use Rattle.template_machine_meaning.specs.Plans.{replies}
 use Rattle.template_machine_meaning.specs.Replies.{told}
 use Rattle.template_machine_meaning.specs.World.{Globals, World}
 use Rattle.template_machine_operations.specs.Called.{Comes, ComesOr, refusal_of}
@@ -19,14 +20,16 @@ use Rattle.template_machine_operations.specs.declared.called.Called.{Called}
 use Rattle.template_machine_calls.specs.Left.{Going}
 
 -- a call that is refused, or no memory is left
-pub refused_replied : (a : Around) (go : Going) (w : World) (call : functions.Called) (kinds : List ErrorKind) → NoMemory kinds ⊎ (refusal_of call ≡ Some kinds)
-    → NoMemory kinds ⊎ (called_reply a go w call ≡ told w (fails kinds))
-refused_replied a go w call kinds (inl why) = inl why
-refused_replied a go w (gives (Ok v)) kinds (inr is) = absurd (cc)
-refused_replied a go w (gives (Err kind)) kinds (inr is) = let same : kind ∷ [] ≡ kinds = cc in inr (ap (λ ks. told w (fails ks)) same)
-refused_replied a go w (makes entries) kinds (inr is) = absurd (cc)
-refused_replied a go w (compares number vs) kinds (inr is) = absurd (cc)
-refused_replied a go w (invokes what vs) kinds (inr is) = absurd (cc)
+pub refused_planned : (a : Around) (pending : ℕ) (go : Going) (w : World) (call : functions.Called) (kinds : List ErrorKind) → NoMemory kinds ⊎ (refusal_of call ≡ Some kinds)
+    → NoMemory kinds ⊎ (called_plan a pending go w call ≡ replies (told w (fails kinds)))
+refused_planned a pending go w call kinds (inl why) = inl why
+refused_planned a pending go w (gives (Ok v)) kinds (inr is) = absurd (cc)
+refused_planned a pending go w (gives (Err kind)) kinds (inr is) = let same : kind ∷ [] ≡ kinds = cc in inr (ap (λ ks. replies (told w (fails ks))) same)
+refused_planned a pending go w (makes entries) kinds (inr is) = absurd (cc)
+refused_planned a pending go w (compares number vs) kinds (inr is) = absurd (cc)
+refused_planned a pending go w (invokes what vs) kinds (inr is) = absurd (cc)
+refused_planned a pending go w (calls id number vs) kinds (inr is) = absurd (cc)
+refused_planned a pending go w (runs_again id number vs) kinds (inr is) = absurd (cc)
 
 -- what a call comes to, by other names of what it was made with
 pub value_as : (result : Result Called (List ErrorKind)) (g h : Globals) (callee : Val) (args vs : List Val) → g ≡ h → args ≡ vs
@@ -39,6 +42,12 @@ pub named_as : (result : Result Called (List ErrorKind)) (g h : Globals) (found 
 named_as result g h found named args vs is stands taken comes =
     subst (λ us. Comes result us (name_called h named us)) taken
     (subst (λ x. Comes result args (name_called x named args)) is (subst (λ o. Comes result args (name_called g o args)) stands comes))
+
+pub found_as : (result : Result Called (List ErrorKind)) (g h : Globals) (found named : Option Val) (args vs : List Val) → g ≡ h → found ≡ named → args ≡ vs
+    → Comes result args (found_called g found args) → Comes result vs (found_called h named vs)
+found_as result g h found named args vs is stands taken comes =
+    subst (λ us. Comes result us (found_called h named us)) taken
+    (subst (λ x. Comes result args (found_called x named args)) is (subst (λ o. Comes result args (found_called g o args)) stands comes))
 
 pub method_as : (result : Result (Option Called) (List ErrorKind)) (g h : Globals) (known : Known) (name : List ℕ) (v : Val) (args vs : List Val) → g ≡ h → args ≡ vs
     → ComesOr (invokes (method_of v name) args) result args (method_called g known name v args)

@@ -1,5 +1,6 @@
 -- Instructions that call give the value of the call, or fail as it does.
-use Rattle.std.proofs.Common.{◌≡◌, ◌⊎◌, inl, inr, ℕ, suc, false, if◌then◌else◌, List, [], ◌∷◌, Option, Some, Result, OnOk, IfErr, IsErrAnd, refl, sym, ap, ◌∙◌, subst}
+use Rattle.std.proofs.Common.{◌≡◌, ◌⊎◌, inl, inr, ℕ, suc, false, if◌then◌else◌, List, [], ◌∷◌, Option, None, Some, Result, Ok, Err, OnOk, IfErr, IsErrAnd, refl, sym, ap, ◌∙◌, subst}
+use Rattle.std.specs.Global.{Vec}
 use Rattle.std.proofs.KnownBytes.{Appends-nil}
 use Rattle.template_values_errors.specs.declared.ErrorKind.{ErrorKind}
 use Rattle.template_values_errors.specs.declared.ErrorKind.TheVariants.{WriteFailure}
@@ -11,22 +12,28 @@ use Rattle.template_code.specs.Code.{Operand, single, Code}
 use Rattle.template_code.specs.Steps.{deed, giving, handed}
 use Rattle.template_walk.specs.Statements.{is_super_name}
 use Rattle.template_machine_meaning.specs.Blocks.{super_called}
-use Rattle.template_machine_meaning.specs.Calls.{call_reply}
+use Rattle.template_machine_meaning.specs.Calls.{call_plan}
 use Rattle.template_machine_meaning.specs.Functions.{name_called}
 use Rattle.template_machine_meaning.specs.Keeps.{IsMeant, IsFault, IsMeantEnd}
-use Rattle.template_machine_meaning.specs.Plans as plans
-use Rattle.template_machine_meaning.specs.Plans.{settled}
+use Rattle.template_machine_meaning.specs.Plans.{Plan, replies, settled}
 use Rattle.template_machine_meaning.specs.Replies.{told, changed}
-use Rattle.template_machine_meaning.specs.Surroundings.{Programs, answer, runners}
+use Rattle.template_machine_meaning.specs.Surroundings.{Programs, plan, answer, runners}
 use Rattle.template_machine_meaning.specs.World.{World, looked_up}
 use Rattle.template_machine_meaning.proofs.RunsKept.{runs_keep}
 use Rattle.template_machine_going.specs.Acts.{Next, Acts}
 use Rattle.template_machine_going.specs.Outcomes.{FaultsWith, faulting}
 use Rattle.template_machine_going.proofs.Paths.{paid_nothing}
 use Rattle.template_machine_operands.specs.Operands.{RefusesHanded}
+use Rattle.template_machine_state.specs.Changes.{OnlyTemps}
 use Rattle.template_machine_acts.proofs.Acting.{events_act, events_fault}
 use Rattle.template_machine_steps.specs.Performs.{spot, SparesSink, Performs}
 use Rattle.template_machine_steps.proofs.Stepping.{handed_on, pushed_out, want_out}
+use Rattle.template_machine_calls.specs.Left.{entry_plan, reached_by, turnings_in, value_left, with_turnings, Planned, KeptUnlessValue}
+use Rattle.template_machine_calls.specs.Calls.{Enters, Calls, Puts}
+use Rattle.template_machine_calls.specs.declared.reached.Turning.{Turning}
+use Rattle.template_machine_calls.specs.declared.reached.Entry.{Entry}
+use Rattle.template_machine_calls.specs.declared.reached.Reached.{Reached}
+use Rattle.template_machine_calls.specs.declared.reached.Reached.TheVariants as reached
 
 -- a fault that a template means is none of a sink that failed
 fault_spares : (kinds : List ErrorKind) → IsFault kinds → SparesSink kinds
@@ -34,40 +41,83 @@ fault_spares [] meant = absurd meant
 fault_spares (kind ∷ kinds) meant = λ is. let first : kind ≡ WriteFailure = cc in subst IsMeant first meant.0
 
 -- every run keeps that its faults are meant
-pub reply_spares : (s : Programs) (e : Ask) (w : World) (reply : Reply World) → ((n : ℕ) → answer s n w e ≡ reply) → (kinds : List ErrorKind) (after : World)
-    → reply ≡ told after (fails kinds) → SparesSink kinds
-reply_spares s e w reply replies kinds after is =
+pub reply_spares : (s : Programs) (e : Ask) (w : World) (kinds : List ErrorKind) (after : World) → ((n : ℕ) → answer s n w e ≡ told after (fails kinds)) → SparesSink kinds
+reply_spares s e w kinds after is =
     fault_spares kinds
-    (subst (λ (r : Reply World). IsMeantEnd (replied (λ a t. run (answer s 0) (over []) t) r).end) (replies 0 ∙ is) (runs_keep s 0 (asks e (λ a. over [])) w).end)
+    (subst (λ (r : Reply World). IsMeantEnd (replied (λ a t. run (answer s 0) (over []) t) r).end) (is 0) (runs_keep s 0 (asks e (λ a. over [])) w).end)
 
 module _ (s : Programs) (c : Code) (e : Ask) (operands : List Operand) (w : World) (below : List Operand)
     (asking : (next : Next) (before : Counts) (place : ℕ) → deed next before c place operands ≡ giving next place below e)
-    (reply : Reply World) (replies : (n : ℕ) → answer s n w e ≡ reply) where
-  gives : (v : Val) (after : World) → reply ≡ changed after (value v) → (before : Counts) (place : ℕ) (left : Option ℕ) (taken : Option (List ℕ))
+    (call : Plan) (planned : plan s.around w e ≡ call) where
+  replies_so : (r : Reply World) → call ≡ replies r → (n : ℕ) → answer s n w e ≡ r
+  replies_so r is n = ap (settled (runners s n) w) (planned ∙ is)
+
+  gives : (v : Val) (after : World) → call ≡ replies (changed after (value v)) → (before : Counts) (place : ℕ) (left : Option ℕ) (taken : Option (List ℕ))
       → Acts (answer s) before c (spot place operands w left taken) (spot (suc place) (single v ∷ below) after left taken)
   gives v after is before place left taken =
       events_act World (answer s) before c e (λ next. on_value (λ u. next (suc place) (single u ∷ below))) (value v) [] 0
       (spot place operands w left taken) (spot (suc place) (single v ∷ below) after left taken)
-      (λ next. asking next before place) (λ n le. replies n ∙ is) (λ next. refl) (paid_nothing left) (Appends-nil taken)
+      (λ next. asking next before place) (λ n le. replies_so (changed after (value v)) is n) (λ next. refl) (paid_nothing left) (Appends-nil taken)
 
-  failing : (kinds : List ErrorKind) (after : World) → reply ≡ told after (fails kinds) → (before : Counts) (place : ℕ) (left : Option ℕ) (taken : Option (List ℕ))
+  failing : (kinds : List ErrorKind) (after : World) → call ≡ replies (told after (fails kinds)) → (before : Counts) (place : ℕ) (left : Option ℕ) (taken : Option (List ℕ))
       → FaultsWith (answer s) before c (spot place operands w left taken) kinds left taken
   failing kinds after is before place left taken =
       events_fault World (answer s) before c e (λ next. on_value (λ u. next (suc place) (single u ∷ below))) kinds [] 0 after left taken
-      (spot place operands w left taken) (λ next. asking next before place) (λ n le. replies n ∙ is) (paid_nothing left) (Appends-nil taken)
+      (spot place operands w left taken) (λ next. asking next before place) (λ n le. replies_so (told after (fails kinds)) is n) (paid_nothing left) (Appends-nil taken)
 
   -- the value of the call goes on top
-  pub given : {X : Type 0} (result : Result X (List ErrorKind)) (later : List Operand) (v : Val) (after : World) → reply ≡ changed after (value v)
+  pub given : {X : Type 0} (result : Result X (List ErrorKind)) (later : List Operand) (v : Val) (after : World) → call ≡ replies (changed after (value v))
       → OnOk result (later ≡ single v ∷ below) → IfErr result NoMemory → Performs s c operands w result later after
   given result later v after is put why = pushed_out s c operands w result suc later after below v (gives v after is) put why
 
   -- or the call failed, or no memory is left
   pub failed : {X : Type 0} (result : Result X (List ErrorKind)) (later : List Operand) (after : World) (kinds : List ErrorKind)
-      → NoMemory kinds ⊎ (reply ≡ told after (fails kinds)) → IsErrAnd result (λ ks. ks ≡ kinds) → Performs s c operands w result later after
+      → NoMemory kinds ⊎ (call ≡ replies (told after (fails kinds))) → IsErrAnd result (λ ks. ks ≡ kinds) → Performs s c operands w result later after
   failed result later after kinds (inl why) is = want_out s c operands w result suc later after kinds why is
   failed result later after kinds (inr fault) is =
-      handed_on s c operands w result suc later after kinds (reply_spares s e w reply replies kinds after fault)
+      handed_on s c operands w result suc later after kinds (reply_spares s e w kinds after (replies_so (told after (fails kinds)) fault))
       (λ place left taken before to others v. faulting (failing kinds after fault before place left taken)) is
+
+  -- or it enters
+  pub entered : (entry : Entry) (later : List Operand) (after : World) → call ≡ entry_plan s.around entry after → OnlyTemps w after → later ≡ below
+      → Enters s c operands w entry later after
+  entered entry later after is only same = record {
+    ask = e;
+    asks = λ next before place. asking next before place ∙ ap (λ rest. giving next place rest e) (sym same);
+    planned = planned ∙ is;
+    kept = only;
+  }
+
+  -- whatever it came to
+  pub put_out : (came : Reached) (result : Result (Option Entry) (List ErrorKind)) (later : List Operand) (after : World)
+      → call ≡ reached_by s.around came after → KeptUnlessValue (Ok came) w after → Puts came after below result later → Calls s c operands w result later after
+  put_out (reached.Value v turnings) (Ok None) later after is kept put = given {X = Unit {0}} (Ok tt) later put.0 after (is ∙ put.1) put.2 tt
+  put_out (reached.Value v turnings) (Err kinds) later after is kept (inl why) = failed {X = Unit {0}} (Err kinds) later after kinds (inl why) refl
+  put_out (reached.Value v turnings) (Err kinds) later after is kept (inr fault) = failed {X = Unit {0}} (Err kinds) later after kinds (inr (is ∙ fault)) refl
+  put_out (reached.Value v turnings) (Ok (Some entry)) later after is kept none = absurd none
+  put_out (reached.Enters entry) (Ok (Some same)) later after is kept put =
+      subst (λ (x : Entry). Enters s c operands w x later after) (sym put.0) (entered entry later after is kept put.1)
+  put_out (reached.Enters entry) (Ok None) later after is kept none = absurd none
+  put_out (reached.Enters entry) (Err kinds) later after is kept none = absurd none
+
+-- a value that could not be turned, or be put there
+pub puts_err : (v : Val) (turnings : Vec Turning) (w : World) (operands : List Operand) (result : Result (Option Entry) (List ErrorKind)) (kinds : List ErrorKind) (later : List Operand)
+    → Planned value_left (with_turnings (turnings_in turnings.items) (value_left v w)) (Err kinds) w → IsErrAnd result (λ ks. ks ≡ kinds)
+    → Puts (reached.Value v turnings) w operands result later
+puts_err v turnings w operands (Ok x) kinds later why is = absurd is
+puts_err v turnings w operands (Err ks) kinds later why is =
+    subst (λ qs. Planned value_left (with_turnings (turnings_in turnings.items) (value_left v w)) (Err qs) w) (sym is) why
+
+pub puts_want : (v : Val) (turnings : Vec Turning) (w : World) (operands : List Operand) (result : Result (Option Entry) (List ErrorKind)) (kinds : List ErrorKind) (later : List Operand)
+    → NoMemory kinds → IsErrAnd result (λ ks. ks ≡ kinds) → Puts (reached.Value v turnings) w operands result later
+puts_want v turnings w operands result kinds later why is = puts_err v turnings w operands result kinds later (inl why) is
+
+-- an error that is handed on
+pub err_out : (s : Programs) (c : Code) (operands : List Operand) (w : World) (result : Result (Option Entry) (List ErrorKind)) (later : List Operand) (after : World)
+    (kinds : List ErrorKind) → Performs {X = Unit {0}} s c operands w (Err kinds) later after → IsErrAnd result (λ ks. ks ≡ kinds) → Calls s c operands w result later after
+err_out s c operands w (Ok x) later after kinds performs is = absurd is
+err_out s c operands w (Err ks) later after kinds performs is =
+    subst (λ qs. Performs {X = Unit {0}} s c operands w (Err qs) later after) (sym is) performs
 
 -- operands that were taken by another name of the count
 pub handed_as : (count same : Option ℕ) (operands : List Operand) (given : Option (List Val × List Operand)) → count ≡ same
@@ -83,7 +133,7 @@ pub refused_as : (count same : Option ℕ) (operands : List Operand) (kinds : Li
 refused_as count same operands kinds is why = subst (λ n. RefusesHanded n operands kinds) is why
 
 -- a name that is not `super` is called
-pub called : (s : Programs) (name : List ℕ) (w : World) (vs : List Val) → is_super_name name ≡ false → (n : ℕ)
-    → answer s n w (call_function name vs) ≡ call_reply s.around w (name_called w.globals (looked_up name w) vs)
-called s name w vs other n =
-    ap (λ b. settled (runners s n) w (if b then super_called s.around w vs else plans.replies (call_reply s.around w (name_called w.globals (looked_up name w) vs)))) other
+pub called : (s : Programs) (name : List ℕ) (w : World) (vs : List Val) → is_super_name name ≡ false
+    → plan s.around w (call_function name vs) ≡ call_plan s.around w (name_called w.globals (looked_up name w) vs)
+called s name w vs other =
+    ap (λ b. if b then super_called s.around w vs else call_plan s.around w (name_called w.globals (looked_up name w) vs)) other

@@ -125,7 +125,7 @@ module _ (s : Programs) (v : Val) (below : List Operand) (w : World) where
 
   refusal_spares : (kinds : List ErrorKind) → NoMemory kinds ⊎ (written_reply s.around w v ≡ told w (fails kinds)) → SparesSink kinds
   refusal_spares kinds (inl why) = memory_spares kinds why
-  refusal_spares kinds (inr refuses) = reply_spares s (events.write_value v) w (written_reply s.around w v) (λ n. refl) kinds w refuses
+  refusal_spares kinds (inr refuses) = reply_spares s (events.write_value v) w kinds w (λ n. refuses)
 
   pub refused_failures : {X : Type 0} (kinds : List ErrorKind) (result : Result X (List ErrorKind)) (count : ℕ)
       → NoMemory kinds ⊎ (written_reply s.around w v ≡ told w (fails kinds)) → IsErrAnd result (λ ks. ks ≡ kinds) → TellsFailures result count count

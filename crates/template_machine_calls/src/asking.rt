@@ -1,17 +1,18 @@
 //! Calls of a user's own, and what is asked further.
-ghost use Rattle.std.specs.Prelude.{Ok};
+ghost use Rattle.std.specs.Prelude.{ℕ, Ok};
 ghost use Rattle.template_callables.specs.Answers.{asked_by};
-ghost use Rattle.template_machine_meaning.specs.Calls.{called_reply};
+ghost use Rattle.template_machine_meaning.specs.Calls.{called_plan};
 ghost use Rattle.template_machine_meaning.specs.Functions as functions;
 ghost use Rattle.template_machine_meaning.specs.Functions.{filter_named, test_named, function_numbered, method_of};
 ghost use Rattle.template_machine_meaning.specs.Keys.{Around};
 ghost use Rattle.template_machine_operations.specs.Called.{Comes};
 ghost use Rattle.template_machine_state.specs.Changes.{OnlyTemps};
 ghost use Rattle.template_machine_calls.specs.Hosted.{around_under};
-ghost use Rattle.template_machine_calls.specs.Left.{Going, KeepsWorld, Replied, asked_reply, left_by, raw_reply};
+ghost use Rattle.template_machine_calls.specs.Left.{Going, KeepsWorld, Planned, asked_plan, left_by, raw_plan};
 
 use crate::heard::heard;
 use crate::outcome::Outcome;
+use crate::reached::Entering;
 use crate::rules::Rules;
 use std::alloc::Global;
 use template_callables::{Callbacks, Further};
@@ -33,8 +34,8 @@ pub(crate) fn ask_filter<H: Callbacks>(
     args: &[Value],
     state: &mut State<'_>,
 ) -> Result<Outcome, Error>
-    ensures comes { (a : Around) (go : Going) → let around = around_under rules.entry (H.callables host.now) a in
-        Replied (left_by go) (raw_reply around go state.old (filter_named name.now) args.now) result state.new }
+    ensures comes { (a : Around) (pending : ℕ) (go : Going) → let around = around_under rules.entry (H.callables host.now) a in
+        Planned (left_by around pending go) (raw_plan around go state.old (filter_named name.now) args.now) result state.new }
     ensures kept { OnlyTemps state.old state.new }
 {
     let view = state.view(rules.name, rules.undefined);
@@ -54,8 +55,8 @@ pub(crate) fn ask_test<H: Callbacks>(
     args: &[Value],
     state: &mut State<'_>,
 ) -> Result<Outcome, Error>
-    ensures comes { (a : Around) (go : Going) → let around = around_under rules.entry (H.callables host.now) a in
-        Replied (left_by go) (raw_reply around go state.old (test_named name.now) args.now) result state.new }
+    ensures comes { (a : Around) (pending : ℕ) (go : Going) → let around = around_under rules.entry (H.callables host.now) a in
+        Planned (left_by around pending go) (raw_plan around go state.old (test_named name.now) args.now) result state.new }
     ensures kept { OnlyTemps state.old state.new }
 {
     let view = state.view(rules.name, rules.undefined);
@@ -75,8 +76,8 @@ fn ask_function<H: Callbacks>(
     args: &[Value],
     state: &mut State<'_>,
 ) -> Result<Outcome, Error>
-    ensures comes { (a : Around) (go : Going) → let around = around_under rules.entry (H.callables host.now) a in
-        Replied (left_by go) (raw_reply around go state.old (function_numbered number) args.now) result state.new }
+    ensures comes { (a : Around) (pending : ℕ) (go : Going) → let around = around_under rules.entry (H.callables host.now) a in
+        Planned (left_by around pending go) (raw_plan around go state.old (function_numbered number) args.now) result state.new }
     ensures kept { OnlyTemps state.old state.new }
 {
     let view = state.view(rules.name, rules.undefined);
@@ -97,8 +98,8 @@ pub(crate) fn ask_method<H: Callbacks>(
     args: &[Value],
     state: &mut State<'_>,
 ) -> Result<Outcome, Error>
-    ensures comes { (a : Around) (go : Going) → let around = around_under rules.entry (H.callables host.now) a in
-        Replied (left_by go) (raw_reply around go state.old (method_of object.now name.now) args.now) result state.new }
+    ensures comes { (a : Around) (pending : ℕ) (go : Going) → let around = around_under rules.entry (H.callables host.now) a in
+        Planned (left_by around pending go) (raw_plan around go state.old (method_of object.now name.now) args.now) result state.new }
     ensures kept { OnlyTemps state.old state.new }
 {
     let view = state.view(rules.name, rules.undefined);
@@ -107,7 +108,7 @@ pub(crate) fn ask_method<H: Callbacks>(
 }
 
 // What a call with arguments comes to so far: the state makes the namespace, and knows whether `changed` was called with others
-// before; a user's own is asked.
+// before; a user's own is asked; macros and rounds are to be entered.
 //
 // # Errors
 //
@@ -119,9 +120,9 @@ pub(crate) fn begin<H: Callbacks>(
     args: Vec<Value>,
     state: &mut State<'_>,
 ) -> Result<Outcome, Error>
-    ensures comes { (a : Around) (go : Going) (came : functions.Called) → Comes (Ok called) args.items came →
+    ensures comes { (a : Around) (pending : ℕ) (go : Going) (came : functions.Called) → Comes (Ok called) args.items came →
         let around = around_under rules.entry (H.callables host.now) a in
-        Replied (left_by go) (called_reply around go state.old came) result state.new }
+        Planned (left_by around pending go) (called_plan around pending go state.old came) result state.new }
     ensures kept { KeepsWorld result state.old state.new }
 {
     match called {
@@ -132,14 +133,17 @@ pub(crate) fn begin<H: Callbacks>(
             Ok(Outcome::Value(Value::from_bool(changed)))
         }
         Called::Function(number) => ask_function(rules, host, number, args.as_slice(), state),
+        Called::Macro(id, number) => Ok(Outcome::Enters(Entering::Macro(id, number, args))),
+        Called::Rounds(id, number) => Ok(Outcome::Enters(Entering::Rounds(id, number, args))),
     }
 }
 
-// What is asked further comes to so far; a test's value is not taken for true or false yet.
+// What is asked further comes to so far; its value is not turned yet: a test's not taken for true or false, that of a macro by its
+// name not printed.
 //
 // # Errors
 //
-// Those of the call, the filter or the test; and `OutOfMemory`.
+// Those of the call, the filter or the test; `UnknownFunction` where the name of a macro stands for nothing; and `OutOfMemory`.
 pub(crate) fn ask<H: Callbacks>(
     alloc: Global,
     rules: Rules<'_>,
@@ -147,8 +151,8 @@ pub(crate) fn ask<H: Callbacks>(
     further: Further,
     state: &mut State<'_>,
 ) -> Result<Outcome, Error>
-    ensures comes { (a : Around) (go : Going) → let around = around_under rules.entry (H.callables host.now) a in
-        Replied (left_by go) (asked_reply around go state.old (asked_by further)) result state.new }
+    ensures comes { (a : Around) (pending : ℕ) (go : Going) → let around = around_under rules.entry (H.callables host.now) a in
+        Planned (left_by around pending go) (asked_plan around pending go state.old (asked_by further)) result state.new }
     ensures kept { KeepsWorld result state.old state.new }
 {
     match further {
@@ -163,5 +167,11 @@ pub(crate) fn ask<H: Callbacks>(
             ask_test(rules, host, name.as_str(), args.as_slice(), state)
         }
         Further::Lookup(name) => Ok(Outcome::Value(state.lookup(name.as_str())?)),
+        Further::Macro(name, args) => {
+            let found = state.looked_up(name.as_str())?;
+            let called = values::call_found(alloc, state.globals(), found, args.as_slice())?;
+            begin(rules, host, called, args, state)
+        }
+        Further::Block(name) => Ok(Outcome::Enters(Entering::Block(name))),
     }
 }

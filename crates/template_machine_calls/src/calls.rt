@@ -1,17 +1,18 @@
 //! What the calls of templates come to.
 ghost use Rattle.std.specs.Prelude.{◌≡◌, ◌∷◌, ◌-◌, [], IfNone, IfSome, Ok};
-ghost use Rattle.template_machine_meaning.specs.Calls.{call_reply};
+ghost use Rattle.template_machine_meaning.specs.Calls.{call_plan};
 ghost use Rattle.template_machine_meaning.specs.Functions as functions;
-ghost use Rattle.template_machine_meaning.specs.Functions.{filter_named, first_called, first_method, invokes, method_called, method_of, name_called, test_named, value_called};
+ghost use Rattle.template_machine_meaning.specs.Functions.{filter_named, first_called, first_method, found_called, invokes, method_called, method_of, name_called, test_named, value_called};
 ghost use Rattle.template_machine_meaning.specs.Keys.{Around};
 ghost use Rattle.template_machine_meaning.specs.Records.{known_of};
 ghost use Rattle.template_machine_meaning.specs.World.{depth_of, looked_up};
 ghost use Rattle.template_machine_operations.specs.Called.{Comes};
 ghost use Rattle.template_machine_calls.specs.Hosted.{around_under};
-ghost use Rattle.template_machine_calls.specs.Left.{KeptInWant, Replied, truth_left, value_left};
+ghost use Rattle.template_machine_calls.specs.Left.{KeptUnlessValue, Planned, reached_by};
 
 use crate::asking::{ask_filter, ask_method, ask_test, begin};
-use crate::chain::{conclude, finish};
+use crate::chain::conclude;
+use crate::reached::{Reached, Turning};
 use crate::rules::Rules;
 use std::alloc::Global;
 use template_callables::Callbacks;
@@ -20,7 +21,6 @@ use template_machine_operations::Called;
 use template_machine_state::State;
 use template_values_core::Value;
 use template_values_errors::Error;
-use template_values_operations::truth_of;
 use template_values_operators::refusal;
 
 /// What a filter comes to for arguments, the first of which is what it filters, and what it asks further: at most as much at once
@@ -42,14 +42,14 @@ pub fn call_filter<H: Callbacks>(
     name: &str,
     args: &[Value],
     state: &mut State<'_>,
-) -> Result<Value, Error>
+) -> Result<Reached, Error>
     ensures told { (a : Around) → let around = around_under rules.entry (H.callables host.now) a in
-        Replied value_left (call_reply around state.old (invokes (filter_named name.now) args.now)) result state.new }
-    ensures kept { KeptInWant result state.old state.new }
+        Planned (reached_by around) (call_plan around state.old (invokes (filter_named name.now) args.now)) result state.new }
+    ensures kept { KeptUnlessValue result state.old state.new }
 {
     let levels = levels_left(rules.limit, state);
     let outcome = ask_filter(rules, host, name, args, state)?;
-    conclude(alloc, rules, host, levels, outcome, state)
+    conclude(alloc, rules, host, levels, Vec::new(alloc), outcome, state)
 }
 
 /// What a test comes to for arguments, the first of which is what it tests, and what it asks further, as [`call_filter`].
@@ -66,15 +66,43 @@ pub fn call_test<H: Callbacks>(
     name: &str,
     args: &[Value],
     state: &mut State<'_>,
-) -> Result<bool, Error>
+) -> Result<Reached, Error>
     ensures told { (a : Around) → let around = around_under rules.entry (H.callables host.now) a in
-        Replied truth_left (call_reply around state.old (invokes (test_named name.now) args.now)) result state.new }
-    ensures kept { KeptInWant result state.old state.new }
+        Planned (reached_by around) (call_plan around state.old (invokes (test_named name.now) args.now)) result state.new }
+    ensures kept { KeptUnlessValue result state.old state.new }
 {
     let levels = levels_left(rules.limit, state);
     let outcome = ask_test(rules, host, name, args, state)?;
-    let (value, _test) = finish(alloc, rules, host, levels, outcome, state)?;
-    truth_of(&value, &*state)
+    let mut turnings = Vec::new(alloc);
+    turnings.push(Turning::Truth)?;
+    conclude(alloc, rules, host, levels, turnings, outcome, state)
+}
+
+/// What the value under a name comes to that is called with arguments, and what it asks further, as [`call_filter`].
+///
+/// # Errors
+///
+/// [`ErrorKind::UnknownFunction`] where nothing stands under the name; [`ErrorKind::InvalidOperation`] at a value that cannot be
+/// called; else as [`call_filter`].
+///
+/// [`ErrorKind::UnknownFunction`]: template_values_errors::ErrorKind::UnknownFunction
+/// [`ErrorKind::InvalidOperation`]: template_values_errors::ErrorKind::InvalidOperation
+pub fn call_found<H: Callbacks>(
+    alloc: Global,
+    rules: Rules<'_>,
+    host: &H,
+    name: &str,
+    args: Vec<Value>,
+    state: &mut State<'_>,
+) -> Result<Reached, Error>
+    ensures told { (a : Around) → let around = around_under rules.entry (H.callables host.now) a in
+        let called = found_called state.old.globals (looked_up name.now state.old) args.items in
+        Planned (reached_by around) (call_plan around state.old called) result state.new }
+    ensures kept { KeptUnlessValue result state.old state.new }
+{
+    let found = state.looked_up(name)?;
+    let called = values::call_found(alloc, state.globals(), found, args.as_slice())?;
+    call(alloc, rules, host, called, args, state)
 }
 
 // What a name stands for is called with arguments.
@@ -89,10 +117,11 @@ pub(crate) fn call_named<H: Callbacks>(
     name: &str,
     args: Vec<Value>,
     state: &mut State<'_>,
-) -> Result<Value, Error>
-    ensures { (a : Around) → let around = around_under rules.entry (H.callables host.now) a in
+) -> Result<Reached, Error>
+    ensures told { (a : Around) → let around = around_under rules.entry (H.callables host.now) a in
         let called = name_called state.old.globals (looked_up name.now state.old) args.items in
-        Replied value_left (call_reply around state.old called) result state.new }
+        Planned (reached_by around) (call_plan around state.old called) result state.new }
+    ensures kept { KeptUnlessValue result state.old state.new }
 {
     let named = state.looked_up(name)?;
     let called = values::call_named(alloc, state.globals(), named, args.as_slice())?;
@@ -110,9 +139,10 @@ pub(crate) fn call_first<H: Callbacks>(
     host: &H,
     taken: Vec<Value>,
     state: &mut State<'_>,
-) -> Result<Value, Error>
-    ensures { (a : Around) → let around = around_under rules.entry (H.callables host.now) a in
-        Replied value_left (call_reply around state.old (first_called state.old.globals taken.items)) result state.new }
+) -> Result<Reached, Error>
+    ensures told { (a : Around) → let around = around_under rules.entry (H.callables host.now) a in
+        Planned (reached_by around) (call_plan around state.old (first_called state.old.globals taken.items)) result state.new }
+    ensures kept { KeptUnlessValue result state.old state.new }
 {
     match split_first(taken) {
         Some((callee, args)) => call_value(alloc, rules, host, callee, args, state),
@@ -132,10 +162,11 @@ pub(crate) fn call_first_method<H: Callbacks>(
     name: &str,
     taken: Vec<Value>,
     state: &mut State<'_>,
-) -> Result<Value, Error>
-    ensures { (a : Around) → let around = around_under rules.entry (H.callables host.now) a in
+) -> Result<Reached, Error>
+    ensures told { (a : Around) → let around = around_under rules.entry (H.callables host.now) a in
         let called = first_method state.old.globals (known_of state.old) name.now taken.items in
-        Replied value_left (call_reply around state.old called) result state.new }
+        Planned (reached_by around) (call_plan around state.old called) result state.new }
+    ensures kept { KeptUnlessValue result state.old state.new }
 {
     match split_first(taken) {
         Some((object, args)) => call_method_of(alloc, rules, host, name, object, args, state),
@@ -168,9 +199,10 @@ fn call_value<H: Callbacks>(
     callee: Value,
     args: Vec<Value>,
     state: &mut State<'_>,
-) -> Result<Value, Error>
-    ensures { (a : Around) → let around = around_under rules.entry (H.callables host.now) a in
-        Replied value_left (call_reply around state.old (value_called state.old.globals callee args.items)) result state.new }
+) -> Result<Reached, Error>
+    ensures told { (a : Around) → let around = around_under rules.entry (H.callables host.now) a in
+        Planned (reached_by around) (call_plan around state.old (value_called state.old.globals callee args.items)) result state.new }
+    ensures kept { KeptUnlessValue result state.old state.new }
 {
     let called = values::call_value(alloc, state.globals(), &callee, args.as_slice())?;
     call(alloc, rules, host, called, args, state)
@@ -189,10 +221,11 @@ fn call_method_of<H: Callbacks>(
     object: Value,
     args: Vec<Value>,
     state: &mut State<'_>,
-) -> Result<Value, Error>
-    ensures { (a : Around) → let around = around_under rules.entry (H.callables host.now) a in
+) -> Result<Reached, Error>
+    ensures told { (a : Around) → let around = around_under rules.entry (H.callables host.now) a in
         let called = method_called state.old.globals (known_of state.old) name.now object args.items in
-        Replied value_left (call_reply around state.old called) result state.new }
+        Planned (reached_by around) (call_plan around state.old called) result state.new }
+    ensures kept { KeptUnlessValue result state.old state.new }
 {
     let method = values::call_method(
         alloc,
@@ -221,13 +254,14 @@ fn call_missing<H: Callbacks>(
     object: &Value,
     args: &[Value],
     state: &mut State<'_>,
-) -> Result<Value, Error>
-    ensures { (a : Around) → let around = around_under rules.entry (H.callables host.now) a in
-        Replied value_left (call_reply around state.old (invokes (method_of object.now name.now) args.now)) result state.new }
+) -> Result<Reached, Error>
+    ensures told { (a : Around) → let around = around_under rules.entry (H.callables host.now) a in
+        Planned (reached_by around) (call_plan around state.old (invokes (method_of object.now name.now) args.now)) result state.new }
+    ensures kept { KeptUnlessValue result state.old state.new }
 {
     let levels = levels_left(rules.limit, state);
     let outcome = ask_method(rules, host, object, name, args, state)?;
-    conclude(alloc, rules, host, levels, outcome, state)
+    conclude(alloc, rules, host, levels, Vec::new(alloc), outcome, state)
 }
 
 // What a call with arguments comes to.
@@ -242,14 +276,15 @@ fn call<H: Callbacks>(
     called: Called,
     args: Vec<Value>,
     state: &mut State<'_>,
-) -> Result<Value, Error>
-    ensures { (a : Around) (came : functions.Called) → Comes (Ok called) args.items came →
+) -> Result<Reached, Error>
+    ensures told { (a : Around) (came : functions.Called) → Comes (Ok called) args.items came →
         let around = around_under rules.entry (H.callables host.now) a in
-        Replied value_left (call_reply around state.old came) result state.new }
+        Planned (reached_by around) (call_plan around state.old came) result state.new }
+    ensures kept { KeptUnlessValue result state.old state.new }
 {
     let levels = levels_left(rules.limit, state);
     let outcome = begin(rules, host, called, args, state)?;
-    conclude(alloc, rules, host, levels, outcome, state)
+    conclude(alloc, rules, host, levels, Vec::new(alloc), outcome, state)
 }
 
 // How many levels are left under a limit.

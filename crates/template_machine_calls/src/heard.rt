@@ -1,13 +1,14 @@
 //! What a user's own answers.
-ghost use Rattle.std.specs.Prelude.{◌≡◌, IfErr, List, OnOk, Option};
+ghost use Rattle.std.specs.Prelude.{◌≡◌, ℕ, IfErr, List, OnOk, Option};
 ghost use Rattle.template_values_errors.specs.Memory.{NoMemory};
 ghost use Rattle.template_values_model.specs.Val.{Val};
 ghost use Rattle.template_callables.specs.Answers.{Answers, temps_in};
 ghost use Rattle.template_callables.specs.Callables.{View, Stated, Says};
 ghost use Rattle.template_callables.specs.Callbacks.{AnswersUnder};
-ghost use Rattle.template_machine_meaning.specs.Calls.{stated_reply, with_temps};
+ghost use Rattle.template_machine_meaning.specs.Calls.{stated_plan, with_temps};
 ghost use Rattle.template_machine_state.specs.Changes.{OnlyTemps};
-ghost use Rattle.template_machine_calls.specs.Left.{Going, Replied, left_by, said_reply};
+ghost use Rattle.template_machine_meaning.specs.Keys.{Around};
+ghost use Rattle.template_machine_calls.specs.Left.{Going, Planned, left_by, said_plan};
 
 use crate::outcome::Outcome;
 use template_callables::{Answer, stated_fault};
@@ -25,8 +26,8 @@ pub(crate) fn heard(
     kind: ErrorKind,
     state: &mut State<'_>,
 ) -> Result<Outcome, Error>
-    ensures comes { (go : Going) (says : Option Says) (view : View) (args : List Val) → AnswersUnder says view args answer →
-        Replied (left_by go) (said_reply go state.old kind view args says) result state.new }
+    ensures comes { (a : Around) (pending : ℕ) (go : Going) (says : Option Says) (view : View) (args : List Val) → AnswersUnder says view args answer →
+        Planned (left_by a pending go) (said_plan go state.old kind view args says) result state.new }
     ensures kept { OnlyTemps state.old state.new }
 {
     match answer {
@@ -41,8 +42,8 @@ pub(crate) fn heard(
 //
 // What `stated_fault` makes of the answer's fault; and `OutOfMemory`.
 fn come_of(answer: Answer, state: &mut State<'_>) -> Result<Outcome, Error>
-    ensures comes { (go : Going) (stated : Stated) → Answers stated answer →
-        Replied (left_by go) (stated_reply go state.old stated) result state.new }
+    ensures comes { (a : Around) (pending : ℕ) (go : Going) (stated : Stated) → Answers stated answer →
+        Planned (left_by a pending go) (stated_plan go state.old stated) result state.new }
     ensures kept { OnlyTemps state.old state.new }
 {
     match answer {

@@ -4,20 +4,22 @@ ghost use Rattle.template_code.specs.Code.{apply_filter, call_function, call_met
 ghost use Rattle.template_walk.specs.Statements.{is_super_name};
 ghost use Rattle.template_machine_meaning.specs.Surroundings.{Programs};
 ghost use Rattle.template_machine_operands.specs.Operands.{operands_in};
-ghost use Rattle.template_machine_steps.specs.Performs.{Performs};
+ghost use Rattle.template_machine_calls.specs.Calls.{Calls, Puts};
 ghost use Rattle.template_machine_calls.specs.Hosted.{hosted};
 
 use crate::calls::{call_filter, call_first, call_first_method, call_named, call_test};
+use crate::reached::{Entry, Reached};
 use crate::rules::Rules;
+use crate::turning::turn_all;
 use std::alloc::Global;
 use template_callables::Callbacks;
 use template_machine_operands::Operands;
 use template_machine_state::State;
-use template_values_core::Value;
 use template_values_errors::Error;
 
 /// Takes so many values, or a counted run where the count is left out, and calls what a name stands for with them; the name is not
-/// `super`, which the machine calls by itself. As dear as [`State::looked_up`] and the call.
+/// `super`, which the machine calls by itself. A value is put on top; or it tells what is to be entered, in the state as it is then.
+/// As dear as [`State::looked_up`] and the call.
 ///
 /// # Errors
 ///
@@ -40,15 +42,15 @@ pub fn call_function<H: Callbacks>(
     count: Option<u16>,
     state: &mut State<'_>,
     operands: &mut Operands,
-) -> Result<(), Error>
+) -> Result<Option<Entry>, Error>
     requires { is_super_name name.now ≡ false }
     ensures { (program : Programs) →
-        Performs (hosted rules.entry (H.callables host.now) program) (call_function name.now count) (operands_in operands.old) state.old
+        Calls (hosted rules.entry (H.callables host.now) program) (call_function name.now count) (operands_in operands.old) state.old
         result (operands_in operands.new) state.new }
 {
     let args = operands.take_handed(widened(count))?;
-    let value = call_named(alloc, rules, host, name, args, state)?;
-    operands.push(value)
+    let reached = call_named(alloc, rules, host, name, args, state)?;
+    put(alloc, reached, state, operands)
 }
 
 /// Takes so many values, or a counted run where the count is left out, and calls a method of the first with the others. As dear
@@ -71,14 +73,14 @@ pub fn call_method<H: Callbacks>(
     count: Option<u16>,
     state: &mut State<'_>,
     operands: &mut Operands,
-) -> Result<(), Error>
+) -> Result<Option<Entry>, Error>
     ensures { (program : Programs) →
-        Performs (hosted rules.entry (H.callables host.now) program) (call_method name.now count) (operands_in operands.old) state.old
+        Calls (hosted rules.entry (H.callables host.now) program) (call_method name.now count) (operands_in operands.old) state.old
         result (operands_in operands.new) state.new }
 {
     let taken = operands.take_handed(widened(count))?;
-    let value = call_first_method(alloc, rules, host, name, taken, state)?;
-    operands.push(value)
+    let reached = call_first_method(alloc, rules, host, name, taken, state)?;
+    put(alloc, reached, state, operands)
 }
 
 /// Takes so many values, or a counted run where the count is left out, and calls the first with the others. As dear as the
@@ -98,14 +100,14 @@ pub fn call_object<H: Callbacks>(
     count: Option<u16>,
     state: &mut State<'_>,
     operands: &mut Operands,
-) -> Result<(), Error>
+) -> Result<Option<Entry>, Error>
     ensures { (program : Programs) →
-        Performs (hosted rules.entry (H.callables host.now) program) (call_object count) (operands_in operands.old) state.old
+        Calls (hosted rules.entry (H.callables host.now) program) (call_object count) (operands_in operands.old) state.old
         result (operands_in operands.new) state.new }
 {
     let taken = operands.take_handed(widened(count))?;
-    let value = call_first(alloc, rules, host, taken, state)?;
-    operands.push(value)
+    let reached = call_first(alloc, rules, host, taken, state)?;
+    put(alloc, reached, state, operands)
 }
 
 /// Takes so many values, or a counted run where the count is left out, and filters the first, as [`call_filter`].
@@ -126,14 +128,14 @@ pub fn apply_filter<H: Callbacks>(
     count: Option<u16>,
     state: &mut State<'_>,
     operands: &mut Operands,
-) -> Result<(), Error>
+) -> Result<Option<Entry>, Error>
     ensures { (program : Programs) (number : ℕ) →
-        Performs (hosted rules.entry (H.callables host.now) program) (apply_filter name.now count number) (operands_in operands.old) state.old
+        Calls (hosted rules.entry (H.callables host.now) program) (apply_filter name.now count number) (operands_in operands.old) state.old
         result (operands_in operands.new) state.new }
 {
     let values = operands.take_handed(widened(count))?;
-    let value = call_filter(alloc, rules, host, name, values.as_slice(), state)?;
-    operands.push(value)
+    let reached = call_filter(alloc, rules, host, name, values.as_slice(), state)?;
+    put(alloc, reached, state, operands)
 }
 
 /// Takes so many values, or a counted run where the count is left out, and tests the first, as [`call_test`].
@@ -154,14 +156,37 @@ pub fn perform_test<H: Callbacks>(
     count: Option<u16>,
     state: &mut State<'_>,
     operands: &mut Operands,
-) -> Result<(), Error>
+) -> Result<Option<Entry>, Error>
     ensures { (program : Programs) (number : ℕ) →
-        Performs (hosted rules.entry (H.callables host.now) program) (perform_test name.now count number) (operands_in operands.old) state.old
+        Calls (hosted rules.entry (H.callables host.now) program) (perform_test name.now count number) (operands_in operands.old) state.old
         result (operands_in operands.new) state.new }
 {
     let values = operands.take_handed(widened(count))?;
-    let holds = call_test(alloc, rules, host, name, values.as_slice(), state)?;
-    operands.push(Value::from_bool(holds))
+    let reached = call_test(alloc, rules, host, name, values.as_slice(), state)?;
+    put(alloc, reached, state, operands)
+}
+
+// Puts the value of a call on top, once it is turned, or tells what is entered.
+//
+// # Errors
+//
+// Those of `turn_all`, and `OutOfMemory`.
+fn put(
+    alloc: Global,
+    reached: Reached,
+    state: &State<'_>,
+    operands: &mut Operands,
+) -> Result<Option<Entry>, Error>
+    ensures { Puts reached state.now (operands_in operands.old) result (operands_in operands.new) }
+{
+    match reached {
+        Reached::Value(value, turnings) => {
+            let turned = turn_all(alloc, turnings, value, state)?;
+            operands.push(turned)?;
+            Ok(None)
+        }
+        Reached::Enters(entry) => Ok(Some(entry)),
+    }
 }
 
 // The count of an instruction, as it is taken.

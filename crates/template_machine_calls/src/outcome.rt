@@ -1,4 +1,5 @@
 //! What calls come to so far.
+use crate::reached::Entering;
 use template_callables::Further;
 use template_values_core::Value;
 
@@ -9,4 +10,6 @@ pub(crate) enum Outcome {
     Value(Value),
     /// What this comes to, which the machine does next.
     Further(Further),
+    /// What a run within gives.
+    Enters(Entering),
 }

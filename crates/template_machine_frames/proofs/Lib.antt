@@ -5,4 +5,7 @@ pub mod Knowing
 pub mod Behind
 pub mod Places
 pub mod Outermost
+pub mod Beneath
+pub mod Seen
+pub mod Replacing
 mod Public

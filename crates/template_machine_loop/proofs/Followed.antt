@@ -9,7 +9,7 @@ use Rattle.template_code.specs.Code.{Operand, Code}
 use Rattle.template_code.specs.Steps.{values_in}
 use Rattle.template_machine_meaning.specs.World.{World}
 use Rattle.template_machine_meaning.specs.Keys as keys
-use Rattle.template_machine_meaning.specs.Keys.{own, Key, whole_of}
+use Rattle.template_machine_meaning.specs.Keys.{Stream, own, Key, whole_of}
 use Rattle.template_machine_meaning.specs.Plans.{restarted}
 use Rattle.template_machine_meaning.specs.Surroundings.{Programs, answer}
 use Rattle.template_machine_going.specs.Outcomes.{Stops}
@@ -27,11 +27,11 @@ module _ (standing : List ℕ → Option Standing) (joins : Joins) (callables : 
 
   -- how far the run of a key has come: to the start of this code, from this world on
   abbrev pub ComesTo : Key → World → Option ℕ → Option (List ℕ) → List Code → World → Option ℕ → Option (List ℕ) → Type 0
-  ComesTo key w left taken code v mid reached = (later : Key) × (code_at standing root later ≡ Some code) × Reaches s key w left taken later v mid reached
+  ComesTo key w left taken code v mid reached = (later : Stream) × (code_at standing root later ≡ Some code) × Reaches s key w left taken (whole_of later) v mid reached
 
-  pub comes_itself : (key : Key) (code : List Code) (w : World) (left : Option ℕ) (taken : Option (List ℕ)) → code_at standing root key ≡ Some code
-      → ComesTo key w left taken code w left taken
-  comes_itself key code w left taken at = (key, at, reaches_itself s key w left taken)
+  pub comes_itself : (here : Stream) (code : List Code) (w : World) (left : Option ℕ) (taken : Option (List ℕ)) → code_at standing root here ≡ Some code
+      → ComesTo (whole_of here) w left taken code w left taken
+  comes_itself here code w left taken at = (here, at, reaches_itself s (whole_of here) w left taken)
 
   -- the run of a key has come to the end of a stream, with this world
   pub record HasEnded (key : Key) (w : World) (left : Option ℕ) (taken : Option (List ℕ)) (after : World) (rest : Option ℕ) (written : Option (List ℕ)) : Type 0 where
@@ -52,37 +52,37 @@ module _ (standing : List ℕ → Option Standing) (joins : Joins) (callables : 
     key_stops kinds (Ok x) after rest written h is = absurd is
     key_stops {X} kinds (Err ks) after rest written h is =
         subst (λ others. KeyRuns {X = X} s key w left taken (Err others) after rest written) (sym is)
-        (breaks_there s key w left taken come.0 v mid reached come.2 kinds rest written
-        (stream_stops s come.0 code (runs_code standing joins callables root rules come.0 code come.1) v mid rest reached written kinds after h))
+        (breaks_there s key w left taken (whole_of come.0) v mid reached come.2 kinds rest written
+        (stream_stops s (whole_of come.0) code (runs_code standing joins callables root rules come.0 code come.1) v mid rest reached written kinds after h))
 
     -- it comes to its end
     module _ (operands : List Operand) (after : World) (rest : Option ℕ) (written : Option (List ℕ)) (h : EndsOver (answer s) code (spot 0 [] v mid reached) operands after rest written) where
       pub key_ends : {X : Type 0} (x : X) → after.parent ≡ None → KeyRuns s key w left taken (Ok x) after rest written
       key_ends x alone =
-          over_there s key w left taken come.0 v mid reached come.2 code (runs_code standing joins callables root rules come.0 code come.1) (values_in operands) after rest written
+          over_there s key w left taken (whole_of come.0) v mid reached come.2 code (runs_code standing joins callables root rules come.0 code come.1) (values_in operands) after rest written
           h.items h.least h.bound h.is h.pays h.text alone
 
       pub key_lacks : (X : Type 0) (kinds : List ErrorKind) → NoMemory kinds → KeyRuns {X = X} s key w left taken (Err kinds) after rest written
       key_lacks X kinds why =
-          lacks_behind s key w left taken come.0 v mid reached come.2 code (runs_code standing joins callables root rules come.0 code come.1) (values_in operands) after rest written
+          lacks_behind s key w left taken (whole_of come.0) v mid reached come.2 code (runs_code standing joins callables root rules come.0 code come.1) (values_in operands) after rest written
           h.items h.least h.bound h.is h.pays h.text kinds why
 
       pub key_lost : (X : Type 0) (name : List ℕ) (kinds : List ErrorKind) (then : World) → after.parent ≡ Some name → standing name ≡ None → kinds ≡ TemplateNotFound ∷ []
           → KeyRuns {X = X} s key w left taken (Err kinds) then rest written
       key_lost X name kinds then extends none is =
           subst (λ ks. KeyRuns {X = X} s key w left taken (Err ks) then rest written) (sym is)
-          (lost_there s key w left taken come.0 v mid reached come.2 code (runs_code standing joins callables root rules come.0 code come.1) (values_in operands) after rest written
+          (lost_there s key w left taken (whole_of come.0) v mid reached come.2 code (runs_code standing joins callables root rules come.0 code come.1) (values_in operands) after rest written
           h.items h.least h.bound h.is h.pays h.text name extends
-          (unkeyed standing joins callables root rules (whole_of (own (keys.standing name))) (ap (option_map (λ (t : Standing). t.code)) none)))
+          (unkeyed standing joins callables root rules (own (keys.standing name)) (ap (option_map (λ (t : Standing). t.code)) none)))
 
       pub key_restarts : (name : List ℕ) (t : Standing) (then : World) → after.parent ≡ Some name → standing name ≡ Some t → then ≡ restarted name after
           → ComesTo key w left taken t.code then rest written
       key_restarts name t then extends there same =
-          let next : Key = whole_of (own (keys.standing name)) in
+          let next : Stream = own (keys.standing name) in
           let at : code_at standing root next ≡ Some t.code = ap (option_map (λ (u : Standing). u.code)) there in (
             next,
             at,
-            subst (λ u. Reaches s key w left taken next u rest written) (sym same)
-                (restarts_there s key w left taken come.0 v mid reached come.2 code (runs_code standing joins callables root rules come.0 code come.1) (values_in operands) after rest written
+            subst (λ u. Reaches s key w left taken (whole_of next) u rest written) (sym same)
+                (restarts_there s key w left taken (whole_of come.0) v mid reached come.2 code (runs_code standing joins callables root rules come.0 code come.1) (values_in operands) after rest written
                 h.items h.least h.bound h.is h.pays h.text name extends (keyed standing joins callables root rules next t.code at)),
           )

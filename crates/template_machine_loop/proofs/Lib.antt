@@ -1,3 +1,4 @@
+mod Places
 pub mod Advancing
 pub mod Streams
 pub mod Restarts
@@ -5,6 +6,8 @@ pub mod Wrapping
 pub mod Doing
 mod Finding
 mod Within
+mod Parts
+pub mod Turned
 mod Followed
 mod Entered
 mod Choosing
@@ -13,3 +16,4 @@ pub mod Stretching
 mod Onward
 mod Following
 mod Calling
+mod Beginnings

@@ -1,10 +1,11 @@
 //! Calls of blocks, and of the bodies behind theirs.
-ghost use Rattle.std.specs.Prelude.{◌≡◌, ◌||◌, false, true, is_some, option_map};
+ghost use Rattle.std.specs.Prelude.{◌≡◌, ◌+◌, ◌||◌, false, true, is_some, option_map};
 ghost use Rattle.template_process.specs.Process.{done, value};
 ghost use Rattle.template_machine_blocks.specs.Streams.{home_of};
-ghost use Rattle.template_machine_meaning.specs.Blocks.{block_plan, block_within, called_plan, super_plan};
+ghost use Rattle.template_machine_meaning.specs.Blocks.{block_called, block_plan, block_within, super_plan, text_plan};
 ghost use Rattle.template_machine_meaning.specs.Captures.{is_dropping};
 ghost use Rattle.template_machine_meaning.specs.Plans.{room_for};
+ghost use Rattle.template_machine_meaning.specs.World.{has_room};
 ghost use Rattle.template_machine_operations.specs.Outcomes.{TellsFailures};
 ghost use Rattle.template_machine_loop.specs.Found.{StandsThere, name_in};
 ghost use Rattle.template_machine_loop.specs.Plans.{DoesPlan, PutsBack};
@@ -66,7 +67,7 @@ pub(crate) fn call_block<'env, T: Templates, S: Sink>(
 ) -> Result<(), Error>
     ensures plan { let templates = program.entry.templates.now in let root = option_map standing_of program.entry.root in
         let s = programs_under (T.standing templates) (T.joins templates) (T.callables templates) root program.entry.rules in
-        DoesPlan (λ u. done) s (called_plan s.around state.old name.now) state.old left.old (S.taken sink.old) result state.new left.new (S.taken sink.new) }
+        DoesPlan (λ u. done) s (block_called s.around state.old name.now) state.old left.old (S.taken sink.old) result state.new left.new (S.taken sink.new) }
     ensures failures { TellsFailures result (S.failures sink.old) (S.failures sink.new) }
 {
     if is_passed_over(state) {
@@ -114,6 +115,7 @@ fn run_body<'env, T: Templates, S: Sink>(
         scratch,
         sink,
     );
+    // Whatever the run's end.
     state.leave_block(caller);
     ran
 }
@@ -204,5 +206,65 @@ pub(crate) fn call_super<'env, T: Templates, S: Sink>(
             state.leave_super(caller, name, found.place);
             Err(wrapped(alloc, ErrorKind::EvalBlock, error))
         }
+    }
+}
+
+/// Runs the body of a block as [`run_block`] does, where so many calls are pending, which count as levels, and gives its text.
+///
+/// # Errors
+///
+/// Those of [`run_block`].
+#[cycle(running)]
+pub(crate) fn run_block_text<'env, T: Templates, S: Sink>(
+    alloc: Global,
+    program: Program<'env, '_, T>,
+    name: &str,
+    pending: usize,
+    state: &mut State<'env>,
+    left: &mut Option<u64>,
+    scratch: &mut String,
+    sink: &mut S,
+) -> Result<Value, Error>
+    ensures plan { let templates = program.entry.templates.now in let root = option_map standing_of program.entry.root in
+        let s = programs_under (T.standing templates) (T.joins templates) (T.callables templates) root program.entry.rules in
+        DoesPlan value s (text_plan s.around pending state.old name.now) state.old left.old (S.taken sink.old) result state.new left.new (S.taken sink.new) }
+    ensures failures { TellsFailures result (S.failures sink.old) (S.failures sink.new) }
+{
+    let found = body_to_run(program, name, state)?;
+    if !has_room_beside(state, program.rules.limit, 1, pending) {
+        return Err(Error::new(ErrorKind::InvalidOperation));
+    }
+    let name = found.block.name.as_str();
+    let caller = state.enter_block_text(alloc, name, found.home, pending)?;
+    let ran = run_whole(
+        alloc,
+        program,
+        &found.block.instructions,
+        state,
+        left,
+        scratch,
+        sink,
+    );
+    match ran {
+        Ok(()) => state.leave_block_text(alloc, caller),
+        Err(error) => {
+            state.leave_block(caller);
+            Err(error)
+        }
+    }
+}
+
+/// Whether so many levels may be opened, and as many as calls are pending.
+pub(crate) fn has_room_beside(
+    state: &State<'_>,
+    limit: usize,
+    levels: usize,
+    pending: usize,
+) -> bool
+    ensures { result ≡ has_room limit (levels + pending) state.now }
+{
+    match levels.checked_add(pending) {
+        Some(levels) => state.has_room(limit, levels),
+        None => false,
     }
 }

@@ -4,7 +4,7 @@ ghost use Rattle.template_code.specs.View.{code_of};
 ghost use Rattle.template_machine_calls.specs.Hosted.{hosted};
 ghost use Rattle.template_machine_meaning.specs.Surroundings.{Programs};
 ghost use Rattle.template_machine_operands.specs.Operands.{operands_in};
-ghost use Rattle.template_machine_steps.specs.Performs.{Performs};
+ghost use Rattle.template_machine_calls.specs.Calls.{Calls as CallsSo};
 ghost use Rattle.template_machine_loop.specs.Programs.{task_of};
 ghost use Rattle.template_machine_loop.specs.declared.tasks.Task.TheVariants.{Calls};
 
@@ -12,13 +12,14 @@ use std::alloc::Global;
 use template_callables::Callbacks;
 use template_code::Instruction;
 use template_machine_calls::{
-    Rules, apply_filter, call_function, call_method, call_object, perform_test,
+    Entry, Rules, apply_filter, call_function, call_method, call_object, perform_test,
 };
 use template_machine_operands::Operands;
 use template_machine_state::State;
 use template_values_errors::{Error, ErrorKind};
 
-// Does what an instruction does that calls, once it is paid. It stands alone, so that others have nothing of it.
+// Does what an instruction does that calls, once it is paid, or tells what is to be entered. It stands alone, so that others have
+// nothing of it.
 //
 // # Errors
 //
@@ -32,10 +33,10 @@ pub(crate) fn call<H: Callbacks>(
     instruction: &Instruction<'_>,
     operands: &mut Operands,
     state: &mut State<'_>,
-) -> Result<(), Error>
+) -> Result<Option<Entry>, Error>
     requires { task_of (code_of instruction.now) ≡ Calls }
     ensures { (program : Programs) →
-        Performs (hosted rules.entry (H.callables host.now) program) (code_of instruction.now) (operands_in operands.old) state.old
+        CallsSo (hosted rules.entry (H.callables host.now) program) (code_of instruction.now) (operands_in operands.old) state.old
         result (operands_in operands.new) state.new }
 {
     match instruction {

@@ -10,6 +10,7 @@ ghost use Rattle.template_machine_loop.specs.declared.tasks.Task.TheVariants.{En
 use crate::blocks::{call_block, call_super, print_super};
 use crate::extending::extend;
 use crate::includes::include;
+use crate::rounds::print_rounds;
 use crate::templates::{Program, Templates};
 use std::alloc::Global;
 use template_code::Instruction;
@@ -23,7 +24,7 @@ use template_values_errors::{Error, ErrorKind};
 ///
 /// # Errors
 ///
-/// Those of `include`, `call_block`, `print_super`, `call_super` and `extend`; `InvalidOperation` where `super` is called with
+/// Those of `include`, `call_block`, `print_super`, `print_rounds`, `call_super` and `extend`; `InvalidOperation` where `super` is called with
 /// arguments; and `BadStream` where operands are missing, which no verified code meets.
 #[cycle(running)]
 #[cold]
@@ -68,6 +69,10 @@ pub(crate) fn enter<'env, T: Templates, S: Sink>(
             sink,
         ),
         Instruction::FastSuper => print_super(alloc, program, state, left, scratch, sink),
+        Instruction::FastRecurse => {
+            let value = operands.take()?;
+            print_rounds(alloc, program, value, state, left, scratch, sink)
+        }
         Instruction::LoadBlocks => {
             let value = operands.take()?;
             extend(alloc, program, &value, state)

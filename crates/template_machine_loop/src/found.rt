@@ -1,16 +1,18 @@
 //! Which body of a block runs.
 ghost use Rattle.std.specs.Prelude.{◌≡◌, ◌==◌, ◌&&◌, ◌∷◌, [], Bool, IfErr, IfNone, IfOk, IfSome, option_map};
+ghost use Rattle.template_code.specs.Listing.{code_in};
 ghost use Rattle.template_code_blocks.specs.Streams.{stream_in};
 ghost use Rattle.template_values_errors.specs.declared.ErrorKind.TheVariants.{InvalidOperation};
-ghost use Rattle.template_machine_blocks.specs.Streams.{home_of};
-ghost use Rattle.template_machine_meaning.specs.Blocks.{block_plan, super_plan};
+ghost use Rattle.template_machine_blocks.specs.Streams.{home_of, stream_of};
+ghost use Rattle.template_machine_meaning.specs.Blocks.{super_plan};
 ghost use Rattle.template_machine_steps.specs.Performs.{SparesSink};
-ghost use Rattle.template_machine_loop.specs.Found.{FindsBehind, FindsBody, IsRefused};
-ghost use Rattle.template_machine_loop.specs.Programs.{block_at, programs_under, standing_of, template_at};
+ghost use Rattle.template_machine_loop.specs.Found.{FindsBehind, FindsBody, IsRefused, RefusesBody};
+ghost use Rattle.template_machine_loop.specs.Programs.{block_at, code_at, programs_under, standing_of, template_at};
 
 use crate::templates::{Compiled, Program, Templates};
+use template_code::Instructions;
 use template_code_blocks::{CompiledBlock, block_among};
-use template_machine_state::{Body, Home, State};
+use template_machine_state::{Body, Home, State, Stream};
 use template_values_errors::{Error, ErrorKind};
 
 /// A body of a block.
@@ -36,10 +38,10 @@ pub(crate) fn body_to_run<'env, T: Templates>(
 ) -> Result<Found<'env>, Error>
     ensures found { let templates = program.entry.templates.now in let root = option_map standing_of program.entry.root in
         let s = programs_under (T.standing templates) (T.joins templates) (T.callables templates) root program.entry.rules in
-        IfOk result (FindsBody s (T.standing templates) root state.now (block_plan s.around state.now name.now)) }
+        IfOk result (FindsBody s (T.standing templates) root state.now name.now) }
     ensures refused { let templates = program.entry.templates.now in let root = option_map standing_of program.entry.root in
         let s = programs_under (T.standing templates) (T.joins templates) (T.callables templates) root program.entry.rules in
-        IfErr result (IsRefused s (block_plan s.around state.now name.now) state.now) }
+        IfErr result (RefusesBody s state.now name.now) }
     ensures spares { IfErr result SparesSink }
 {
     let Some(body) = state.body(name) else {
@@ -119,5 +121,25 @@ fn template_at<'env, T: Templates>(
     match home {
         Home::Rendered => program.root,
         Home::Standing(name) => program.templates.get(name),
+    }
+}
+
+/// The code of a stream.
+pub(crate) fn code_of_stream<'env, T: Templates>(
+    program: Program<'env, '_, T>,
+    stream: Stream<'env>,
+) -> Option<&'env Instructions<'env>>
+    ensures { option_map (λ code. code_in code.now) result ≡
+        code_at (T.standing program.entry.templates.now) (option_map standing_of program.entry.root) (stream_of stream.entry) }
+{
+    match stream.block {
+        Some(name) => match block_at(program, stream.home, name) {
+            Some(block) => Some(&block.instructions),
+            None => None,
+        },
+        None => match template_at(program, stream.home) {
+            Some(template) => Some(template.code),
+            None => None,
+        },
     }
 }

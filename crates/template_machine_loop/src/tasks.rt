@@ -16,6 +16,8 @@ pub(crate) enum Task {
     Calls,
     /// It may enter a run within, or it says which template is extended.
     Enters,
+    /// It opens or closes a loop, or makes a macro.
+    Scopes,
     /// The run is over.
     Ends,
 }
@@ -29,7 +31,10 @@ pub(crate) fn task_of(instruction: &Instruction<'_>) -> Task
         Instruction::Include(_)
         | Instruction::CallBlock(_)
         | Instruction::FastSuper
+        | Instruction::FastRecurse
         | Instruction::LoadBlocks => Task::Enters,
+        Instruction::PushLoop(_) | Instruction::PopLoopFrame | Instruction::BuildMacro(_, _, _) =>
+            Task::Scopes,
         Instruction::CallFunction(name, _) => named_task(name.as_str()),
         Instruction::ApplyFilter(_, _, _)
         | Instruction::PerformTest(_, _, _)

@@ -1,9 +1,9 @@
-//! Counted runs of values among the operands.
-ghost use Rattle.std.specs.Prelude.{◌≡◌, ◌≢◌, ◌∷◌, [], Option, None, Some, IfOk, IfErr, OnOk, OnErr};
+//! Counted runs of values among the operands, and closures.
+ghost use Rattle.std.specs.Prelude.{◌≡◌, ◌≢◌, ◌∷◌, [], not, IsTrue, IfOk, IfErr, OnOk, OnErr};
 ghost use Rattle.template_values_errors.specs.Memory.{NoMemory};
-ghost use Rattle.template_code.specs.Code.{counted};
+ghost use Rattle.template_code.specs.Code.{closure, counted};
 ghost use Rattle.template_code.specs.Steps.{handed, values_in};
-ghost use Rattle.template_machine_operands.specs.Operands.{operands_in, CountsNext, CountsOne, GoesInto, LacksRun, RefusesCounting, RefusesHanded, RefusesNext};
+ghost use Rattle.template_machine_operands.specs.Operands.{operands_in, CountsNext, CountsOne, GoesInto, LacksClosure, LacksRun, RefusesCounting, RefusesHanded, RefusesNext};
 
 use crate::Operands;
 use std::alloc::Global;
@@ -11,49 +11,79 @@ use std::mem;
 use template_values_core::Value;
 use template_values_errors::{Error, ErrorKind};
 
-// A counted run, with the value that goes into it next, and the values below it.
+// A counted run, with what goes into it next, or a closure in its place; and the values below it.
 #[derive(Drop)]
 pub(crate) struct Run {
     values: Vec<Value>,
-    next: Option<Value>,
+    next: Next,
     below: Vec<Value>,
 }
 
+// What goes into a counted run next: nothing yet, or a value. Or a closure stands in the place of the run, which then has no values.
+#[derive(Drop)]
+pub(crate) enum Next {
+    Free,
+    Waits(Value),
+    Closure(Option<u32>),
+}
+
+impl Next {
+    ghost use Rattle.template_machine_operands.specs.declared.runs.Next.TheVariants.{Free};
+
+    // Whether nothing goes into a run next.
+    fn is_free(&self) -> bool
+        ensures yes { IsTrue result → self.now ≡ Free }
+        ensures no { IsTrue (not result) → self.now ≢ Free }
+    {
+        match self {
+            Next::Free => true,
+            _ => false,
+        }
+    }
+}
+
 impl Run {
+    ghost use Rattle.template_machine_operands.specs.declared.runs.Next.TheVariants.{Free, Waits};
+
     // A value goes into it next, where none does yet.
     fn count_next(&mut self, value: Value) -> Result<(), Error>
-        ensures next { OnOk result (self.new.next ≡ Some value) }
-        ensures free { OnOk result (self.old.next ≡ None) }
-        ensures taken { OnErr result (self.old.next ≢ None) }
+        ensures next { OnOk result (self.new.next ≡ Waits value) }
+        ensures free { OnOk result (self.old.next ≡ Free) }
+        ensures taken { OnErr result (self.old.next ≢ Free) }
         ensures unchanged { OnErr result (self.new.next ≡ self.old.next) }
         ensures values { self.new.values.items ≡ self.old.values.items }
         ensures below { self.new.below.items ≡ self.old.below.items }
         ensures kind { IfErr result (λ kinds. kinds ≡ ErrorKind.BadStream ∷ []) }
     {
-        if self.next.is_some() {
+        if !self.next.is_free() {
             return Err(Error::new(ErrorKind::BadStream));
         }
-        self.next = Some(value);
+        self.next = Next::Waits(value);
         Ok(())
     }
 
     // The value that goes into it next goes into it.
     fn count_one(&mut self) -> Result<(), Error>
         ensures counted { OnOk result (GoesInto self.old.next self.old.values.items self.new.values.items) }
-        ensures next { OnOk result (self.new.next ≡ None) }
+        ensures next { OnOk result (self.new.next ≡ Free) }
         ensures refused { IfErr result (RefusesNext self.old.next) }
         ensures unchanged { OnErr result (self.new.next ≡ self.old.next) }
         ensures values { OnErr result (self.new.values.items ≡ self.old.values.items) }
         ensures below { self.new.below.items ≡ self.old.below.items }
     {
-        let Some(value) = self.next.take() else {
-            return Err(Error::new(ErrorKind::BadStream));
-        };
-        if let Err(refused) = self.values.push(value) {
-            self.next = Some(refused.value);
-            return Err(Error::new(ErrorKind::OutOfMemory));
+        match mem::replace(&mut self.next, Next::Free) {
+            Next::Waits(value) => match self.values.push(value) {
+                Ok(()) => Ok(()),
+                Err(refused) => {
+                    self.next = Next::Waits(refused.value);
+                    Err(Error::new(ErrorKind::OutOfMemory))
+                }
+            },
+            other => {
+                self.next = other;
+                Err(Error::new(ErrorKind::BadStream))
+            }
         }
-        Ok(())
     }
 }
 
@@ -73,7 +103,7 @@ impl Operands {
         }
         let run = Run {
             values,
-            next: None,
+            next: Next::Free,
             below: mem::replace(&mut self.values, Vec::new(alloc)),
         };
         self.runs.push_reserved(run);
@@ -140,12 +170,67 @@ impl Operands {
             Some(
                 Run {
                     values,
-                    next: None,
+                    next: Next::Free,
                     below,
                 },
             ) => {
                 self.values = below;
                 Ok(values)
+            }
+            Some(run) => {
+                self.runs.push_reserved(run);
+                Err(Error::new(ErrorKind::BadStream))
+            }
+            None => Err(Error::new(ErrorKind::BadStream)),
+        }
+    }
+
+    /// The number of a closure goes on top, or that there is none.
+    ///
+    /// # Errors
+    ///
+    /// [`ErrorKind::OutOfMemory`]; the operands are then as they were.
+    pub fn push_closure(&mut self, alloc: Global, number: Option<u32>) -> Result<(), Error>
+        ensures pushed { OnOk result (operands_in self.new ≡ closure number ∷ operands_in self.old) }
+        ensures refused { IfErr result NoMemory }
+        ensures unchanged { OnErr result (operands_in self.new ≡ operands_in self.old) }
+    {
+        if self.runs.reserve(1).is_err() {
+            return Err(Error::new(ErrorKind::OutOfMemory));
+        }
+        let run = Run {
+            values: Vec::new(alloc),
+            next: Next::Closure(number),
+            below: mem::replace(&mut self.values, Vec::new(alloc)),
+        };
+        self.runs.push_reserved(run);
+        Ok(())
+    }
+
+    /// Takes the closure on top.
+    ///
+    /// # Errors
+    ///
+    /// [`ErrorKind::BadStream`] where none is on top; the operands are then as they were.
+    pub fn take_closure(&mut self) -> Result<Option<u32>, Error>
+        ensures taken { IfOk result (λ number. operands_in self.old ≡ closure number ∷ operands_in self.new) }
+        ensures none { OnErr result (LacksClosure (operands_in self.old)) }
+        ensures unchanged { OnErr result (operands_in self.new ≡ operands_in self.old) }
+        ensures kind { IfErr result (λ kinds. kinds ≡ ErrorKind.BadStream ∷ []) }
+    {
+        if !self.values.is_empty() {
+            return Err(Error::new(ErrorKind::BadStream));
+        }
+        match self.runs.pop() {
+            Some(
+                Run {
+                    values: _,
+                    next: Next::Closure(number),
+                    below,
+                },
+            ) => {
+                self.values = below;
+                Ok(number)
             }
             Some(run) => {
                 self.runs.push_reserved(run);
@@ -172,7 +257,7 @@ impl Operands {
         }
     }
 
-    /// Takes the uppermost value, and lets the counted runs above it go. Linear in their number.
+    /// Takes the uppermost value, and lets the counted runs and closures above it go. Linear in their number.
     ///
     /// # Errors
     ///

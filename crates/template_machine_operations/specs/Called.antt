@@ -5,7 +5,7 @@ use Rattle.template_values_errors.specs.Memory.{NoMemory}
 use Rattle.template_values_model.specs.Val.{Val}
 use Rattle.template_values_core.specs.Shape.{pairs_in}
 use Rattle.template_machine_meaning.specs.Functions as functions
-use Rattle.template_machine_meaning.specs.Functions.{gives, makes, compares, function_numbered, invokes}
+use Rattle.template_machine_meaning.specs.Functions.{gives, makes, compares, function_numbered, invokes, calls, runs_again}
 use Rattle.template_machine_operations.specs.declared.called.Called.{Called}
 use Rattle.template_machine_operations.specs.declared.called.Called.TheVariants as called
 
@@ -20,6 +20,8 @@ Comes (Ok (called.Value v)) args reply = reply ≡ gives (Ok v)
 Comes (Ok (called.Namespace entries)) args reply = reply ≡ makes (pairs_in entries.items)
 Comes (Ok (called.Changed number)) args reply = reply ≡ compares number args
 Comes (Ok (called.Function number)) args reply = reply ≡ invokes (function_numbered number) args
+Comes (Ok (called.Macro id number)) args reply = reply ≡ calls id number args
+Comes (Ok (called.Rounds id number)) args reply = reply ≡ runs_again id number args
 Comes (Err kinds) args reply = NoMemory kinds ⊎ (refusal_of reply ≡ Some kinds)
 
 -- so does a call of a method, where one that is missing comes to that

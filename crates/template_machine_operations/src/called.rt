@@ -12,4 +12,8 @@ pub enum Called {
     Changed(usize),
     /// A function that a user gave to the environment is to be called: the one of this number.
     Function(usize),
+    /// A macro is to be called: the one of this number, of the state of this id.
+    Macro(u64, usize),
+    /// The rounds of a loop are to be called: of the one of this number, of the state of this id.
+    Rounds(u64, usize),
 }

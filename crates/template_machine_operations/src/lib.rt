@@ -19,7 +19,7 @@ mod sequence;
 mod spreads;
 
 pub use called::Called;
-pub use calls::{call_named, call_value};
+pub use calls::{call_found, call_named, call_value};
 pub use containers::{build_kwargs, build_list, build_map, build_tuple};
 pub use escapes::escape_named;
 pub use methods::call_method;

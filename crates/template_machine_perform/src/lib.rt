@@ -1,4 +1,4 @@
-//! What a machine does at each instruction but a call, a return, and those that run a template or a block or load blocks.
+//! What a machine does at each instruction but a call, a return, and those that run a template, a block or rounds, or load blocks.
 #![tactic(auto)]
 
 mod asides;
@@ -10,6 +10,7 @@ mod escapes;
 mod exports;
 mod frames;
 mod loops;
+mod macros;
 mod names;
 mod operands;
 mod plain;
@@ -24,7 +25,11 @@ pub use captures::{begin_capture, end_capture};
 pub use escapes::{pop_auto_escape, push_auto_escape};
 pub use exports::export_locals;
 pub use frames::{pop_frame, push_with};
-pub use loops::{iterate, iterate_at_once, pop_loop_frame, push_did_not_iterate, push_loop};
+pub use loops::{
+    end_rounds, is_recursive, iterate, iterate_at_once, pop_loop_frame, push_did_not_iterate,
+    push_loop,
+};
+pub use macros::{build_macro, enclose, get_closure};
 pub use names::{
     lookup, lookup_at_once, lookup_global, number_named, store_local, store_local_at_once,
     store_number,

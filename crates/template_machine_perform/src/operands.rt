@@ -73,8 +73,7 @@ fn operator_of(instruction: &Instruction<'_>) -> Option<BinOpKind>
     }
 }
 
-// Does what an instruction does that only takes and gives operands, and looks into records alone of what surrounds them. One
-// that asks what nothing answers is refused.
+// Does what an instruction does that only takes and gives operands, and looks into records alone of what surrounds them.
 #[inline(never)]
 pub(crate) fn perform_on_operands(
     alloc: Global,

@@ -9,8 +9,8 @@ ghost use Rattle.template_machine_perform.specs.Performs.{IsQuiet};
 use crate::bounds::Bounds;
 use crate::operands::{perform_on_operands, straight};
 use crate::{
-    begin_capture, end_capture, export_locals, iterate, lookup, pop_auto_escape, pop_frame,
-    pop_loop_frame, push_auto_escape, push_did_not_iterate, push_loop, push_with, set_attr,
+    begin_capture, enclose, end_capture, export_locals, get_closure, iterate, lookup,
+    pop_auto_escape, pop_frame, push_auto_escape, push_did_not_iterate, push_with, set_attr,
     store_local,
 };
 use std::alloc::Global;
@@ -20,7 +20,8 @@ use template_machine_state::State;
 use template_machine_steps::Way;
 use template_values_errors::Error;
 
-// Does what an instruction does that neither writes nor calls, runs no template, and does not end the run.
+// Does what an instruction does that neither writes nor calls, runs no template, opens and closes no loop, makes no macro, and does
+// not end the run.
 #[inline(never)]
 pub(crate) fn perform_quietly<'env>(
     alloc: Global,
@@ -40,17 +41,15 @@ pub(crate) fn perform_quietly<'env>(
         Instruction::StoreLocal(name) => straight(store_local(state, name.as_str(), operands)),
         Instruction::PushWith => straight(push_with(alloc, bounds.limit, state)),
         Instruction::PopFrame => straight(pop_frame(state)),
-        Instruction::PushLoop(flags) => {
-            straight(push_loop(alloc, bounds.limit, mode, *flags, state, operands))
-        }
         Instruction::Iterate(to) => iterate(state, *to, operands),
         Instruction::PushDidNotIterate => straight(push_did_not_iterate(state, operands)),
-        Instruction::PopLoopFrame => straight(pop_loop_frame(state)),
         Instruction::PushAutoEscape => straight(push_auto_escape(state, operands)),
         Instruction::PopAutoEscape => straight(pop_auto_escape(state)),
         Instruction::BeginCapture(mode) => straight(begin_capture(alloc, *mode, state)),
         Instruction::EndCapture => straight(end_capture(state, operands)),
         Instruction::SetAttr(name) => straight(set_attr(alloc, name.as_str(), state, operands)),
+        Instruction::Enclose(name) => straight(enclose(alloc, name.as_str(), state)),
+        Instruction::GetClosure => straight(get_closure(alloc, state, operands)),
         Instruction::ExportLocals => straight(export_locals(alloc, state, operands)),
         _ => perform_on_operands(alloc, mode, instruction, state, operands),
     }

@@ -21,7 +21,7 @@ use Rattle.template_machine_output.proofs.Beginnings.{beginning_longer}
 use Rattle.template_machine_meaning.specs.World.{World}
 use Rattle.template_machine_meaning.specs.Surroundings.{answer}
 use Rattle.template_machine_meaning.specs.Meaning.{Setting, evaluation, meaning, walks_of, top}
-use Rattle.template_machine_meaning.specs.Laws.{GivesOne}
+use Rattle.template_machine_meaning.specs.Laws.{GivesOne, IsAlone}
 use Rattle.template_machine_meaning.specs.Keeps.{IsFault, IsMeantEnd}
 use Rattle.template_machine_meaning.proofs.RunsKept.{faults_are_meant, key_faults_are_meant}
 use Rattle.template_machine_meaning.proofs.Evaluating.{every_evaluation_gives}
@@ -176,12 +176,12 @@ only_one : (v : Val) (vs : List Val) → GivesOne (ends (v ∷ vs)) → ends (v 
 only_one v [] gives = refl
 only_one v (w ∷ vs) gives = absurd gives
 
-expression_means : (setting : Setting) (e : Expression) → IsRunnable e → (w : World) → w.blocks ≡ [] → Means setting (standalone_code e) w (evaluation setting e w)
+expression_means : (setting : Setting) (e : Expression) → IsRunnable e → (w : World) → IsAlone w → Means setting (standalone_code e) w (evaluation setting e w)
 expression_means setting e runs w none =
     code_means_expression setting e w (one_finished (evaluation setting e w).end (every_evaluation_gives setting e runs w none))
 
 -- where its code is at its end
-evaluation_over : (setting : Setting) (e : Expression) → IsRunnable e → (w after : World) → w.blocks ≡ [] → (fuel left : Option ℕ) (before taken : Option (List ℕ))
+evaluation_over : (setting : Setting) (e : Expression) → IsRunnable e → (w after : World) → IsAlone w → (fuel left : Option ℕ) (before taken : Option (List ℕ))
     (operands : List Operand) → EndsOver (answer (codes_of setting None)) (standalone_code e) (at_start w fuel before) operands after left taken
     → ((under fuel (evaluation setting e w)).end ≡ ends (values_in operands)) × ((under fuel (evaluation setting e w)).after ≡ after) × GivesOne (ends (values_in operands))
 evaluation_over setting e runs w after none fuel left before taken operands h =

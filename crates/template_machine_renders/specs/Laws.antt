@@ -1,5 +1,5 @@
 -- The laws from runs of code to renders and to values.
-use Rattle.std.specs.Prelude.{◌≡◌, ℕ, [], List, Option, None, Some, Result, Err}
+use Rattle.std.specs.Prelude.{ℕ, List, Option, None, Some, Result, Err}
 use Rattle.template_values_errors.specs.declared.ErrorKind.{ErrorKind}
 use Rattle.template_values_model.specs.Val.{Val}
 use Rattle.template_tree.specs.Tree.{Expression}
@@ -13,6 +13,7 @@ use Rattle.template_machine_meaning.specs.World.{World}
 use Rattle.template_machine_meaning.specs.Plans.{ran}
 use Rattle.template_machine_meaning.specs.Blocks.{block_plan}
 use Rattle.template_machine_meaning.specs.Surroundings.{Programs, runners}
+use Rattle.template_machine_meaning.specs.Laws.{IsAlone}
 use Rattle.template_machine_meaning.specs.Meaning.{Standing, Setting, walks_of, evaluation, meaning, top}
 use Rattle.template_machine_codes.specs.Codes.{codes_of}
 use Rattle.template_machine_loop.specs.Plans.{DoesPlan, replies_of, run_of}
@@ -37,9 +38,9 @@ StopsRender X = (setting : Setting) (root : Standing) (w : World) (fuel left : O
     → Renders {X = X} (Err kinds) before taken (under fuel (meaning setting root n w))
 
 -- What a run of an expression's code tells is what its tree means, cut by the fuel, and so is the world that it leaves with a value.
--- There are no blocks where it begins.
+-- There is nothing that runs which it could call.
 abbrev pub ExpressionsEvaluate : Type 0
-ExpressionsEvaluate = (setting : Setting) (e : Expression) → IsRunnable e → (w after : World) → w.blocks ≡ [] → (fuel left : Option ℕ)
+ExpressionsEvaluate = (setting : Setting) (e : Expression) → IsRunnable e → (w after : World) → IsAlone w → (fuel left : Option ℕ)
     (before taken : Option (List ℕ)) (result : Result Val (List ErrorKind))
     → Evaluates (codes_of setting None) (standalone_code e) w fuel before result after left taken
     → GivesValue result after (under fuel (evaluation setting e w))

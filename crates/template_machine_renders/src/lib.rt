@@ -6,7 +6,7 @@ ghost use Rattle.template_machine_renders.specs.Laws.{BlocksRender, EndsRender, 
 mod running;
 
 pub use running::{run_expression, run_template};
-pub use template_machine_loop::{Compiled, Program, Rules, Templates, run_block};
+pub use template_machine_loop::{Compiled, Program, Rules, Templates, run_block, run_entry};
 
 /// A run of a template's code that came to its end, with the templates that it extends, is the template's render: its text, its
 /// price and its world.

@@ -3,3 +3,4 @@ mod Named
 mod Closing
 mod Worlds
 mod Stacks
+mod Enclosing

@@ -3,5 +3,6 @@ pub mod Changes
 pub mod Loaded
 -- what contracts above cite of a crate below
 pub use Rattle.template_machine_frames.specs.Names
+pub use Rattle.template_machine_loops.specs.Rounds
 pub use Rattle.template_machine_blocks.specs.Stack
 pub use Rattle.template_machine_blocks.specs.Streams

@@ -14,6 +14,8 @@ pub struct Caller<'env> {
     pub(crate) blocks: BlockStack<'env>,
     pub(crate) loaded: usize,
     pub(crate) frames: usize,
+    pub(crate) writes: Option<u32>,
+    pub(crate) base: usize,
     pub(crate) floor: usize,
     pub(crate) outer: usize,
     pub(crate) escape: AutoEscape,
@@ -39,6 +41,8 @@ impl<'env> Model for Caller<'env> {
       blocks = c.blocks;
       loaded = c.loaded;
       frames = c.frames;
+      writes = c.writes;
+      base = c.base;
       floor = c.floor;
       outer = c.outer;
       escape = c.escape;

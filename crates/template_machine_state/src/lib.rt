@@ -11,4 +11,6 @@ mod written;
 
 pub use caller::Caller;
 pub use state::State;
-pub use template_machine_blocks::{Behind, Body, Home};
+pub use template_machine_blocks::{Behind, Body, Home, Stream};
+pub use template_machine_frames::{LoopState, Rounds};
+pub use template_machine_records::MacroRecord;

@@ -1,25 +1,27 @@
 //! The records of a running template: what is known of them, and what becomes of them.
-ghost use Rattle.std.specs.Prelude.{◌≡◌, ◌++◌, Some, IfOk, IfErr, OnOk, OnErr, if◌then◌else◌, length, map, option_map};
+ghost use Rattle.std.specs.Prelude.{◌≡◌, ℕ, Some, IfOk, IfErr, OnOk, OnErr, if◌then◌else◌, length, map, option_copied, option_map};
 ghost use Rattle.template_values_errors.specs.Memory.{NoMemory};
+ghost use Rattle.template_values_forms.specs.Views as views;
 ghost use Rattle.template_values_forms.specs.Views.{loop_seen};
 ghost use Rattle.template_values_model.specs.Val as values;
 ghost use Rattle.template_values_core.specs.Shape.{pairs_in};
 ghost use Rattle.template_process.specs.Process as process;
 ghost use Rattle.template_callables.specs.Callables.{Asked};
-ghost use Rattle.template_process.specs.Trace.{Reply};
 ghost use Rattle.template_values_named.specs.Named.{pairs_named};
-ghost use Rattle.template_machine_meaning.specs.Calls.{called_reply, may_hold_any};
+ghost use Rattle.template_machine_meaning.specs.Calls.{called_plan, may_hold_any};
 ghost use Rattle.template_machine_meaning.specs.Functions.{compares};
 ghost use Rattle.template_machine_meaning.specs.Keys.{Around};
 ghost use Rattle.template_machine_meaning.specs.World.{World};
-ghost use Rattle.template_machine_meaning.specs.Records.{known_of, loop_numbered, loops_of, seen_of};
-ghost use Rattle.template_machine_meaning.specs.Replies as replies;
+ghost use Rattle.template_machine_meaning.specs.Records.{all_loops, known_of, loop_numbered, macro_seen, seen_of};
+ghost use Rattle.template_machine_meaning.specs.Plans.{Plan, replies};
+ghost use Rattle.template_machine_meaning.specs.Replies as meant;
 ghost use Rattle.template_machine_meaning.specs.Namespaces.{made_namespace, may_hold_loop, may_hold_loops, put_attribute, with_attribute};
 ghost use Rattle.template_machine_frames.specs.Frames.{Becomes};
 
 use crate::state::State;
 use std::alloc::Global;
 use template_machine_frames::LoopState;
+use template_machine_records::MacroRecord;
 use template_values_core::{Content, Entry, Value};
 use template_values_errors::{Error, ErrorKind};
 use template_values_forms::{LoopView, MacroView, Records};
@@ -100,8 +102,9 @@ impl<'env> State<'env> {
     ///
     /// [`ErrorKind::OutOfMemory`]; the state is then as it was.
     pub fn changed(&mut self, number: usize, args: Vec<Value>) -> Result<bool, Error>
-        ensures told { IfOk result (λ is. (a : Around) (go : World → Asked → Reply World) →
-            called_reply a go self.old (compares number args.items) ≡ replies.changed self.new (process.value (values.truth is))) }
+        ensures told { IfOk result (λ is. (a : Around) (pending : ℕ) (go : World → Asked → Plan) →
+            called_plan a pending go self.old (compares number args.items)
+            ≡ replies (meant.changed self.new (process.value (values.truth is)))) }
         ensures refused { IfErr result NoMemory }
         ensures unchanged { OnErr result (self.new ≡ self.old) }
     {
@@ -114,14 +117,13 @@ impl<'env> State<'env> {
 }
 
 impl<'env> State<'env> {
-    // What a look into the loop of that number shows, if a frame has one, or one was closed whose value a namespace may hold.
-    fn loop_numbered(&self, number: usize) -> Option<LoopView<'_>>
-        ensures { let loops = loops_of self.now.frames ++ map Some self.now.closed in
-            option_map loop_seen result ≡ option_map seen_of (loop_numbered number loops) }
+    // The loop of that number, if a frame has one, or one was closed whose value may be held.
+    pub(crate) fn loop_numbered(&self, number: usize) -> Option<&LoopState<'env>>
+        ensures { option_copied result ≡ loop_numbered number (all_loops self.now) }
     {
-        match self.ctx.loop_view(number) {
-            Some(view) => Some(view),
-            None => loop_numbered(self.closed.as_slice(), number),
+        match self.ctx.loop_numbered(number) {
+            Some(current) => Some(current),
+            None => numbered_among(self.closed.as_slice(), number),
         }
     }
 }
@@ -165,20 +167,43 @@ pub(crate) fn may_hold_any(temps: &[(String, Value)]) -> bool
     false
 }
 
-// What a look into the first of the loops shows that has that number.
-fn loop_numbered(closed: &[LoopState], number: usize) -> Option<LoopView<'_>>
-    ensures { option_map loop_seen result ≡ option_map seen_of (loop_numbered number (map Some closed.now)) }
+// The first of the loops that has that number.
+fn numbered_among<'a, 'env>(
+    closed: &'a [LoopState<'env>],
+    number: usize,
+) -> Option<&'a LoopState<'env>>
+    ensures { option_copied result ≡ loop_numbered number (map Some closed.now) }
 {
     for current in closed {
         if current.number() == number {
-            return Some(current.view());
+            return Some(current);
         }
     }
     None
 }
 
-// A look into a namespace of this state finds it, and one into a loop of this state where its frame is open, or a namespace may
-// hold its value. There are no macros yet.
+// What a look into a loop shows.
+fn loop_shown<'a, 'env>(current: Option<&'a LoopState<'env>>) -> Option<LoopView<'a>>
+    ensures { option_map loop_seen result ≡ option_map seen_of (option_copied current.entry) }
+{
+    match current {
+        Some(current) => Some(current.view()),
+        None => None,
+    }
+}
+
+// What a look into a macro shows.
+fn macro_shown<'a, 'env>(made: Option<&'a MacroRecord<'env>>) -> Option<MacroView<'a>>
+    ensures { option_map views.macro_seen result ≡ option_map macro_seen (option_copied made.entry) }
+{
+    match made {
+        Some(made) => Some(made.view()),
+        None => None,
+    }
+}
+
+// A look into a namespace or a macro of this state finds it, and one into a loop of this state where its frame is open, or its
+// value may be held.
 impl<'env> Records for State<'env> {
     ghost known = { known_of };
 
@@ -192,13 +217,17 @@ impl<'env> Records for State<'env> {
 
     fn loop_view(&self, id: u64, number: usize) -> Option<LoopView<'_>> {
         if id == self.id {
-            self.loop_numbered(number)
+            loop_shown(self.loop_numbered(number))
         } else {
             None
         }
     }
 
-    fn macro_view(&self, _id: u64, _number: usize) -> Option<MacroView<'_>> {
-        None
+    fn macro_view(&self, id: u64, number: usize) -> Option<MacroView<'_>> {
+        if id == self.id {
+            macro_shown(self.macros.get(number))
+        } else {
+            None
+        }
     }
 }

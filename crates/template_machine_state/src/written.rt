@@ -26,6 +26,18 @@ pub(crate) fn drop_last(captures: &mut Vec<Capture>)
     captures.pop();
 }
 
+// What the innermost capture ends with, which goes; undefined where none is open.
+pub(crate) fn end_last(captures: &mut Vec<Capture>, rule: AutoEscape) -> Result<Value, Error>
+    ensures given { IfOk result (λ v. v ≡ captured rule (innermost (reverse captures.old.items))) }
+    ensures ended { reverse captures.new.items ≡ around_innermost (reverse captures.old.items) }
+    ensures refused { IfErr result NoMemory }
+{
+    match captures.pop() {
+        Some(capture) => capture.end(rule),
+        None => Ok(Value::undefined()),
+    }
+}
+
 // A capture of a text that is kept begins, if it is to; there is room for it.
 pub(crate) fn begin_if(alloc: Global, captures: &mut Vec<Capture>, named: bool)
     requires { vec_len captures.old < vec_capacity captures.old }

@@ -8,5 +8,6 @@ returns c = record {
   super_named = laws.super_asks;
   load = laws.load_blocks_asks;
   includes = laws.include_asks;
+  again = laws.recurse_asks;
   planned = laws.super_planned;
 }

@@ -1,6 +1,6 @@
-use Rattle.std.proofs.Common.{◌≡◌, ◌+◌, ◌-◌, ◌*◌, ◌≤◌, length, [], Some, option_map}
+use Rattle.std.proofs.Common.{◌≡◌, ◌+◌, ◌-◌, ◌*◌, ◌≤◌, length, Some, option_map}
 use Rattle.template_code.specs.Listing.{code_in}
-use Rattle.template_machine_meaning.specs.Keys.{Key}
+use Rattle.template_machine_meaning.specs.Keys.{Stream, whole_of}
 use Rattle.template_machine_meaning.specs.Surroundings.{answer}
 use Rattle.template_machine_going.specs.Goings.{Goes}
 use Rattle.template_machine_operands.specs.Operands.{operands_in}
@@ -9,18 +9,30 @@ use Rattle.template_machine_loop.specs.Programs.{code_at, programs_under, standi
 use Rattle.template_machine_loop.proofs.Followed.{HasEnded}
 use Rattle.template_machine_loop.proofs.+running.Given as goal
 
--- run_to_end and step: by the frames that are not to be closed; the others by all frames
+-- those that run code: by the frames that are not to be closed; the others by all frames
 abbrev pub decreases-whole::run_whole : goal.decreases-whole::run_whole
-decreases-whole::run_whole g l = 8 * (l.program.rules.limit - (l.state.now.floor + l.state.now.outer)) + 7
+decreases-whole::run_whole g l = 8 * (l.program.rules.limit - (l.state.now.floor + l.state.now.outer)) + 8
 
 abbrev pub decreases-running::run_to_end : goal.decreases-running::run_to_end
-decreases-running::run_to_end g l = 8 * (l.program.rules.limit - (l.state.now.floor + l.state.now.outer)) + 6
+decreases-running::run_to_end g l = 8 * (l.program.rules.limit - (l.state.now.floor + l.state.now.outer)) + 7
+
+abbrev pub decreases-running::run_from : goal.decreases-running::run_from
+decreases-running::run_from g l = 8 * (l.program.rules.limit - (l.state.now.floor + l.state.now.outer)) + 6
 
 abbrev pub decreases-running::step : goal.decreases-running::step
 decreases-running::step g l = 8 * (l.program.rules.limit - (l.state.now.floor + l.state.now.outer)) + 5
 
 abbrev pub decreases-entering::enter : goal.decreases-entering::enter
 decreases-entering::enter g l = 8 * (l.program.rules.limit - (length l.state.now.frames + l.state.now.outer)) + 4
+
+abbrev pub decreases-entries::enter_call : goal.decreases-entries::enter_call
+decreases-entries::enter_call g l = 8 * (l.program.rules.limit - (length l.state.now.frames + l.state.now.outer)) + 4
+
+abbrev pub decreases-entries::run_entry : goal.decreases-entries::run_entry
+decreases-entries::run_entry g l = 8 * (l.program.rules.limit - (length l.state.now.frames + l.state.now.outer)) + 3
+
+abbrev pub decreases-entries::run_entering : goal.decreases-entries::run_entering
+decreases-entries::run_entering g l = 8 * (l.program.rules.limit - (length l.state.now.frames + l.state.now.outer)) + 2
 
 abbrev pub decreases-includes::include : goal.decreases-includes::include
 decreases-includes::include g l = 8 * (l.program.rules.limit - (length l.state.now.frames + l.state.now.outer)) + 3
@@ -34,6 +46,18 @@ decreases-blocks::print_super g l = 8 * (l.program.rules.limit - (length l.state
 abbrev pub decreases-blocks::call_super : goal.decreases-blocks::call_super
 decreases-blocks::call_super g l = 8 * (l.program.rules.limit - (length l.state.now.frames + l.state.now.outer)) + 3
 
+abbrev pub decreases-rounds::print_rounds : goal.decreases-rounds::print_rounds
+decreases-rounds::print_rounds g l = 8 * (l.program.rules.limit - (length l.state.now.frames + l.state.now.outer)) + 3
+
+abbrev pub decreases-rounds::call_rounds : goal.decreases-rounds::call_rounds
+decreases-rounds::call_rounds g l = 8 * (l.program.rules.limit - (length l.state.now.frames + l.state.now.outer)) + 1
+
+abbrev pub decreases-macros::call_macro : goal.decreases-macros::call_macro
+decreases-macros::call_macro g l = 8 * (l.program.rules.limit - (length l.state.now.frames + l.state.now.outer)) + 1
+
+abbrev pub decreases-blocks::run_block_text : goal.decreases-blocks::run_block_text
+decreases-blocks::run_block_text g l = 8 * (l.program.rules.limit - (length l.state.now.frames + l.state.now.outer)) + 1
+
 abbrev pub decreases-blocks::run_block : goal.decreases-blocks::run_block
 decreases-blocks::run_block g l = 8 * (l.program.rules.limit - (length l.state.now.frames + l.state.now.outer)) + 2
 
@@ -43,20 +67,20 @@ decreases-blocks::run_body g l = 8 * (l.program.rules.limit - (length l.state.no
 abbrev pub decreases-includes::run_included : goal.decreases-includes::run_included
 decreases-includes::run_included g l = 8 * (l.program.rules.limit - (length l.state.now.frames + l.state.now.outer)) + 1
 
-abbrev pub invariant-running::run_to_end-loop : goal.invariant-running::run_to_end-loop
-invariant-running::run_to_end-loop g l =
+abbrev pub invariant-running::run_from-loop : goal.invariant-running::run_from-loop
+invariant-running::run_from-loop g l =
     let templates = l.program.templates.now in
     let s = programs_under (g.T.Templates.standing templates) (g.T.Templates.joins templates) (g.T.Callbacks.callables templates) (option_map standing_of l.program.root) l.program.rules in
-    Goes (answer s) (code_in l.code) (spot 0 [] l.fn.state l.fn.left (g.S.Sink.taken l.fn.sink)) (spot l.place (operands_in l.operands) l.state l.left (g.S.Sink.taken l.sink))
+    Goes (answer s) (code_in l.code) (spot l.start (operands_in l.fn.operands) l.fn.state l.fn.left (g.S.Sink.taken l.fn.sink)) (spot l.place (operands_in l.operands) l.state l.left (g.S.Sink.taken l.sink))
     × (g.S.Sink.failures l.sink ≡ g.S.Sink.failures l.fn.sink)
 
 abbrev pub invariant-whole::run_whole-loop : goal.invariant-whole::run_whole-loop
 invariant-whole::run_whole-loop g l =
     let templates = l.program.templates.now in
     let root = option_map standing_of l.program.root in
-    ((key : Key) → code_at (g.T.Templates.standing templates) root key ≡ Some (code_in l.code)
+    ((here : Stream) → code_at (g.T.Templates.standing templates) root here ≡ Some (code_in l.code)
     → HasEnded (g.T.Templates.standing templates) (g.T.Templates.joins templates) (g.T.Callbacks.callables templates) root l.program.rules
-    key l.fn.state l.fn.left (g.S.Sink.taken l.fn.sink) l.state l.left (g.S.Sink.taken l.sink))
+    (whole_of here) l.fn.state l.fn.left (g.S.Sink.taken l.fn.sink) l.state l.left (g.S.Sink.taken l.sink))
     × (l.state.floor ≡ l.fn.state.floor)
     × (l.state.outer ≡ l.fn.state.outer)
     × (l.fn.state.floor ≤ length l.state.frames)

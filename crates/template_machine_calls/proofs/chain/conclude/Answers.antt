@@ -1,41 +1,34 @@
-use Rattle.std.proofs.Common.{Err, sym, ap, ◌∙◌}
-use Rattle.template_process.specs.Process.{value}
+use Rattle.std.proofs.Common.{Ok, ap, subst}
+use Rattle.template_callables.specs.Answers.{asked_by}
 use Rattle.template_machine_meaning.specs.Calls.{beyond}
 use Rattle.template_machine_meaning.specs.Keys.{Around}
-use Rattle.template_machine_meaning.specs.Records.{known_of}
-use Rattle.template_machine_meaning.specs.Replies.{changed}
 use Rattle.template_machine_calls.specs.Hosted.{around_under}
-use Rattle.template_machine_calls.specs.Left.{as_test, left_by, truth_left, value_left}
-use Rattle.template_machine_calls.proofs.Chaining.{ended_plain, ended_test, err_kept_in_want, err_replied, replied_as, truth_replied, truth_wants_none}
+use Rattle.template_machine_calls.specs.Left.{KeepsWorld, left_by, reached_by, turnings_in, with_turnings}
+use Rattle.template_machine_calls.specs.declared.outcome.Outcome.{Outcome}
+use Rattle.template_machine_calls.proofs.Chaining.{kept_behind, planned_as}
 use Rattle.template_machine_calls.proofs.chain.conclude.Goals as goal
 
-pub returns-in_err-value-clause-comes : goal.returns-in_err-value-clause-comes
-returns-in_err-value-clause-comes g c a = err_replied value_left _ _ _ _ (c.in_err-value.ensures.comes a) c.from_residual.ensures.1
-
-pub returns-in_err-value-clause-kept : goal.returns-in_err-value-clause-kept
-returns-in_err-value-clause-kept g c = err_kept_in_want _ _ _ _ (λ why. c.in_err-value.ensures.kept) c.from_residual.ensures.1
-
-pub returns-in_err-truth_of-clause-comes : goal.returns-in_err-truth_of-clause-comes
-returns-in_err-truth_of-clause-comes g c a =
+pub returns-in-Value-clause-comes : goal.returns-in-Value-clause-comes
+returns-in-Value-clause-comes g c a =
     let around : Around = around_under c.args.rules (g.H.Callbacks.callables c.args.host.now) a in
-    let v = c.in_ok-value.value in
-    let after = c.finish.new.state in
-    err_replied value_left _ _ _ _
-    (replied_as truth_left (left_by (beyond around c.args.levels) c.args.outcome c.args.state.now) (as_test (changed after (value v))) (Err _) after
-    (ended_test _ _ after v c.if-test.true (c.in_ok-value.ensures.comes a)) (truth_replied after v _ c.in_err-truth_of.ensures))
-    c.from_residual-in_err-truth_of.ensures.1
+    ap (λ o. with_turnings (turnings_in c.args.turnings.items) (left_by around 0 (beyond around 0 c.args.levels) o c.args.state.now)) c.in-Value.is
 
-pub returns-in_err-truth_of-clause-kept : goal.returns-in_err-truth_of-clause-kept
-returns-in_err-truth_of-clause-kept g c =
-    err_kept_in_want _ _ c.args.state.now c.finish.new.state
-    (truth_wants_none c.args.state.now c.finish.new.state (known_of c.finish.new.state) c.in_ok-value.value _ c.in_err-truth_of.ensures) c.from_residual-in_err-truth_of.ensures.1
+pub returns-in-Further-clause-comes : goal.returns-in-Further-clause-comes
+returns-in-Further-clause-comes g c a =
+    let around : Around = around_under c.args.rules (g.H.Callbacks.callables c.args.host.now) a in
+    let ts = turnings_in c.args.turnings.items in
+    planned_as (reached_by around) (with_turnings ts (left_by around 0 (beyond around 0 c.args.levels) c.args.outcome c.args.state.now))
+    (with_turnings ts (beyond around 0 c.args.levels c.args.state.now (asked_by c.in-Further.further))) _ _
+    (ap (λ o. with_turnings ts (left_by around 0 (beyond around 0 c.args.levels) o c.args.state.now)) c.in-Further.is) (c.go_on.ensures.comes a)
 
-pub returns-then-test-clause-comes : goal.returns-then-test-clause-comes
-returns-then-test-clause-comes g c a =
-    let v = c.in_ok-value.value in
-    let after = c.finish.new.state in
-    ended_test _ _ after v c.if-test.true (c.in_ok-value.ensures.comes a) ∙ truth_replied after v _ c.in_ok-truth_of.ensures
-    ∙ ap (λ u. changed after (value u)) (sym c.from_bool.ensures)
+pub returns-in-Enters-clause-comes : goal.returns-in-Enters-clause-comes
+returns-in-Enters-clause-comes g c a =
+    let around : Around = around_under c.args.rules (g.H.Callbacks.callables c.args.host.now) a in
+    ap (λ o. with_turnings (turnings_in c.args.turnings.items) (left_by around 0 (beyond around 0 c.args.levels) o c.args.state.now)) c.in-Enters.is
 
-pub returns-clause-comes : goal.returns-clause-comes
-returns-clause-comes g c a = ended_plain _ _ c.finish.new.state c.in_ok-value.value c.if-test.false (c.in_ok-value.ensures.comes a)
+pub returns-in-Further-clause-kept : goal.returns-in-Further-clause-kept
+returns-in-Further-clause-kept g c w before =
+    kept_behind _ w c.args.state.now c.go_on.new.state (subst (λ (o : Outcome). KeepsWorld (Ok o) w c.args.state.now) c.in-Further.is before) c.go_on.ensures.kept
+
+pub returns-in-Enters-clause-kept : goal.returns-in-Enters-clause-kept
+returns-in-Enters-clause-kept g c w before = subst (λ (o : Outcome). KeepsWorld (Ok o) w c.args.state.now) c.in-Enters.is before

@@ -1,40 +1,42 @@
-use Rattle.std.proofs.Common.{refl, ap, sym, ◌∙◌}
+use Rattle.std.proofs.Common.{Err, refl, ap}
 use Rattle.template_process.specs.Process as events
-use Rattle.template_process.specs.Process.{value}
 use Rattle.template_code.specs.Code as codes
 use Rattle.template_code.specs.Steps.{on_taken, giving}
-use Rattle.template_machine_meaning.specs.Calls.{call_reply}
+use Rattle.template_machine_meaning.specs.Calls.{call_plan}
 use Rattle.template_machine_meaning.specs.Functions.{invokes, test_named}
-use Rattle.template_machine_meaning.specs.Replies.{changed}
 use Rattle.template_machine_meaning.specs.Surroundings.{Programs}
 use Rattle.template_machine_operands.specs.Operands.{operands_in}
 use Rattle.template_machine_steps.proofs.Gathering.{handed_refused}
 use Rattle.template_machine_calls.specs.Hosted.{hosted}
-use Rattle.template_machine_calls.proofs.Giving.{failed, given, handed_as, handed_with, refused_as}
+use Rattle.template_machine_calls.proofs.Giving.{err_out, failed, handed_as, handed_with, put_out, refused_as}
 use Rattle.template_machine_calls.proofs.instructions.perform_test.Goals as goal
 
 pub returns-in_err-values : goal.returns-in_err-values
 returns-in_err-values g c program number =
-    handed_refused (hosted c.args.rules (g.H.Callbacks.callables c.args.host.now) program) (codes.perform_test c.args.name.now c.args.count number) _ c.args.state.now _ _ _ _ _ c.args.count
+    err_out (hosted c.args.rules (g.H.Callbacks.callables c.args.host.now) program) _ _ _ _ _ _ _
+    (handed_refused (hosted c.args.rules (g.H.Callbacks.callables c.args.host.now) program) (codes.perform_test c.args.name.now c.args.count number) _ c.args.state.now (Err _) _ _ _ _ c.args.count
     (λ lacks next before place. ap (λ t. on_taken t (λ vs rest. giving next place rest (events.perform_test c.args.name.now vs))) lacks)
-    (refused_as _ _ _ _ c.widened.ensures c.in_err-values.ensures.refused) c.from_residual.ensures.1
+    (refused_as _ _ _ _ c.widened.ensures c.in_err-values.ensures.refused) refl)
+    c.from_residual.ensures.1
 
-pub returns-in_err-holds : goal.returns-in_err-holds
-returns-in_err-holds g c program number =
+pub returns-in_err-reached : goal.returns-in_err-reached
+returns-in_err-reached g c program number =
     let s : Programs = hosted c.args.rules (g.H.Callbacks.callables c.args.host.now) program in
-    failed s (codes.perform_test c.args.name.now c.args.count number) (events.perform_test c.args.name.now c.as_slice.result.now) (operands_in c.args.operands.now) c.args.state.now (operands_in c.take_handed.new.self)
+    err_out s _ _ _ _ _ _ _
+    (failed s (codes.perform_test c.args.name.now c.args.count number) (events.perform_test c.args.name.now c.as_slice.result.now) (operands_in c.args.operands.now) c.args.state.now (operands_in c.take_handed.new.self)
     (λ next before place. ap (λ t. on_taken t (λ vs rest. giving next place rest (events.perform_test c.args.name.now vs)))
     (handed_with c.args.count (operands_in c.args.operands.now) (operands_in c.take_handed.new.self) c.in_ok-values.values.items c.as_slice.result.now
     (handed_as _ _ _ _ c.widened.ensures c.in_ok-values.ensures.taken) c.as_slice.ensures.value))
-    (call_reply s.around c.args.state.now (invokes (test_named c.args.name.now) c.as_slice.result.now)) (λ n. refl) _ _ _ _
-    (c.in_err-holds.ensures.told program.around) c.from_residual-in_err-holds.ensures.1
+    (call_plan s.around c.args.state.now (invokes (test_named c.args.name.now) c.as_slice.result.now)) refl (Err _) _ _ _
+    (c.in_err-reached.ensures.told program.around) refl)
+    c.from_residual-in_err-reached.ensures.1
 
 pub returns : goal.returns
 returns g c program number =
     let s : Programs = hosted c.args.rules (g.H.Callbacks.callables c.args.host.now) program in
-    given s (codes.perform_test c.args.name.now c.args.count number) (events.perform_test c.args.name.now c.as_slice.result.now) (operands_in c.args.operands.now) c.args.state.now (operands_in c.take_handed.new.self)
+    put_out s (codes.perform_test c.args.name.now c.args.count number) (events.perform_test c.args.name.now c.as_slice.result.now) (operands_in c.args.operands.now) c.args.state.now (operands_in c.take_handed.new.self)
     (λ next before place. ap (λ t. on_taken t (λ vs rest. giving next place rest (events.perform_test c.args.name.now vs)))
     (handed_with c.args.count (operands_in c.args.operands.now) (operands_in c.take_handed.new.self) c.in_ok-values.values.items c.as_slice.result.now
     (handed_as _ _ _ _ c.widened.ensures c.in_ok-values.ensures.taken) c.as_slice.ensures.value))
-    (call_reply s.around c.args.state.now (invokes (test_named c.args.name.now) c.as_slice.result.now)) (λ n. refl) _ _ _ _
-    (c.in_ok-holds.ensures.told program.around ∙ ap (λ v. changed c.call_test.new.state (value v)) (sym c.from_bool.ensures)) c.push.ensures.pushed c.push.ensures.refused
+    (call_plan s.around c.args.state.now (invokes (test_named c.args.name.now) c.as_slice.result.now)) refl c.in_ok-reached.reached _ _ _
+    (c.in_ok-reached.ensures.told program.around) c.in_ok-reached.ensures.kept c.put.ensures

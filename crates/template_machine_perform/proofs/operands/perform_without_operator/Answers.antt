@@ -1,11 +1,9 @@
 use Rattle.std.proofs.Common.{refl, ap, sym, ◌∙◌}
 use Rattle.template_code.specs.Code as codes
 use Rattle.template_code.specs.View.{code_of}
-use Rattle.template_machine_steps.specs.Performs.{ruled, spot}
+use Rattle.template_machine_steps.specs.Performs.{ruled}
 use Rattle.template_machine_perform.proofs.Lifting.{straight_leads, leads_at}
 use Rattle.template_machine_perform.proofs.Left.{none_left}
-use Rattle.template_machine_perform.proofs.Straying.{astray_out}
-use Rattle.template_machine_perform.proofs.Unanswered.{unanswered_astray}
 use Rattle.template_machine_perform.proofs.operands.perform_without_operator.Goals as goal
 
 pub returns-in-LoadConst : goal.returns-in-LoadConst
@@ -99,7 +97,5 @@ returns-in-MergeKwargs c program limit =
 pub returns-in_default : goal.returns-in_default
 returns-in_default c program limit =
     let h = c.in_default in
-    astray_out (ruled program limit c.args.mode) (code_of c.args.instruction.now) _ c.args.state.now _ _ _ _
-    (λ before place left taken. unanswered_astray (ruled program limit c.args.mode) before _ (spot place _ c.args.state.now left taken)
-    (none_left c.args.instruction.now c.requires.operands c.requires.no_operator h.not-LoadConst h.not-Swap h.not-DupTop h.not-DiscardTop h.not-GetAttr h.not-GetItem h.not-Slice h.not-BuildList h.not-BuildTuple h.not-BuildMap h.not-BuildKwargs h.not-MergeKwargs h.not-UnpackList h.not-UnpackLists h.not-Neg h.not-Not h.not-IsUndefined h.not-CompareAndPreserve h.not-Jump h.not-JumpIfFalse h.not-JumpIfFalseOrPop h.not-JumpIfTrueOrPop))
-    c.new.ensures
+    absurd
+    (none_left c.args.instruction.now c.requires.operands c.requires.no_operator h.not-LoadConst h.not-Swap h.not-DupTop h.not-DiscardTop h.not-GetAttr h.not-GetItem h.not-Slice h.not-BuildList h.not-BuildTuple h.not-BuildMap h.not-BuildKwargs h.not-MergeKwargs h.not-UnpackList h.not-UnpackLists h.not-Neg h.not-Not h.not-IsUndefined h.not-CompareAndPreserve h.not-Jump h.not-JumpIfFalse h.not-JumpIfFalseOrPop h.not-JumpIfTrueOrPop)

@@ -22,10 +22,6 @@ pub returns-in-PopFrame : goal.returns-in-PopFrame
 returns-in-PopFrame c program =
     straight_leads _ codes.pop_frame _ _ _ _ _ _ _ (ap code_of c.in-PopFrame.is) c.straight-in-PopFrame.ensures (c.pop_frame.ensures (ruled program c.args.bounds.limit c.args.bounds.undefined) _)
 
-pub returns-in-PushLoop : goal.returns-in-PushLoop
-returns-in-PushLoop c program =
-    straight_leads _ (codes.push_loop _) _ _ _ _ _ _ _ (ap code_of c.in-PushLoop.is) c.straight-in-PushLoop.ensures (c.push_loop.ensures program)
-
 pub returns-in-Iterate : goal.returns-in-Iterate
 returns-in-Iterate c program =
     leads_at _ (codes.iterate _) _ _ _ _ _ _ (ap code_of c.in-Iterate.is) (c.iterate.ensures (ruled program c.args.bounds.limit c.args.bounds.undefined))
@@ -33,10 +29,6 @@ returns-in-Iterate c program =
 pub returns-in-PushDidNotIterate : goal.returns-in-PushDidNotIterate
 returns-in-PushDidNotIterate c program =
     straight_leads _ codes.push_did_not_iterate _ _ _ _ _ _ _ (ap code_of c.in-PushDidNotIterate.is) c.straight-in-PushDidNotIterate.ensures (c.push_did_not_iterate.ensures (ruled program c.args.bounds.limit c.args.bounds.undefined))
-
-pub returns-in-PopLoopFrame : goal.returns-in-PopLoopFrame
-returns-in-PopLoopFrame c program =
-    straight_leads _ codes.pop_loop_frame _ _ _ _ _ _ _ (ap code_of c.in-PopLoopFrame.is) c.straight-in-PopLoopFrame.ensures (c.pop_loop_frame.ensures (ruled program c.args.bounds.limit c.args.bounds.undefined) _)
 
 pub returns-in-PushAutoEscape : goal.returns-in-PushAutoEscape
 returns-in-PushAutoEscape c program =
@@ -58,6 +50,14 @@ pub returns-in-SetAttr : goal.returns-in-SetAttr
 returns-in-SetAttr c program =
     straight_leads _ (codes.set_attr _) _ _ _ _ _ _ _ (ap code_of c.in-SetAttr.is ∙ ap (λ t. codes.set_attr t) (sym c.as_str-in-SetAttr.ensures.value)) c.straight-in-SetAttr.ensures (c.set_attr.ensures (ruled program c.args.bounds.limit c.args.bounds.undefined))
 
+pub returns-in-Enclose : goal.returns-in-Enclose
+returns-in-Enclose c program =
+    straight_leads _ (codes.enclose _) _ _ _ _ _ _ _ (ap code_of c.in-Enclose.is ∙ ap (λ t. codes.enclose t) (sym c.as_str-in-Enclose.ensures.value)) c.straight-in-Enclose.ensures (c.enclose.ensures (ruled program c.args.bounds.limit c.args.bounds.undefined) _)
+
+pub returns-in-GetClosure : goal.returns-in-GetClosure
+returns-in-GetClosure c program =
+    straight_leads _ codes.get_closure _ _ _ _ _ _ _ (ap code_of c.in-GetClosure.is) c.straight-in-GetClosure.ensures (c.get_closure.ensures (ruled program c.args.bounds.limit c.args.bounds.undefined))
+
 pub returns-in-ExportLocals : goal.returns-in-ExportLocals
 returns-in-ExportLocals c program =
     straight_leads _ codes.export_locals _ _ _ _ _ _ _ (ap code_of c.in-ExportLocals.is) c.straight-in-ExportLocals.ensures (c.export_locals.ensures (ruled program c.args.bounds.limit c.args.bounds.undefined))
@@ -65,7 +65,7 @@ returns-in-ExportLocals c program =
 pub perform_on_operands-requires : goal.perform_on_operands-requires
 perform_on_operands-requires c =
     let h = c.in_default in
-    operands_left c.args.instruction.now c.requires h.not-Lookup h.not-StoreLocal h.not-PushWith h.not-PopFrame h.not-PushLoop h.not-Iterate h.not-PushDidNotIterate h.not-PopLoopFrame h.not-PushAutoEscape h.not-PopAutoEscape h.not-BeginCapture h.not-EndCapture h.not-SetAttr h.not-ExportLocals
+    operands_left c.args.instruction.now c.requires h.not-Lookup h.not-StoreLocal h.not-PushWith h.not-PopFrame h.not-Iterate h.not-PushDidNotIterate h.not-PushAutoEscape h.not-PopAutoEscape h.not-BeginCapture h.not-EndCapture h.not-SetAttr h.not-Enclose h.not-GetClosure h.not-ExportLocals
 
 pub returns-in_default : goal.returns-in_default
 returns-in_default c program = c.perform_on_operands.ensures program c.args.bounds.limit

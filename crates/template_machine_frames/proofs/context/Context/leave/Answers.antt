@@ -7,6 +7,6 @@ use Rattle.template_machine_frames.proofs.context.Context.leave.Goals as goal
 
 pub returns : goal.returns
 returns c =
-    let over : List Frame → Scopes = λ fs. record { frames = fs; floor = c.args.floor; outer = c.args.outer } in
+    let over : List Frame → Scopes = λ fs. record { frames = fs; closures = c.self.inside.closures; base = c.args.base; floor = c.args.floor; outer = c.args.outer } in
     ap (λ items. over (reverse items)) c.truncate.ensures.items ∙ ap over (outermost_left c.args.frames c.self.inside.stack.items)
-    ∙ ap (put_back c.args.frames c.args.floor c.args.outer) c.self.view_is
+    ∙ ap (put_back c.args.frames c.args.base c.args.floor c.args.outer) c.self.view_is

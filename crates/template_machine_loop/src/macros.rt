@@ -1,0 +1,163 @@
+//! Calls of macros.
+ghost use Rattle.std.specs.Prelude.{◌≡◌, ◌⊎◌, IfErr, IfOk, map, option_map, reverse};
+ghost use Rattle.template_values_errors.specs.Memory.{NoMemory};
+ghost use Rattle.template_code.specs.Code.{single};
+ghost use Rattle.template_process.specs.Process.{value};
+ghost use Rattle.template_machine_meaning.specs.Macros.{macro_plan};
+ghost use Rattle.template_machine_meaning.specs.Records.{macro_of};
+ghost use Rattle.template_machine_operations.specs.Outcomes.{TellsFailures};
+ghost use Rattle.template_machine_operands.specs.Operands.{operands_in};
+ghost use Rattle.template_machine_steps.specs.Performs.{SparesSink};
+ghost use Rattle.template_machine_loop.specs.Found.{FindsMacro, IsRefused};
+ghost use Rattle.template_machine_loop.specs.Plans.{DoesPlan};
+ghost use Rattle.template_machine_loop.specs.Programs.{programs_under, standing_of};
+
+use crate::blocks::has_room_beside;
+use crate::counting::macro_at;
+use crate::found::code_of_stream;
+use crate::running::run_from;
+use crate::templates::{Program, Templates};
+use std::alloc::Global;
+use template_code::Instructions;
+use template_machine_calls::{Bound, bind};
+use template_machine_operands::Operands;
+use template_machine_output::Sink;
+use template_machine_state::{State, Stream};
+use template_values_core::Value;
+use template_values_errors::{Error, ErrorKind};
+
+// So many levels deeper a macro runs.
+const MACRO_LEVELS: usize = 6;
+
+/// A macro's body, and what it runs over.
+#[derive(Drop)]
+pub(crate) struct Begun<'env> {
+    pub(crate) stream: Stream<'env>,
+    pub(crate) closure: Option<u32>,
+    // What it has under `caller`, if it takes one.
+    pub(crate) given: Option<Value>,
+    pub(crate) code: &'env Instructions<'env>,
+    pub(crate) place: u32,
+    pub(crate) operands: Operands,
+}
+
+/// Runs the macro of a number, in the state of an id, over arguments, where so many calls are pending, which count as levels, and
+/// gives its text.
+///
+/// # Errors
+///
+/// `InvalidOperation` where there is no such macro, or no room; `TooManyArguments` where the arguments do not fit; the fault of its run;
+/// and `OutOfMemory`, `WriteFailure` and `BadStream` as for [`run_to_end`](crate::run_to_end).
+#[cycle(running)]
+pub(crate) fn call_macro<'env, T: Templates, S: Sink>(
+    alloc: Global,
+    program: Program<'env, '_, T>,
+    id: u64,
+    number: usize,
+    args: Vec<Value>,
+    pending: usize,
+    state: &mut State<'env>,
+    left: &mut Option<u64>,
+    scratch: &mut String,
+    sink: &mut S,
+) -> Result<Value, Error>
+    ensures plan { let templates = program.entry.templates.now in let root = option_map standing_of program.entry.root in
+        let s = programs_under (T.standing templates) (T.joins templates) (T.callables templates) root program.entry.rules in
+        DoesPlan value s (macro_plan s.around.limit pending state.old args.items (macro_of state.old id number))
+        state.old left.old (S.taken sink.old) result state.new left.new (S.taken sink.new) }
+    ensures failures { TellsFailures result (S.failures sink.old) (S.failures sink.new) }
+{
+    let begun = begin(alloc, program, id, number, args, pending, state)?;
+    let Begun {
+        stream,
+        closure,
+        given,
+        code,
+        place,
+        operands,
+    } = begun;
+    let caller = state.enter_macro(alloc, stream, closure, given, pending)?;
+    let ran = run_from(
+        alloc, program, code, place, operands, state, left, scratch, sink,
+    );
+    match ran {
+        Ok(_) => state.leave_macro_text(alloc, caller),
+        Err(error) => {
+            state.leave_macro(caller);
+            Err(error)
+        }
+    }
+}
+
+// The body of a macro that is called, and what it runs over, where there is room.
+//
+// # Errors
+//
+// As `call_macro` has them before it runs the body.
+fn begin<'env, T: Templates>(
+    alloc: Global,
+    program: Program<'env, '_, T>,
+    id: u64,
+    number: usize,
+    args: Vec<Value>,
+    pending: usize,
+    state: &State<'env>,
+) -> Result<Begun<'env>, Error>
+    ensures begun { let templates = program.entry.templates.now in let root = option_map standing_of program.entry.root in
+        let s = programs_under (T.standing templates) (T.joins templates) (T.callables templates) root program.entry.rules in
+        let planned = macro_plan s.around.limit pending state.now args.items (macro_of state.now id number) in
+        IfOk result (FindsMacro s (T.standing templates) root state.now pending planned) }
+    ensures refused { let templates = program.entry.templates.now in let root = option_map standing_of program.entry.root in
+        let s = programs_under (T.standing templates) (T.joins templates) (T.callables templates) root program.entry.rules in
+        let planned = macro_plan s.around.limit pending state.now args.items (macro_of state.now id number) in
+        IfErr result (λ kinds. NoMemory kinds ⊎ IsRefused s planned state.now kinds) }
+    ensures spares { IfErr result SparesSink }
+{
+    let Some(called) = state.macro_of(id, number) else {
+        return Err(Error::new(ErrorKind::InvalidOperation));
+    };
+    let bound = bind(alloc, called.arguments(), called.takes_caller(), args)?;
+    let Bound {
+        arguments,
+        caller: given,
+    } = bound;
+    if !has_room_beside(state, program.rules.limit, MACRO_LEVELS, pending) {
+        return Err(Error::new(ErrorKind::InvalidOperation));
+    }
+    let stream = called.stream();
+    let Some(code) = code_of_stream(program, stream) else {
+        return Err(Error::new(ErrorKind::InvalidOperation));
+    };
+    let Some(place) = macro_at(code, called.number()) else {
+        return Err(Error::new(ErrorKind::InvalidOperation));
+    };
+    if place.count != arguments.len() {
+        return Err(Error::new(ErrorKind::InvalidOperation));
+    }
+    Ok(Begun {
+        stream,
+        closure: called.closure(),
+        given,
+        code,
+        place: place.offset,
+        operands: operands_of(alloc, arguments)?,
+    })
+}
+
+// The arguments as operands, the last one on top.
+//
+// # Errors
+//
+// `OutOfMemory`.
+fn operands_of(alloc: Global, arguments: Vec<Value>) -> Result<Operands, Error>
+    ensures operands { IfOk result (λ operands. operands_in operands ≡ map single (reverse arguments.items)) }
+    ensures refused { IfErr result NoMemory }
+{
+    let mut rest = arguments;
+    rest.reverse();
+    let mut operands = Operands::new(alloc);
+    while let Some(argument) = rest.pop() {
+        operands.push(argument)?;
+    }
+    Ok(operands)
+}

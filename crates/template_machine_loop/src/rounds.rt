@@ -1,0 +1,206 @@
+//! Rounds of loops that are called again.
+ghost use Rattle.std.specs.Prelude.{◌≡◌, ◌∷◌, [], ◌⊎◌, Bool, IfErr, IfOk, None, Option, Some, is_some, option_map};
+ghost use Rattle.template_values_errors.specs.Memory.{NoMemory};
+ghost use Rattle.template_values_errors.specs.declared.ErrorKind.TheVariants.{InvalidOperation};
+ghost use Rattle.template_process.specs.Process.{done, value};
+ghost use Rattle.template_machine_meaning.specs.Records.{loop_of};
+ghost use Rattle.template_machine_loops.specs.Rounds.{rounds_in};
+ghost use Rattle.template_machine_meaning.specs.Keys.{Around};
+ghost use Rattle.template_machine_meaning.specs.Plans.{replies};
+ghost use Rattle.template_machine_meaning.specs.Replies as meant;
+ghost use Rattle.template_machine_meaning.specs.Rounds.{again_plan, recurse_plan, rounds_plan};
+ghost use Rattle.template_machine_meaning.specs.World.{Loop, World};
+ghost use Rattle.template_machine_operations.specs.Outcomes.{TellsFailures};
+ghost use Rattle.template_machine_steps.specs.Performs.{SparesSink};
+ghost use Rattle.template_machine_loop.specs.Found.{FindsRounds, IsRefused};
+ghost use Rattle.template_machine_loop.specs.Plans.{DoesPlan};
+ghost use Rattle.template_machine_loop.specs.Programs.{programs_under, standing_of};
+
+use crate::counting::rounds_at;
+use crate::found::code_of_stream;
+use crate::running::run_from;
+use crate::templates::{Program, Templates};
+use std::alloc::Global;
+use template_code::Instructions;
+use template_machine_fuel::wrapped;
+use template_machine_items::Items;
+use template_machine_operands::Operands;
+use template_machine_operations as values;
+use template_machine_output::Sink;
+use template_machine_state::{LoopState, Rounds, State};
+use template_values_core::Value;
+use template_values_errors::{Error, ErrorKind};
+
+/// What of a loop is called again: where its rounds are at home, and whether it has its variable.
+#[derive(Clone, Copy)]
+pub(crate) struct Again<'env> {
+    pub(crate) rounds: Rounds<'env>,
+    pub(crate) variable: bool,
+}
+
+/// Where rounds begin, and what they go over.
+#[derive(Drop)]
+pub(crate) struct Begun<'env> {
+    pub(crate) code: &'env Instructions<'env>,
+    pub(crate) place: u32,
+    pub(crate) items: Items,
+}
+
+/// Runs the rounds of the innermost loop again over the items of a value, and writes their text where the run stands.
+///
+/// # Errors
+///
+/// `UnknownFunction` where there is no loop; `InvalidOperation` where it is not recursive, over a fault of the items, or where there is
+/// no room; the fault of the rounds; and `OutOfMemory`, `WriteFailure` and `BadStream` as for [`run_to_end`](crate::run_to_end).
+#[cycle(running)]
+pub(crate) fn print_rounds<'env, T: Templates, S: Sink>(
+    alloc: Global,
+    program: Program<'env, '_, T>,
+    over: Value,
+    state: &mut State<'env>,
+    left: &mut Option<u64>,
+    scratch: &mut String,
+    sink: &mut S,
+) -> Result<(), Error>
+    ensures plan { let templates = program.entry.templates.now in let root = option_map standing_of program.entry.root in
+        let s = programs_under (T.standing templates) (T.joins templates) (T.callables templates) root program.entry.rules in
+        DoesPlan (λ u. done) s (recurse_plan s.around state.old over) state.old left.old (S.taken sink.old) result state.new left.new (S.taken sink.new) }
+    ensures failures { TellsFailures result (S.failures sink.old) (S.failures sink.new) }
+{
+    let Some(current) = state.innermost_loop() else {
+        return Err(Error::new(ErrorKind::UnknownFunction));
+    };
+    let again = again_of(current)?;
+    let begun = begin(alloc, program, again, over, state)?;
+    let Begun { code, place, items } = begun;
+    let caller = state.enter_rounds(alloc, again.rounds, again.variable, items, false)?;
+    let operands = Operands::new(alloc);
+    let ran = run_from(
+        alloc, program, code, place, operands, state, left, scratch, sink,
+    );
+    state.leave_rounds(alloc, caller);
+    match ran {
+        Ok(_) => Ok(()),
+        Err(error) => Err(error),
+    }
+}
+
+/// Runs the rounds of the loop of a number, in the state of an id, again over the items of the one argument, and gives their text.
+///
+/// # Errors
+///
+/// `InvalidOperation` where there is no such loop, or not one argument; else those of [`print_rounds`].
+#[cycle(running)]
+pub(crate) fn call_rounds<'env, T: Templates, S: Sink>(
+    alloc: Global,
+    program: Program<'env, '_, T>,
+    id: u64,
+    number: usize,
+    args: Vec<Value>,
+    state: &mut State<'env>,
+    left: &mut Option<u64>,
+    scratch: &mut String,
+    sink: &mut S,
+) -> Result<Value, Error>
+    ensures plan { let templates = program.entry.templates.now in let root = option_map standing_of program.entry.root in
+        let s = programs_under (T.standing templates) (T.joins templates) (T.callables templates) root program.entry.rules in
+        DoesPlan value s (again_plan s.around state.old args.items (loop_of state.old id number))
+        state.old left.old (S.taken sink.old) result state.new left.new (S.taken sink.new) }
+    ensures failures { TellsFailures result (S.failures sink.old) (S.failures sink.new) }
+{
+    let over = only(args)?;
+    let Some(current) = state.loop_of(id, number) else {
+        return Err(Error::new(ErrorKind::InvalidOperation));
+    };
+    let again = again_of(current)?;
+    let begun = begin(alloc, program, again, over, state)?;
+    let Begun { code, place, items } = begun;
+    let caller = state.enter_rounds(alloc, again.rounds, again.variable, items, true)?;
+    let operands = Operands::new(alloc);
+    let ran = run_from(
+        alloc, program, code, place, operands, state, left, scratch, sink,
+    );
+    match ran {
+        Ok(_) => state.leave_rounds_text(alloc, caller),
+        Err(error) => {
+            state.leave_named_rounds(alloc, caller);
+            Err(error)
+        }
+    }
+}
+
+// The one argument.
+//
+// # Errors
+//
+// `InvalidOperation` where there is none, or more.
+fn only(args: Vec<Value>) -> Result<Value, Error>
+    ensures only { IfOk result (λ v. args.items ≡ v ∷ []) }
+    ensures refused { IfErr result (λ kinds. (kinds ≡ InvalidOperation ∷ [])
+        × ((a : Around) (w : World) (o : Option Loop) → again_plan a w args.items o ≡ replies (meant.refused w InvalidOperation))) }
+{
+    let mut args = args;
+    let Some(value) = args.pop() else {
+        return Err(Error::new(ErrorKind::InvalidOperation));
+    };
+    if args.len() > 0 {
+        return Err(Error::new(ErrorKind::InvalidOperation));
+    }
+    Ok(value)
+}
+
+// What of a loop is called again.
+//
+// # Errors
+//
+// `InvalidOperation` where it is not recursive.
+fn again_of<'env>(current: &LoopState<'env>) -> Result<Again<'env>, Error>
+    ensures again { IfOk result (λ again. (current.now.rounds ≡ Some (rounds_in again.rounds)) × (is_some current.now.variable ≡ again.variable)) }
+    ensures refused { IfErr result (λ kinds. (current.now.rounds ≡ None) × (kinds ≡ InvalidOperation ∷ [])) }
+{
+    match current.rounds() {
+        Some(rounds) => Ok(Again {
+            rounds,
+            variable: current.variable().is_some(),
+        }),
+        None => Err(Error::new(ErrorKind::InvalidOperation)),
+    }
+}
+
+// Where the rounds begin that a loop is called again for over a value, and its items, where there is room.
+//
+// # Errors
+//
+// `InvalidOperation` over a fault of the items, where there is no room, and where the rounds are not found; `OutOfMemory`.
+fn begin<'env, T: Templates>(
+    alloc: Global,
+    program: Program<'env, '_, T>,
+    again: Again<'env>,
+    over: Value,
+    state: &State<'env>,
+) -> Result<Begun<'env>, Error>
+    ensures begun { let templates = program.entry.templates.now in let root = option_map standing_of program.entry.root in
+        let s = programs_under (T.standing templates) (T.joins templates) (T.callables templates) root program.entry.rules in
+        IfOk result (λ begun. (named : Bool) (l : Loop) → l.rounds ≡ Some (rounds_in again.entry.rounds) →
+        FindsRounds s (T.standing templates) root state.now named l (rounds_in again.entry.rounds) over begun) }
+    ensures refused { let templates = program.entry.templates.now in let root = option_map standing_of program.entry.root in
+        let s = programs_under (T.standing templates) (T.joins templates) (T.callables templates) root program.entry.rules in
+        IfErr result (λ kinds. NoMemory kinds ⊎ ((named : Bool) (l : Loop) → l.rounds ≡ Some (rounds_in again.entry.rounds) →
+        IsRefused s (rounds_plan s.around state.now named over l) state.now kinds)) }
+    ensures spares { IfErr result SparesSink }
+{
+    let items = match values::iterate(alloc, program.rules.undefined, over, state) {
+        Ok(items) => items,
+        Err(error) => return Err(wrapped(alloc, ErrorKind::InvalidOperation, error)),
+    };
+    if !state.has_room(program.rules.limit, 1) {
+        return Err(Error::new(ErrorKind::InvalidOperation));
+    }
+    let Some(code) = code_of_stream(program, again.rounds.stream) else {
+        return Err(Error::new(ErrorKind::InvalidOperation));
+    };
+    let Some(place) = rounds_at(code, again.rounds.number) else {
+        return Err(Error::new(ErrorKind::InvalidOperation));
+    };
+    Ok(Begun { code, place, items })
+}
