@@ -11,8 +11,6 @@ use Rattle.template_machine_going.specs.Paying.{Paid}
 use Rattle.template_machine_meaning.specs.Blocks.{block_plan}
 use Rattle.template_machine_meaning.specs.Surroundings.{Programs}
 use Rattle.template_machine_meaning.specs.World.{World}
-use Rattle.template_machine_codes.specs.Codes.{codes_of}
-use Rattle.template_machine_renders.specs.Laws.{named_so}
 use Rattle.template_machine_renders.specs.Plans.{DoesPlan}
 use Rattle.template_machine_renders.specs.Programs as units
 use Rattle.template_machine_renders.specs.Programs.{programs_of}
@@ -22,7 +20,7 @@ use Rattle.template_compiled.specs.Compiled.{standing_of}
 use Rattle.template_environment.specs.Extras.{UserAnswers, joins_by}
 use Rattle.template_environment.specs.Reading.{callables_of, extras_of, registry_of, setting_in}
 use Rattle.template_environment.specs.Standing.{unit_of, units_of}
-use Rattle.template_environment.specs.States.{block_in, environment_in, fuel_left_in, own_name_in, template_in, world_in}
+use Rattle.template_environment.specs.States.{block_in, codes_in, environment_in, fuel_left_in, own_name_in, template_in, world_in}
 use Rattle.template_environment.specs.declared.environment.Environment.{Environment}
 use Rattle.template_environment.specs.declared.state.State.{State}
 use Rattle.template_environment.proofs.Rendering.{ruled_programs}
@@ -33,14 +31,10 @@ rendered_to fuel r (Ok x) after left before taken ended = whole ended.over ended
 rendered_to fuel r (Err kinds) after left before taken stopped = stopped
 
 module _ {E C M F J R : Type 0} (says : UserAnswers C M F J) (s : State E C M F J R) where
-  -- the programs of code that run in it
-  abbrev pub codes_in : Programs
-  codes_in = named_so (own_name_in s) (codes_of (setting_in says (environment_in s)) (option_map standing_of (template_in s)))
-
   pub program_in : (there : Environment E C M F J R) (unit : Option units.Standing) (own : List ℕ) (limit : ℕ) (mode : UndefinedBehavior) → there ≡ environment_in s
       → unit ≡ option_map unit_of (template_in s) → own ≡ own_name_in s → limit ≡ (registry_of (environment_in s)).recursion_limit
       → mode ≡ (registry_of (environment_in s)).undefined_behavior
-      → programs_of (units_of (registry_of there)) (joins_by says.joins (extras_of there).join) (callables_of says there) unit own limit mode ≡ codes_in
+      → programs_of (units_of (registry_of there)) (joins_by says.joins (extras_of there).join) (callables_of says there) unit own limit mode ≡ codes_in says s
   program_in there unit own limit mode t u n l m =
       ruled_programs says there (environment_in s) (template_in s) unit own (own_name_in s) limit mode t u n l m
 
@@ -48,15 +42,15 @@ module _ {E C M F J R : Type 0} (says : UserAnswers C M F J) (s : State E C M F 
     abbrev pub Does : Type 0
     Does = DoesPlan (λ x. done) program (block_plan program.around (world_in s) block) (world_in s) left taken result after rest written
 
-    pub comes : program ≡ codes_in → left ≡ fuel_left_in s → Does → (n : ℕ) → IsFinished (block_in says s block n).end
+    pub comes : program ≡ codes_in says s → left ≡ fuel_left_in s → Does → (n : ℕ) → IsFinished (block_in says s block n).end
         → RendersTo (fuel_left_in s) (block_in says s block n) result after rest taken written
     comes is same does n finished =
         blocks_render X (setting_in says (environment_in s)) (option_map standing_of (template_in s)) (own_name_in s) block (world_in s) after (fuel_left_in s) rest taken written result
-        (subst (λ (f : Option ℕ). DoesPlan (λ x. done) codes_in (block_plan codes_in.around (world_in s) block) (world_in s) f taken result after rest written) same
+        (subst (λ (f : Option ℕ). DoesPlan (λ x. done) (codes_in says s) (block_plan (codes_in says s).around (world_in s) block) (world_in s) f taken result after rest written) same
         (subst (λ (p : Programs). DoesPlan (λ x. done) p (block_plan p.around (world_in s) block) (world_in s) left taken result after rest written) is does)) n finished
 
     -- it renders so,
-    pub block_renders : program ≡ codes_in → left ≡ fuel_left_in s → Does → (n : ℕ) → IsFinished (block_in says s block n).end
+    pub block_renders : program ≡ codes_in says s → left ≡ fuel_left_in s → Does → (n : ℕ) → IsFinished (block_in says s block n).end
         → Renders result taken written (under (fuel_left_in s) (block_in says s block n))
     block_renders is same does n finished = rendered_to (fuel_left_in s) (block_in says s block n) result after rest taken written (comes is same does n finished)
 

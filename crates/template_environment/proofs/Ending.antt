@@ -1,7 +1,7 @@
 -- Renders and blocks end: the names of what stands list all of it.
 use Rattle.std.proofs.Common.{◌≡◌, ℕ, Bool, true, false, cond, ◌||◌, List, [], ◌∷◌, map, Option, None, Some, IsSome, bytes_eq, refl, sym, ap, subst, ◌∙◌, arith}
 use Rattle.std.specs.List.{find, slice_get}
-use Rattle.std.specs.Option.{option_map}
+use Rattle.std.specs.Option.{option_map, option_and_then}
 use Rattle.std.specs.Prelude.{if◌then◌else◌}
 use Rattle.template_values_errors.specs.declared.ErrorKind.TheVariants.{InvalidOperation}
 use Rattle.template_tree.specs.Tree.{Statements}
@@ -11,12 +11,11 @@ use Rattle.template_process.specs.Drive.{End, ends, faults, breaks, waits, mista
 use Rattle.template_process.specs.Process.{Answer, Process}
 use Rattle.template_process.specs.Trace.{Run, ended}
 use Rattle.template_walk.specs.Runnable.{IsRunnableTemplate}
-use Rattle.template_walk.specs.Statements.{template_walk}
 use Rattle.template_machine_meaning.specs.Bodies.{Bodies, bodies_at}
 use Rattle.template_machine_meaning.specs.Blocks.{body_plan, bodies_plan, block_within, is_among, lacks_body, own_frame}
-use Rattle.template_machine_meaning.specs.Keys.{Home, block_of, Key, whole_of, Around}
+use Rattle.template_machine_meaning.specs.Keys.{Home, block_of, whole, Key, whole_of, Around}
 use Rattle.template_machine_meaning.specs.Laws.{AreAllRunnable, ListsAll}
-use Rattle.template_machine_meaning.specs.Meaning.{Standing, Setting, tree_at, walks_of}
+use Rattle.template_machine_meaning.specs.Meaning.{Standing, Setting, part_walk, tree_at, walks_of}
 use Rattle.template_machine_meaning.specs.Replies.{refused}
 use Rattle.template_machine_meaning.specs.Plans.{Within, Plan, replies, caller_of, given, told_by, ran, came_from, settled, room_for}
 use Rattle.template_machine_meaning.specs.Surroundings.{runners}
@@ -25,13 +24,13 @@ use Rattle.template_machine_meaning.proofs.Ends.{every_key_ends}
 use Rattle.template_machine_renders.specs.Laws.{block_run, named_so}
 use Rattle.template_machine_renders.specs.Plans.{end_of, run_of}
 use Rattle.template_compiled.specs.Compiled.{Compiled, standing_of}
-use Rattle.template_compiled.specs.Sources.{tree_in}
 use Rattle.template_compiled.specs.Standing.{compiled_at}
+use Rattle.template_compiled.proofs.Trees.{tree_runs}
 use Rattle.template_environment.specs.Extras.{Brought}
 use Rattle.template_environment.specs.Standing.{setting_of}
 use Rattle.template_environment.specs.States.{own_name}
 use Rattle.template_environment.specs.declared.registry.Registry.{Registry}
-use Rattle.template_environment.proofs.Rendering.{AllRun, all_run}
+use Rattle.template_environment.proofs.Rendering.{all_run}
 
 -- the names of templates
 abbrev pub names_of : List Compiled → List (List ℕ)
@@ -83,7 +82,7 @@ module _ (setting : Setting) (names : List (List ℕ)) (lists : ListsAll setting
   nothing_there home none = (
     0,
     subst (λ (o : Option Statements). IsFinished (run_of (came_from w (block_within w block home)
-        (option_map (λ (p : Process) (v : World). ended breaks v) (option_map (template_walk 0) o)))).end) (sym none) tt,
+        (option_map (λ (p : Process) (v : World). ended breaks v) (option_and_then (part_walk 0 whole) o)))).end) (sym none) tt,
   )
 
   body_ends : (home : Home) (o : Option Statements) → tree_at setting (Some root) (whole_of (block_of home block)) ≡ o
@@ -92,7 +91,7 @@ module _ (setting : Setting) (names : List (List ℕ)) (lists : ListsAll setting
   body_ends home (Some tree) is =
       let key : Key = whole_of (block_of home block) in
       let begins = own_frame (block_of home block) block w in
-      let some : IsSome (tree_at setting (Some root) key) = subst (λ (o : Option Statements). IsSome o) (sym is) refl in
+      let some : IsSome ((walks_of setting (Some root)).process 0 key) = subst (λ (o : Option Statements). IsSome (option_and_then (part_walk 0 whole) o)) (sym is) refl in
       let end = every_key_ends setting names lists all root runs key some begins (record { framed = omega arith; floor = omega arith; alone = refl }) in
       (end.0, came_finished home (runners (walks_of setting (Some root)) end.0 key) end.1)
 
@@ -103,7 +102,10 @@ module _ (setting : Setting) (names : List (List ℕ)) (lists : ListsAll setting
   room_ends limit home true is = rw is (body_ends home (tree_at setting (Some root) (whole_of (block_of home block))) refl)
   room_ends limit home false is = rw is (0, tt)
 
-  home_ends : (a : Around) (b : Bodies) (o : Option Home) → PlanEnds (body_plan a w block b o)
+  abbrev entering : Around → Home → Plan
+  entering a home = room_for a.limit 1 w (block_within w block home)
+
+  home_ends : (a : Around) (b : Bodies) (o : Option Home) → PlanEnds (body_plan a w block (entering a) b o)
   home_ends a b None = (0, tt)
   home_ends a b (Some home) = lacking_ends (lacks_body a block home b.homes)
     where
@@ -111,7 +113,7 @@ module _ (setting : Setting) (names : List (List ℕ)) (lists : ListsAll setting
       lacking_ends true = (0, tt)
       lacking_ends false = room_ends a.limit home (has_room a.limit 1 w) refl
 
-  bodies_end : (a : Around) (o : Option Bodies) → PlanEnds (bodies_plan a w block o)
+  bodies_end : (a : Around) (o : Option Bodies) → PlanEnds (bodies_plan a w block (entering a) o)
   bodies_end a None = (0, tt)
   bodies_end a (Some b) = home_ends a b (slice_get b.homes b.place)
 
@@ -121,8 +123,8 @@ module _ (setting : Setting) (names : List (List ℕ)) (lists : ListsAll setting
 
 -- so does each block in the state of a template
 pub state_block_ends : (k : Brought) (e : Registry) (all : List Compiled) → ((name : List ℕ) → find (λ (c : Compiled). bytes_eq name c.name) all ≡ compiled_at e.templates name)
-    → AllRun e → (o : Option Compiled) (t : Compiled) → o ≡ Some t → IsRunnableTemplate (tree_in t.source) → (w : World) (block : List ℕ)
+    → (o : Option Compiled) (t : Compiled) → o ≡ Some t → (w : World) (block : List ℕ)
     → (n : ℕ) × IsFinished (block_run (named_so (own_name o) (walks_of (setting_of k e) (option_map standing_of o))) w block n).end
-state_block_ends k e all found running o t is runs w block =
+state_block_ends k e all found o t is w block =
     subst (λ (x : Option Compiled). (n : ℕ) × IsFinished (block_run (named_so (own_name x) (walks_of (setting_of k e) (option_map standing_of x))) w block n).end) (sym is)
-    (block_ends (setting_of k e) (names_of all) (lists_all k e all found) (all_run k e running) (standing_of t) runs w block)
+    (block_ends (setting_of k e) (names_of all) (lists_all k e all found) (all_run k e) (standing_of t) (tree_runs t.source) w block)

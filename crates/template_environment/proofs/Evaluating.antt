@@ -23,6 +23,7 @@ use Rattle.template_machine_renders.specs.Outcomes.{TellsFailures}
 use Rattle.template_machine_renders.specs.Renders.{GivesValue}
 use Rattle.template_machine_renders.specs.Runs.{Evaluates}
 use Rattle.template_machine_renders.proofs.Coming.{expressions_evaluate}
+use Rattle.template_compiled.proofs.Alone.{expression_in_runs}
 use Rattle.template_compiled.specs.Expressions.{IsFaithfulExpression, code_alone, expression_in}
 use Rattle.template_environment.specs.Evaluations.{Gives}
 use Rattle.template_environment.specs.Extras.{Brought}
@@ -67,7 +68,8 @@ comes : (k : Brought) (e : Registry) (id : ℕ) (source : List ℕ) (context : V
     (before taken : Option (List ℕ)) (result : Result Val (List ErrorKind)) → IsRunOfExpression k e id source context s code w
     → Evaluates s code w e.fuel before result after left taken → GivesValue result after (under e.fuel (evaluation_in k e id source context))
 comes k e id source context s code w after left before taken result of runs =
-    expressions_evaluate (setting_of k e) (expression_in source) of.faithful.has_expression.1 (first_world id e.globals no_head context) after refl e.fuel left before taken result
+    expressions_evaluate (setting_of k e) (expression_in source) (expression_in_runs source) (first_world id e.globals no_head context) after
+    (record { blocks = refl; macros = refl; loops = λ number. refl }) e.fuel left before taken result
     (evaluates_alike (codes_of (setting_of k e) None) (standalone_code (expression_in source)) _ e.fuel before result after left taken
     (subst (λ (x : World). Evaluates (codes_of (setting_of k e) None) (code_alone source) x e.fuel before result after left taken) of.start
     (subst (λ (cs : List Code). Evaluates (codes_of (setting_of k e) None) cs w e.fuel before result after left taken) of.is_code

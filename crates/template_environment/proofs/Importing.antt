@@ -1,15 +1,16 @@
--- Sources import names, and store what they import under names: so the grammar has it.
+-- Sources import names, store what they import under names, and macros' parameters are names: so the grammar has it.
 use Rattle.std.proofs.Common.{◌≡◌, ℕ, List, Option, None, Some, Result, Ok, Err, refl, sym, subst}
 use Rattle.std.specs.Option.{option_map}
 use Rattle.std.proofs.lemmas.Option.{none-some, same_Some}
-use Rattle.template_tree.specs.Tree.{Expression, Optional, absent, given, Statement, Statements, no_statements, statements_more, Imports, no_imports, imports_more}
+use Rattle.template_tree.specs.Tree.{Expression, Expressions, no_expressions, expressions_more, Optional, absent, given, Statement, Statements, no_statements, statements_more, Imports, no_imports, imports_more}
 use Rattle.template_compiler_tokens.specs.Token.{Token, TokenFault}
 use Rattle.template_compiler_segments.proofs.Theorems.{some_tokens}
-use Rattle.template_compiler_grammar.specs.TemplateGrammar.{Around, IsStored, stored, IsMore, more_end, more_next, IsImport, same_name, other_name, IsStatements, statements_end, statements_next, IsStatement, text_statement, print_statement, for_statement, if_statement, with_statement, set_statement, set_block_statement, autoescape_statement, filter_statement, block_statement, import_statement, from_statement, extends_statement, include_statement, macro_statement, call_statement, do_statement, break_statement, continue_statement, IsBranches, branches_end, branches_next, IsElse, no_else, an_else, IsTemplate, whole_template}
+use Rattle.template_compiler_grammar.specs.TemplateGrammar.{Around, IsStored, stored, IsMore, more_end, more_next, IsImport, same_name, other_name, IsParameter, plain_parameter, default_parameter, IsParameters, none_declared, some_declared, IsOptionalParameters, not_declared, declared, IsStatements, statements_end, statements_next, IsStatement, text_statement, print_statement, for_statement, if_statement, with_statement, set_statement, set_block_statement, autoescape_statement, filter_statement, block_statement, import_statement, from_statement, extends_statement, include_statement, macro_statement, call_statement, do_statement, break_statement, continue_statement, IsBranches, branches_end, branches_next, IsElse, no_else, an_else, IsTemplate, whole_template}
 use Rattle.template_compiler_grammar.specs.TemplateReader.{template_of}
-use Rattle.template_compiler_grammar.specs.TemplateTrees.{and_statement, and_import, Branches, no_branches, branches_more, and_branch, branched}
+use Rattle.template_compiler_grammar.specs.Trees.{and_expression}
+use Rattle.template_compiler_grammar.specs.TemplateTrees.{and_statement, and_import, Branches, no_branches, branches_more, and_branch, branched, Parameters}
 use Rattle.template_compiler_grammar_laws.proofs.TemplatesSound.{template_sound}
-use Rattle.template_machine_meaning.specs.Isolation.{IsName, AreNames, ImportsNamesAt, ImportsNames}
+use Rattle.template_machine_meaning.specs.Isolation.{IsName, AreNames, AreAllNames, ImportsNamesAt, ImportsNames}
 use Rattle.template_machine_meaning.specs.Meaning.{Standing}
 use Rattle.template_compiled.specs.Compiled.{Compiled, standing_of}
 use Rattle.template_compiled.specs.Sources.{Source, read, tree_in}
@@ -35,6 +36,29 @@ import_named {is = is} (other_name {n = n} {a = a} name alias all) are =
 imports_named : {is js : Imports} {ts us : List Token} → IsMore IsImport is ts js us → AreNames is → AreNames js
 imports_named more_end are = are
 imports_named (more_next one more) are = imports_named more (import_named one are)
+
+-- one parameter more behind others
+and_name : (es : Expressions) (e : Expression) → AreAllNames es → IsName e → AreAllNames (and_expression es e)
+and_name no_expressions e are is = (is, tt)
+and_name (expressions_more a rest) e are is = (are.0, and_name rest e are.1 is)
+
+parameter_named : {d : ℕ} {p q : Parameters} {ts us : List Token} → IsParameter d p ts q us → AreAllNames p.0 → AreAllNames q.0
+parameter_named (plain_parameter {a = a} {p = p} name none is) are =
+    subst (λ (r : Parameters). AreAllNames r.0) (sym is) (and_name p.0 a are (name_stored name))
+parameter_named (default_parameter {a = a} {p = p} name e is) are =
+    subst (λ (r : Parameters). AreAllNames r.0) (sym is) (and_name p.0 a are (name_stored name))
+
+more_named : {d : ℕ} {p q : Parameters} {ts us : List Token} → IsMore (IsParameter d) p ts q us → AreAllNames p.0 → AreAllNames q.0
+more_named more_end are = are
+more_named (more_next one more) are = more_named more (parameter_named one are)
+
+parameters_named : {d : ℕ} {q : Parameters} {ts us : List Token} → IsParameters d ts q us → AreAllNames q.0
+parameters_named (none_declared is) = subst (λ (r : Parameters). AreAllNames r.0) (sym is) tt
+parameters_named (some_declared one more) = more_named more (parameter_named one tt)
+
+declared_named : {d : ℕ} {q : Parameters} {ts us : List Token} → IsOptionalParameters d ts q us → AreAllNames q.0
+declared_named (not_declared begins is) = subst (λ (r : Parameters). AreAllNames r.0) (sym is) tt
+declared_named (declared parameters) = parameters_named parameters
 
 -- one statement more behind others
 and_imports : (ss : Statements) (s : Statement) → ImportsNames ss → ImportsNamesAt s → ImportsNames (and_statement ss s)
@@ -83,8 +107,8 @@ mutual
   statement_imports (from_statement e one more c) = imports_named more (import_named one tt)
   statement_imports (extends_statement e) = tt
   statement_imports (include_statement e m) = tt
-  statement_imports (macro_statement free q body is) = subst ImportsNamesAt (sym is) tt
-  statement_imports (call_statement q c body is) = subst ImportsNamesAt (sym is) tt
+  statement_imports (macro_statement free parameters body is) = subst ImportsNamesAt (sym is) (parameters_named parameters, statements_import body tt)
+  statement_imports (call_statement parameters c body is) = subst ImportsNamesAt (sym is) (declared_named parameters, statements_import body tt)
   statement_imports (do_statement e) = tt
   statement_imports (break_statement l) = tt
   statement_imports (continue_statement l) = tt

@@ -1,11 +1,13 @@
 pub mod Numbered
 pub mod Listed
+pub mod Parted
 pub mod Rendering
 pub mod Ending
 pub mod Importing
 pub mod Capturing
 pub mod Beginning
 pub mod Calling
+pub mod Told
 pub mod Naming
 pub mod Plain
 pub mod Sourced

@@ -7,25 +7,18 @@ use Rattle.template_values_model.specs.Val.{Val}
 use Rattle.template_tree.specs.Tree.{Statements}
 use Rattle.template_process.specs.Approximants.{IsFinished}
 use Rattle.template_process.specs.Fuel.{under}
-use Rattle.template_process.specs.Process.{Process}
 use Rattle.template_walk.specs.Blocks.{Block, blocks_in, block_among, block_named}
 use Rattle.template_walk.specs.Runnable.{IsRunnableTemplate}
-use Rattle.template_code.specs.Code.{Code}
-use Rattle.template_code.specs.Steps.{exec}
 use Rattle.template_code_blocks.specs.Streams.{BlockStream, heads_of, stream_among}
-use Rattle.template_compiler_codegen.specs.Statements.{template_code}
-use Rattle.template_compiler_numbers.proofs.Alike.{numbers_run_alike}
-use Rattle.template_compiler_runnable.specs.Running.{statements_run}
-use Rattle.template_compiler_runnable.proofs.Decided.{Decides-statements_run}
 use Rattle.template_machine_meaning.specs.World.{World, first_world}
 use Rattle.template_machine_meaning.specs.Surroundings.{Programs}
 use Rattle.template_machine_meaning.specs.Keys as keys
-use Rattle.template_machine_meaning.specs.Keys.{Home, Stream, own, block_of, Part, whole, body_of, rounds_of}
+use Rattle.template_machine_meaning.specs.Keys.{Home, Stream, own, block_of, Part}
 use Rattle.template_machine_meaning.specs.Meaning as meanings
-use Rattle.template_machine_meaning.specs.Meaning.{Standing, template_at, tree_in, head_of, top}
+use Rattle.template_machine_meaning.specs.Meaning.{Standing, template_at, tree_of, head_of, top}
 use Rattle.template_machine_meaning.specs.Laws.{AreAllRunnable, ListsAll}
 use Rattle.template_machine_meaning.proofs.Ends.{every_run_ends}
-use Rattle.template_machine_codes.specs.Codes.{coded, codes_of}
+use Rattle.template_machine_codes.specs.Codes.{codes_of, part_coded}
 use Rattle.template_machine_renders.specs.Laws.{named_so}
 use Rattle.template_machine_renders.specs.Programs as units
 use Rattle.template_machine_renders.specs.Programs.{programs_of}
@@ -36,6 +29,7 @@ use Rattle.template_compiled.specs.Compiled.{Compiled, standing_of}
 use Rattle.template_compiled.specs.Sources as sources
 use Rattle.template_compiled.specs.Standing.{compiled_at}
 use Rattle.template_compiled.specs.Streams.{stream_of, streams_of}
+use Rattle.template_compiled.proofs.Trees.{tree_runs}
 use Rattle.template_environment.specs.Extras.{UserAnswers, Brought, joins_by}
 use Rattle.template_environment.specs.Reading.{brought_of, callables_of, extras_of, registry_of, setting_in}
 use Rattle.template_environment.specs.Renderings.{rendering}
@@ -43,15 +37,12 @@ use Rattle.template_environment.specs.Standing.{setting_of, unit_of, units_of}
 use Rattle.template_environment.specs.declared.environment.Environment.{Environment}
 use Rattle.template_environment.specs.declared.registry.Registry.{Registry}
 use Rattle.template_environment.proofs.Listed.{map_twice}
+use Rattle.template_environment.proofs.Parted.{parts_alike}
 
--- a code, under a bound
-abbrev runs_for : ℕ → List Code → Process
-runs_for n code = exec code n 0 []
-
-same_process : (n : ℕ) (o : Option Compiled) → option_map (runs_for n) (option_map (λ (u : units.Standing). u.code) (option_map unit_of o))
-    ≡ option_map (coded n) (option_map (λ (t : Standing). t.tree) (option_map standing_of o))
-same_process n None = refl
-same_process n (Some c) = (λ i. Some (numbers_run_alike (template_code (sources.tree_in c.source)) n 0 [] i))
+same_process : (n : ℕ) (part : Part) (o : Option Compiled) → option_and_then (units.part_in n part) (option_map (λ (u : units.Standing). u.code) (option_map unit_of o))
+    ≡ option_and_then (part_coded n part) (option_map (λ (t : Standing). t.tree) (option_map standing_of o))
+same_process n part None = refl
+same_process n part (Some c) = parts_alike (sources.tree_in c.source) n part
 
 -- the first block of a name has the first stream of that name
 named_as : (b : Bool) (x : Block) (later : Option Block) → option_map stream_of (cond b (Some x) later) ≡ cond b (Some (stream_of x)) (option_map stream_of later)
@@ -65,18 +56,18 @@ first_named name (b ∷ bs) =
     ∙ sym (named_as (bytes_eq b.name name) b (block_among name bs))
 
 -- that of a block
-same_body : (n : ℕ) (b : Option Block) → option_map (runs_for n) (option_map (λ (s : BlockStream). s.code) (option_map stream_of b))
-    ≡ option_map (coded n) (option_map (λ (x : Block). x.body) b)
-same_body n None = refl
-same_body n (Some b) = (λ i. Some (numbers_run_alike (template_code b.body) n 0 [] i))
+same_body : (n : ℕ) (part : Part) (b : Option Block) → option_and_then (units.part_in n part) (option_map (λ (s : BlockStream). s.code) (option_map stream_of b))
+    ≡ option_and_then (part_coded n part) (option_map (λ (x : Block). x.body) b)
+same_body n part None = refl
+same_body n part (Some b) = parts_alike b.body n part
 
-same_block : (n : ℕ) (name : List ℕ) (o : Option Compiled)
-    → option_map (runs_for n) (option_map (λ (s : BlockStream). s.code) (option_and_then (units.stream_at name) (option_map unit_of o)))
-    ≡ option_map (coded n) (option_and_then (meanings.body_of name) (option_map standing_of o))
-same_block n name None = refl
-same_block n name (Some c) =
-    ap (λ (s : Option BlockStream). option_map (runs_for n) (option_map (λ (s : BlockStream). s.code) s)) (first_named name (blocks_in (sources.tree_in c.source)))
-    ∙ same_body n (block_named name (sources.tree_in c.source))
+same_block : (n : ℕ) (part : Part) (name : List ℕ) (o : Option Compiled)
+    → option_and_then (units.part_in n part) (option_map (λ (s : BlockStream). s.code) (option_and_then (units.stream_at name) (option_map unit_of o)))
+    ≡ option_and_then (part_coded n part) (option_and_then (meanings.body_of name) (option_map standing_of o))
+same_block n part name None = refl
+same_block n part name (Some c) =
+    ap (λ (s : Option BlockStream). option_and_then (units.part_in n part) (option_map (λ (s : BlockStream). s.code) s)) (first_named name (blocks_in (sources.tree_in c.source)))
+    ∙ same_body n part (block_named name (sources.tree_in c.source))
 
 -- the names of blocks
 pub same_heads : (tree : Statements) → heads_of (streams_of tree) ≡ map (λ (b : Block). (b.name, b.required)) (blocks_in tree)
@@ -87,27 +78,24 @@ same_head None = refl
 same_head (Some c) = (λ i. Some (record { escape = c.escape; blocks = same_heads (sources.tree_in c.source) i }))
 
 module _ (k : Brought) (e : Registry) (root : Option Compiled) where
-  home_process : (n : ℕ) (home : Home) → option_map (runs_for n) (option_map (λ (u : units.Standing). u.code) (units.template_at (units_of e) (option_map unit_of root) home))
-      ≡ option_map (coded n) (option_map (λ (t : Standing). t.tree) (template_at (setting_of k e) (option_map standing_of root) home))
-  home_process n keys.rendered = same_process n root
-  home_process n (keys.standing name) = same_process n (compiled_at e.templates name)
-  home_process n (keys.kept number) = refl
+  home_process : (n : ℕ) (part : Part) (home : Home)
+      → option_and_then (units.part_in n part) (option_map (λ (u : units.Standing). u.code) (units.template_at (units_of e) (option_map unit_of root) home))
+      ≡ option_and_then (part_coded n part) (option_map (λ (t : Standing). t.tree) (template_at (setting_of k e) (option_map standing_of root) home))
+  home_process n part keys.rendered = same_process n part root
+  home_process n part (keys.standing name) = same_process n part (compiled_at e.templates name)
+  home_process n part (keys.kept number) = refl
 
-  block_process : (n : ℕ) (name : List ℕ) (home : Home)
-      → option_map (runs_for n) (option_map (λ (s : BlockStream). s.code) (units.block_at (units_of e) (option_map unit_of root) home name))
-      ≡ option_map (coded n) (option_and_then (meanings.body_of name) (template_at (setting_of k e) (option_map standing_of root) home))
-  block_process n name keys.rendered = same_block n name root
-  block_process n name (keys.standing other) = same_block n name (compiled_at e.templates other)
-  block_process n name (keys.kept number) = refl
+  block_process : (n : ℕ) (part : Part) (name : List ℕ) (home : Home)
+      → option_and_then (units.part_in n part) (option_map (λ (s : BlockStream). s.code) (units.block_at (units_of e) (option_map unit_of root) home name))
+      ≡ option_and_then (part_coded n part) (option_and_then (meanings.body_of name) (template_at (setting_of k e) (option_map standing_of root) home))
+  block_process n part name keys.rendered = same_block n part name root
+  block_process n part name (keys.standing other) = same_block n part name (compiled_at e.templates other)
+  block_process n part name (keys.kept number) = refl
 
-  part_process : (n : ℕ) (stream : Stream) (part : Part) → option_map (runs_for n) (units.code_in_part (units_of e) (option_map unit_of root) stream part)
-      ≡ option_map (coded n) (tree_in (setting_of k e) (option_map standing_of root) stream part)
-  part_process n (own home) whole = home_process n home
-  part_process n (own home) (body_of number operands) = refl
-  part_process n (own home) (rounds_of number) = refl
-  part_process n (block_of home name) whole = block_process n name home
-  part_process n (block_of home name) (body_of number operands) = refl
-  part_process n (block_of home name) (rounds_of number) = refl
+  part_process : (n : ℕ) (part : Part) (stream : Stream) → option_and_then (units.part_in n part) (units.code_at (units_of e) (option_map unit_of root) stream)
+      ≡ option_and_then (part_coded n part) (tree_of (setting_of k e) (option_map standing_of root) stream)
+  part_process n part (own home) = home_process n part home
+  part_process n part (block_of home name) = block_process n part name home
 
   home_head : (home : Home) → option_map units.head_of (units.template_at (units_of e) (option_map unit_of root) home) ≡ option_map head_of (template_at (setting_of k e) (option_map standing_of root) home)
   home_head keys.rendered = same_head root
@@ -118,7 +106,7 @@ module _ (k : Brought) (e : Registry) (root : Option Compiled) where
   pub same_programs : (name : List ℕ) → programs_of (units_of e) k.joins k.callables (option_map unit_of root) name e.recursion_limit e.undefined_behavior
       ≡ named_so name (codes_of (setting_of k e) (option_map standing_of root))
   same_programs name = λ i. record {
-    process = λ n key. part_process n key.stream key.part i;
+    process = λ n key. part_process n key.part key.stream i;
     around = record {
       name = name;
       callables = k.callables;
@@ -177,28 +165,23 @@ render_stopped X k e id c context s w after set fuel left before taken kinds sam
     (subst (λ (p : Programs). KeyRuns {X = X} p top w fuel before (Err kinds) after left taken) of.programs runs))
     n finished)
 
--- all that stands runs
-abbrev pub AllRun : Registry → Type 0
-AllRun e = (name : List ℕ) (c : Compiled) → compiled_at e.templates name ≡ Some c → statements_run false (sources.tree_in c.source) ≡ true
-
 never : {t : Standing} → None ≡ Some t → ⊥
 never at = cc
 
 one : {t u : Standing} → Some t ≡ Some u → t ≡ u
 one at = cc
 
-runs_there : (o : Option Compiled) → ((c : Compiled) → o ≡ Some c → statements_run false (sources.tree_in c.source) ≡ true) → (t : Standing) → option_map standing_of o ≡ Some t
-    → IsRunnableTemplate t.tree
-runs_there None running t at = absurd (never at)
-runs_there (Some c) running t at =
-    subst (λ (u : Standing). IsRunnableTemplate u.tree) (one at) ((Decides-statements_run false (sources.tree_in c.source)).0 (running c refl))
+runs_there : (o : Option Compiled) (t : Standing) → option_map standing_of o ≡ Some t → IsRunnableTemplate t.tree
+runs_there None t at = absurd (never at)
+runs_there (Some c) t at = subst (λ (u : Standing). IsRunnableTemplate u.tree) (one at) (tree_runs c.source)
 
-pub all_run : (k : Brought) (e : Registry) → AllRun e → AreAllRunnable (setting_of k e)
-all_run k e running name t at = runs_there (compiled_at e.templates name) (running name) t at
+-- all that stands runs
+pub all_run : (k : Brought) (e : Registry) → AreAllRunnable (setting_of k e)
+all_run k e name t at = runs_there (compiled_at e.templates name) t at
 
 -- every render ends, where names list all that stands
-pub render_ends : (k : Brought) (e : Registry) (names : List (List ℕ)) (id : ℕ) (c : Compiled) (context : Val) → ListsAll (setting_of k e) names → AllRun e
-    → IsRunnableTemplate (sources.tree_in c.source) → (n : ℕ) × IsFinished (rendering k e id c n context).end
-render_ends k e names id c context lists running runs =
-    every_run_ends (setting_of k e) names lists (all_run k e running) (standing_of c) runs (first_world id e.globals (head_of (standing_of c)) context)
+pub render_ends : (k : Brought) (e : Registry) (names : List (List ℕ)) (id : ℕ) (c : Compiled) (context : Val) → ListsAll (setting_of k e) names
+    → (n : ℕ) × IsFinished (rendering k e id c n context).end
+render_ends k e names id c context lists =
+    every_run_ends (setting_of k e) names lists (all_run k e) (standing_of c) (tree_runs c.source) (first_world id e.globals (head_of (standing_of c)) context)
     (record { framed = omega arith; floor = omega arith; alone = refl })

@@ -1,5 +1,5 @@
 -- What contracts see of a state.
-use Rattle.std.specs.Prelude.{◌≡◌, ℕ, List, [], ◌∷◌, Option, None, Result, Ok, Err, String, codes, option_copied, string_bytes}
+use Rattle.std.specs.Prelude.{◌≡◌, ◌⊎◌, ℕ, List, [], ◌∷◌, Option, None, Result, Ok, Err, String, codes, option_copied, string_bytes}
 use Rattle.std.specs.Global.{Global}
 use Rattle.std.specs.Option.{option_map, option_map_or}
 use Rattle.template_values_errors.specs.declared.ErrorKind.{ErrorKind}
@@ -8,16 +8,26 @@ use Rattle.template_values_errors.specs.declared.modes.UndefinedBehavior.TheVari
 use Rattle.template_values_model.specs.Val.{Val, undefined}
 use Rattle.template_callables.specs.Callables.{no_callables}
 use Rattle.template_callables.specs.Joins.{keeps_name}
+use Rattle.template_values_errors.specs.Memory.{NoMemory}
+use Rattle.template_process.specs.Fuel.{under}
+use Rattle.template_process.specs.Process.{Answer, tells, value}
 use Rattle.template_process.specs.Trace.{Reply, Run}
-use Rattle.template_machine_meaning.specs.Calls.{call_reply}
-use Rattle.template_machine_meaning.specs.Functions.{Invoked, invokes}
+use Rattle.template_machine_meaning.specs.Calls.{call_plan}
+use Rattle.template_machine_meaning.specs.Captures.{captured}
+use Rattle.template_machine_meaning.specs.Functions.{Invoked, found_called, invokes}
 use Rattle.template_machine_meaning.specs.Keys.{Around, Head}
 use Rattle.template_machine_meaning.specs.Meaning.{head_of, no_head, walks_of}
 use Rattle.template_machine_meaning.specs.Names as names
+use Rattle.template_machine_meaning.specs.Plans.{Plan, with_turning}
 use Rattle.template_machine_meaning.specs.Surroundings.{Programs, text_reply, written_reply}
-use Rattle.template_machine_meaning.specs.World.{Globals, World, first_world}
+use Rattle.template_machine_meaning.specs.Turnings.{to_text}
+use Rattle.template_machine_meaning.specs.World.{Globals, World, first_world, keeps, looked_up}
+use Rattle.template_machine_going.specs.Paying.{Paid}
 use Rattle.template_machine_calls.specs.Formatted.{outside}
+use Rattle.template_machine_codes.specs.Codes.{codes_of}
 use Rattle.template_machine_renders.specs.Laws.{block_run, named_so}
+use Rattle.template_machine_renders.specs.Plans.{DoesPlan, replies_of, run_of}
+use Rattle.template_machine_renders.specs.Renders.{FaultsAs, IsOver}
 use Rattle.template_compiled.specs.Compiled.{Compiled, standing_of}
 use Rattle.template_environment.specs.Extras.{UserAnswers}
 use Rattle.template_environment.specs.Reading.{setting_in}
@@ -100,9 +110,30 @@ module _ {E C M F J R : Type 0} where
   abbrev pub around_in : UserAnswers C M F J → State E C M F J R → Around
   around_in says s = (programs_in says s).around
 
-  -- what a call of what a user brought comes to in it
-  abbrev pub call_in : UserAnswers C M F J → State E C M F J R → Invoked → List Val → Reply World
-  call_in says s what vs = call_reply (around_in says s) (world_in s) (invokes what vs)
+  -- what a call of what a user brought comes to in it, under a bound
+  abbrev pub call_in : UserAnswers C M F J → State E C M F J R → Invoked → List Val → ℕ → Reply World
+  call_in says s what vs n = replies_of (programs_in says s) (call_plan (around_in says s) (world_in s) (invokes what vs)) (world_in s) n
+
+  -- the plan of a call of what stands under a name; and the text that it comes to, under a bound
+  abbrev pub found_in : UserAnswers C M F J → State E C M F J R → List ℕ → List Val → Plan
+  found_in says s name vs = call_plan (around_in says s) (world_in s) (found_called (world_in s).globals (looked_up name (world_in s)) vs)
+
+  abbrev pub macro_in : UserAnswers C M F J → State E C M F J R → List ℕ → List Val → ℕ → Reply World
+  macro_in says s name vs n = replies_of (programs_in says s) (with_turning to_text (found_in says s name vs)) (world_in s) n
+
+  -- a text as a value in it, which is safe under an escape
+  abbrev pub worded_in : State E C M F J R → String Global → Answer
+  worded_in s text = value (captured (world_in s).escape (keeps (string_bytes text)))
+
+  -- the programs of code that run in it
+  abbrev pub codes_in : UserAnswers C M F J → State E C M F J R → Programs
+  codes_in says s = named_so (own_name_in s) (codes_of (setting_in says (environment_in s)) (option_map standing_of (template_in s)))
+
+  -- A call does by code what a plan comes to in a state, under the fuel that remains, and gives its value; it leaves the second state.
+  pub record DoesThere (says : UserAnswers C M F J) (plan : Plan) (old new : State E C M F J R) (result : Result Val (List ErrorKind)) : Type 0 where
+    pub left : Option ℕ
+    pub does : DoesPlan value (codes_in says old) plan (world_in old) (fuel_left_in old) None result (world_in new) left None
+    pub spent : (price : ℕ) → Paid price (fuel_left_in old) left → fuel_left_in new ≡ left
 
   -- what a block comes to in it, under a bound
   abbrev pub block_in : UserAnswers C M F J → State E C M F J R → List ℕ → ℕ → Run World
@@ -115,6 +146,11 @@ module _ {E C M F J R : Type 0} where
   -- the name that is meant by a name in it, or the kinds of a fault
   abbrev pub joined_in : UserAnswers C M F J → State E C M F J R → List ℕ → Result (List ℕ) (List ErrorKind)
   joined_in says s name = (setting_in says (environment_in s)).joins name (name_in s)
+
+-- The call gives the answer that is told, where the fuel lasts; else it answers with the fault. Or a growth was refused.
+abbrev pub GivesTold : {X : Type 0} → (X → Answer) → Option ℕ → Result X (List ErrorKind) → Reply World → Type 0
+GivesTold give fuel (Ok x) r = IsOver (under fuel (run_of r)).end × (r.told ≡ tells (give x))
+GivesTold give fuel (Err kinds) r = FaultsAs (under fuel (run_of r)) kinds ⊎ NoMemory kinds
 
 -- a text was made
 abbrev pub text_left : String Global → World → Reply World

@@ -3,6 +3,7 @@ ghost use Rattle.std.specs.Prelude.{◌≡◌, ℕ, List};
 ghost use Rattle.std.specs.Option.{ForSome};
 ghost use Rattle.template_values_model.specs.Val.{Val};
 ghost use Rattle.template_process.specs.Approximants.{IsFinished};
+ghost use Rattle.template_walk.specs.Runnable.{IsRunnable, IsRunnableTemplate};
 ghost use Rattle.template_machine_meaning.specs.Isolation.{AskNoNames};
 ghost use Rattle.template_machine_meaning.specs.World.{first_world};
 ghost use Rattle.template_compiled.specs.Expressions.{HasExpression, expression_in};
@@ -27,14 +28,16 @@ use template_machine_meaning::isolation;
 /// A law: the source of each template, also of one that stands in the environment, has the tree that it is read to, and all
 /// constructs of that run.
 pub fn every_template_runs<E: Extension>(template: &Template<'_, '_, E>)
-    ensures { HasTree (source_of template.now) (tree_of template.now) }
+    ensures tree { HasTree (source_of template.now) (tree_of template.now) }
+    ensures runs { IsRunnableTemplate (tree_of template.now) }
 {
     let _code = template.compiled.get().instructions();
 }
 
 /// A law: the source of each expression is the one that it is read to, and all constructs of that run.
 pub fn every_expression_runs<E: Extension>(expression: &Expression<'_, '_, E>)
-    ensures { HasExpression (text_of expression.now) (expression_in (text_of expression.now)) }
+    ensures expression { HasExpression (text_of expression.now) (expression_in (text_of expression.now)) }
+    ensures runs { IsRunnable (expression_in (text_of expression.now)) }
 {
     let _code = expression.compiled.instructions();
 }

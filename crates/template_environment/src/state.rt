@@ -5,15 +5,17 @@ ghost use Rattle.template_values_errors.specs.Memory.{NoMemory};
 ghost use Rattle.template_values_named.specs.Named.{local_at};
 ghost use Rattle.template_process.specs.Approximants.{IsFinished};
 ghost use Rattle.template_process.specs.Fuel.{under};
+ghost use Rattle.template_process.specs.Process.{value};
+ghost use Rattle.template_values_model.specs.Val.{truth};
 ghost use Rattle.template_machine_going.specs.Paying.{Paid};
 ghost use Rattle.template_machine_meaning.specs.Calls.{with_temps};
 ghost use Rattle.template_machine_meaning.specs.Functions.{filter_named, test_named};
 ghost use Rattle.template_machine_meaning.specs.World.{looked_up};
 ghost use Rattle.template_machine_calls.specs.Formatted.{outside};
-ghost use Rattle.template_machine_calls.specs.Left.{KeptInWant, Replied, truth_left, value_left};
+ghost use Rattle.template_machine_calls.specs.Left.{Replied, entry_plan, reached_by};
 ghost use Rattle.template_machine_renders.specs.Joining.{told_name};
 ghost use Rattle.template_machine_renders.specs.Outcomes.{TellsFailures};
-ghost use Rattle.template_machine_renders.specs.Plans.{PutsBack};
+ghost use Rattle.template_machine_renders.specs.Plans.{PutsBack, run_of};
 ghost use Rattle.template_machine_renders.specs.Renders.{Renders, leaves};
 ghost use Rattle.template_machine_state.specs.Names.{is_exported};
 ghost use Rattle.template_environment.specs.Extras.{user_answers};
@@ -27,13 +29,17 @@ use crate::template::Template;
 use std::collections::BTreeSet;
 use template_callables::{Extension, NoExtension};
 use template_compiled::CompiledTemplate;
-use template_machine_calls::{call_filter, call_test, format_value};
-use template_machine_output::Sink;
-use template_machine_renders::{Templates, run_block};
+use template_machine_calls::{
+    Entry, Reached, call_filter, call_found, call_test, format_value, turn_all,
+};
+use template_machine_output::{NullWriter, Sink};
+use template_machine_renders::{Templates, run_block, run_entry};
 use template_machine_state::State as MachineState;
 use template_machine_surroundings::StateIds;
 use template_values_core::Value;
 use template_values_errors::{AutoEscape, Error, ErrorKind, UndefinedBehavior};
+use template_values_operators::growth::copies;
+use template_values_text::print_to;
 
 /// What surrounds a template: as a render of it left it, or without any frame.
 pub struct State<'env, 'source, E: Extension = NoExtension> {
@@ -60,7 +66,7 @@ impl<'env, 'source, E: Extension> Drop for State<'env, 'source, E> {
 
 impl<'env, 'source, E: Extension> State<'env, 'source, E> {
     ghost use Rattle.template_environment.specs.Standing.{settings_of, source_at};
-    ghost use Rattle.template_environment.specs.States.{IsMissing, KeepsRest, KeepsState, block_in, call_in, environment_in, format_in, frameless, fuel_left_in, fuel_set_in, head_of_template, id_in, joined_in, name_in, template_in, text_left, world_in};
+    ghost use Rattle.template_environment.specs.States.{DoesThere, GivesTold, IsMissing, KeepsRest, KeepsState, around_in, block_in, call_in, environment_in, format_in, frameless, fuel_left_in, fuel_set_in, head_of_template, id_in, joined_in, macro_in, name_in, template_in, text_left, worded_in, world_in};
     ghost use Rattle.template_environment.specs.Views.{environment_of, name_of, source_of};
 
     // A state without frames, of a template if one is given, with its escape and blocks, that has consumed no fuel.
@@ -176,24 +182,32 @@ impl<'env, 'source, E: Extension> State<'env, 'source, E> {
         self.machine.known_variables(self.environment.allocator())
     }
 
-    /// What a filter comes to for these arguments, the first of which is what it filters; and what it asks the machine further.
-    /// Costs what the filter costs, and what it asks for.
+    /// What a filter comes to for these arguments, the first of which is what it filters; and what it asks the machine further: that
+    /// may run a macro, rounds of a loop or a block, which consume the fuel that remains. Costs what the filter costs, and what it
+    /// asks for.
     ///
     /// # Errors
     ///
     /// [`ErrorKind::UnknownFilter`] where the environment has none of this name; the fault that the filter answers with, or what
     /// it asks for; [`ErrorKind::InvalidOperation`] where more is asked for at once than there are levels left, and in the
-    /// place of a fault with one of the machine's own kinds; [`ErrorKind::OutOfMemory`]. Some temps may then have been set.
+    /// place of a fault with one of the machine's own kinds; the fault of what runs; [`ErrorKind::OutOfMemory`]. Some temps may then
+    /// have been set.
     pub fn apply_filter(&mut self, name: &str, args: &[Value]) -> Result<Value, Error>
-        ensures told { Replied value_left (call_in (user_answers E.Callable.answer E.Method.answer E.Formatter.answer E.Join.answer) self.old (filter_named name.now) args.now)
-            result (world_in self.new) }
-        ensures temps { KeptInWant result (world_in self.old) (world_in self.new) }
-        ensures rest { KeepsRest self.old self.new }
+        // Under each bound where it is finished, it is what the call comes to.
+        ensures told { let called = call_in (user_answers E.Callable.answer E.Method.answer E.Formatter.answer E.Join.answer) self.old (filter_named name.now) args.now in
+            (n : ℕ) → IsFinished (run_of (called n)).end → GivesTold value (fuel_left_in self.old) result (called n) }
+        ensures remains { let called = call_in (user_answers E.Callable.answer E.Method.answer E.Formatter.answer E.Join.answer) self.old (filter_named name.now) args.now in
+            OnOk result ((n : ℕ) → IsFinished (run_of (called n)).end → fuel_left_in self.new ≡ leaves (fuel_left_in self.old) (run_of (called n))) }
+        ensures world { let called = call_in (user_answers E.Callable.answer E.Method.answer E.Formatter.answer E.Join.answer) self.old (filter_named name.now) args.now in
+            OnOk result ((n : ℕ) → IsFinished (run_of (called n)).end → world_in self.new ≡ (called n).after) }
+        ensures no_write_failure { IfErr result (λ kinds. kinds ≢ ErrorKind.WriteFailure ∷ []) }
+        ensures rest { KeepsState self.old self.new }
     {
         let environment = self.environment;
         let rules = environment.registry.rules(own_name(self.template));
         let alloc = environment.allocator();
-        call_filter(alloc, rules, environment, name, args, &mut self.machine)
+        let reached = call_filter(alloc, rules, environment, name, args, &mut self.machine)?;
+        self.come_to(reached)
     }
 
     /// What a test comes to for these arguments, the first of which is what it tests; and what it asks the machine further.
@@ -203,15 +217,102 @@ impl<'env, 'source, E: Extension> State<'env, 'source, E> {
     ///
     /// [`ErrorKind::UnknownTest`] where the environment has none of this name; else as [`State::apply_filter`].
     pub fn perform_test(&mut self, name: &str, args: &[Value]) -> Result<bool, Error>
-        ensures told { Replied truth_left (call_in (user_answers E.Callable.answer E.Method.answer E.Formatter.answer E.Join.answer) self.old (test_named name.now) args.now)
-            result (world_in self.new) }
-        ensures temps { KeptInWant result (world_in self.old) (world_in self.new) }
-        ensures rest { KeepsRest self.old self.new }
+        // Under each bound where it is finished, it is what the call comes to.
+        ensures told { let called = call_in (user_answers E.Callable.answer E.Method.answer E.Formatter.answer E.Join.answer) self.old (test_named name.now) args.now in
+            (n : ℕ) → IsFinished (run_of (called n)).end → GivesTold (λ is. value (truth is)) (fuel_left_in self.old) result (called n) }
+        ensures remains { let called = call_in (user_answers E.Callable.answer E.Method.answer E.Formatter.answer E.Join.answer) self.old (test_named name.now) args.now in
+            OnOk result ((n : ℕ) → IsFinished (run_of (called n)).end → fuel_left_in self.new ≡ leaves (fuel_left_in self.old) (run_of (called n))) }
+        ensures world { let called = call_in (user_answers E.Callable.answer E.Method.answer E.Formatter.answer E.Join.answer) self.old (test_named name.now) args.now in
+            OnOk result ((n : ℕ) → IsFinished (run_of (called n)).end → world_in self.new ≡ (called n).after) }
+        ensures no_write_failure { IfErr result (λ kinds. kinds ≢ ErrorKind.WriteFailure ∷ []) }
+        ensures rest { KeepsState self.old self.new }
     {
         let environment = self.environment;
         let rules = environment.registry.rules(own_name(self.template));
         let alloc = environment.allocator();
-        call_test(alloc, rules, environment, name, args, &mut self.machine)
+        let reached = call_test(alloc, rules, environment, name, args, &mut self.machine)?;
+        let value = self.come_to(reached)?;
+        Ok(value.is_true())
+    }
+
+    /// The text of what a call comes to of what stands under a name, with these arguments: of a macro that the template has made or
+    /// imported, over what is left of its closure and under the escape in force, or of a function. Keywords are one keyword map behind
+    /// the other arguments. The fuel that remains is consumed on. Costs what the call costs, and is linear in its text.
+    ///
+    /// # Errors
+    ///
+    /// [`ErrorKind::UnknownFunction`] where nothing stands under the name; [`ErrorKind::InvalidOperation`] at what cannot be called, as
+    /// a loop, where no level is left, and at a value that cannot be printed; [`ErrorKind::TooManyArguments`] at arguments that a macro
+    /// does not take; the fault of what runs, as [`ErrorKind::OutOfFuel`]; [`ErrorKind::OutOfMemory`]. Some temps may then have been set.
+    pub fn call_macro(&mut self, name: &str, args: &[Value]) -> Result<String, Error>
+        // Under each bound where it is finished, it is the text that the call comes to.
+        ensures told { let called = macro_in (user_answers E.Callable.answer E.Method.answer E.Formatter.answer E.Join.answer) self.old name.now args.now in
+            (n : ℕ) → IsFinished (run_of (called n)).end → GivesTold (worded_in self.new) (fuel_left_in self.old) result (called n) }
+        ensures remains { let called = macro_in (user_answers E.Callable.answer E.Method.answer E.Formatter.answer E.Join.answer) self.old name.now args.now in
+            OnOk result ((n : ℕ) → IsFinished (run_of (called n)).end → fuel_left_in self.new ≡ leaves (fuel_left_in self.old) (run_of (called n))) }
+        ensures world { let called = macro_in (user_answers E.Callable.answer E.Method.answer E.Formatter.answer E.Join.answer) self.old name.now args.now in
+            OnOk result ((n : ℕ) → IsFinished (run_of (called n)).end → world_in self.new ≡ (called n).after) }
+        ensures no_write_failure { IfErr result (λ kinds. kinds ≢ ErrorKind.WriteFailure ∷ []) }
+        ensures rest { KeepsState self.old self.new }
+    {
+        let environment = self.environment;
+        let rules = environment.registry.rules(own_name(self.template));
+        let alloc = environment.allocator();
+        let given = copies(alloc, args)?;
+        let reached = call_found(alloc, rules, environment, name, given, &mut self.machine)?;
+        let value = self.come_to(reached)?;
+        let mut text = String::new(alloc);
+        print_to(&value, &self.machine, &mut text)?;
+        Ok(text)
+    }
+
+    // What a call came to: a value, or that of what it enters, and what is made of it.
+    //
+    // # Errors
+    //
+    // Those of `turn_all` and `run_entry`.
+    fn come_to(&mut self, reached: Reached) -> Result<Value, Error>
+        ensures does { let says = user_answers E.Callable.answer E.Method.answer E.Formatter.answer E.Join.answer in
+            DoesThere says (reached_by (around_in says self.old) reached (world_in self.old)) self.old self.new result }
+        ensures no_write_failure { IfErr result (λ kinds. kinds ≢ ErrorKind.WriteFailure ∷ []) }
+        ensures rest { KeepsState self.old self.new }
+    {
+        match reached {
+            Reached::Value(value, turnings) => {
+                let alloc = self.environment.allocator();
+                turn_all(alloc, turnings, value, &self.machine)
+            }
+            Reached::Enters(entry) => self.enter(entry),
+        }
+    }
+
+    // The value of what a call enters, which runs with the fuel that remains; what it writes goes into captures alone.
+    //
+    // # Errors
+    //
+    // Those of `run_entry`.
+    fn enter(&mut self, entry: Entry) -> Result<Value, Error>
+        ensures does { let says = user_answers E.Callable.answer E.Method.answer E.Formatter.answer E.Join.answer in
+            DoesThere says (entry_plan (around_in says self.old) entry (world_in self.old)) self.old self.new result }
+        ensures no_write_failure { IfErr result (λ kinds. kinds ≢ ErrorKind.WriteFailure ∷ []) }
+        ensures rest { KeepsState self.old self.new }
+    {
+        let environment = self.environment;
+        let alloc = environment.allocator();
+        let mut left = remaining(self.fuel);
+        let mut scratch = String::new(alloc);
+        let mut sink = NullWriter;
+        let told = run_entry(
+            alloc,
+            program(environment, self.template),
+            entry,
+            &mut self.machine,
+            &mut left,
+            &mut scratch,
+            &mut sink,
+        );
+        self.fuel = spend(self.fuel, left);
+        told
     }
 
     /// What was set last under a name, by a callable or by [`State::set_temp`]. Logarithmic in the number of temps. The value

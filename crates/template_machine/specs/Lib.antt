@@ -50,6 +50,9 @@ pub use Rattle.template_machine_meaning.specs.Bodies
 pub use Rattle.template_machine_meaning.specs.Blocks
 pub use Rattle.template_machine_meaning.specs.Captures
 pub use Rattle.template_machine_meaning.specs.Includes
+pub use Rattle.template_machine_meaning.specs.Closures
+pub use Rattle.template_machine_meaning.specs.Macros
+pub use Rattle.template_machine_meaning.specs.Rounds
 pub use Rattle.template_machine_meaning.specs.Surroundings
 pub use Rattle.template_machine_meaning.specs.Meaning
 pub use Rattle.template_machine_meaning.specs.Laws

@@ -38,7 +38,7 @@
 //!   [`Environment::add_filter`], [`Environment::add_test`] and [`Environment::add_function`] take values of a type that is
 //!   [`Callable`], and [`Environment::set_unknown_method_callback`] one that is an [`UnknownMethod`]. Each answers by an
 //!   [`Answer`], from its arguments and what it sees of the run, a [`CallView`]. [`State::apply_filter`] and
-//!   [`State::perform_test`] call filters and tests without a render.
+//!   [`State::perform_test`] call filters and tests without a render, and [`State::call_macro`] a macro that a render left.
 //! - There [`Environment::set_formatter`] takes a [`Formatter`] too: it says by a [`FormatAnswer`] what is printed in the
 //!   place of each value, and [`State::format`] gives that text. [`Environment::set_path_join_callback`] takes a
 //!   [`PathJoin`], which says which template a name means that stands in another template.

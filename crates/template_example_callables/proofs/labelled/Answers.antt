@@ -13,7 +13,7 @@ use Rattle.template_example_callables.specs.Says.{labelled, methods_say, own_say
 use Rattle.template_example_callables.specs.declared.callables.FilterMethods.{FilterMethods}
 use Rattle.template_example_callables.specs.declared.callables.Own.{Own}
 use Rattle.template_example_callables.specs.declared.callables.Own.TheVariants as owns
-use Rattle.template_example_callables.proofs.Labels.{call_gives}
+use Rattle.template_example_callables.proofs.Labels.{call_gives, call_tells}
 use Rattle.template_example_callables.proofs.labelled.Goals as goal
 
 -- what each of them answers, where nothing says how values are printed, and which templates are meant
@@ -28,5 +28,6 @@ returns c =
     ∙ ap (λ (o : Option Own). option_map own_says o) shop.stands in
     let text = ap (λ (v : Val). labelled (string_bytes shop.label.prefix) (text_in v)) c.in_ok-text.ensures.made
     ∙ ap (λ (prefix : List ℕ). finishes [] (values.text (prefix ++ c.args.text.now))) shop.prefixed in
-    call_gives (around_in shop_says s) (world_in s) (world_in c.apply_filter.new.self) (own_says (owns.Label shop.label)) (codes "label")
-    (c.in_ok-text.text ∷ []) _ c.apply_filter.result there text c.apply_filter.ensures.told
+    call_gives _ _ _ c.apply_filter.result
+    (call_tells (around_in shop_says s) (world_in s) _ (own_says (owns.Label shop.label)) (codes "label") (c.in_ok-text.text ∷ []) _ there text)
+    c.apply_filter.ensures.told

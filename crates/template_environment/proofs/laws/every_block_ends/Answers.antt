@@ -1,8 +1,4 @@
-use Rattle.std.proofs.Common.{◌≡◌, ◌∙◌, option_copied, sym, ap, subst}
-use Rattle.std.proofs.lemmas.Option.{same_Some}
-use Rattle.template_walk.specs.Runnable.{IsRunnableTemplate}
-use Rattle.template_compiled.specs.Compiled.{Compiled}
-use Rattle.template_compiled.specs.Sources.{tree_in}
+use Rattle.std.proofs.Common.{option_copied}
 use Rattle.template_compiled.specs.Standing.{all_in}
 use Rattle.template_environment.specs.Extras.{user_answers}
 use Rattle.template_environment.specs.Reading.{brought_of, registry_of}
@@ -15,7 +11,5 @@ returns-in-Some g c = λ t at block.
     let environment = state.environment.now in
     let registry = registry_of environment in
     let says = (user_answers g.E.Callable.Callable.answer g.E.Method.UnknownMethod.answer g.E.Formatter.Formatter.answer g.E.Join.PathJoin.answer) in
-    let same : c.in-Some.template.now ≡ t = same_Some _ _ (sym (ap option_copied c.in-Some.is) ∙ at) in
-    state_block_ends (brought_of says environment) registry (all_in registry.templates) c.values-standing.ensures.found registry.templates.running
-    (option_copied state.template) t at (subst (λ (x : Compiled). IsRunnableTemplate (tree_in x.source)) same c.instructions-code.ensures.faithful.has_tree.1)
-    state.machine block
+    state_block_ends (brought_of says environment) registry (all_in registry.templates) c.values-standing.ensures.found
+    (option_copied state.template) t at state.machine block

@@ -15,5 +15,4 @@ returns g c = λ id context.
     let brought = brought_of (user_answers g.E.Callable.Callable.answer g.E.Method.UnknownMethod.answer g.E.Formatter.Formatter.answer g.E.Join.PathJoin.answer) c.args.template.now.environment.now in
     let all = all_in environment.templates in
     subst (λ (t : Compiled). (n : ℕ) × IsFinished (rendering brought environment id t n context).end) c.get.ensures
-    (render_ends brought environment (names_of all) id c.get.result.now context (lists_all brought environment all c.values-standing.ensures.found)
-    environment.templates.running c.instructions-code.ensures.faithful.has_tree.1)
+    (render_ends brought environment (names_of all) id c.get.result.now context (lists_all brought environment all c.values-standing.ensures.found))

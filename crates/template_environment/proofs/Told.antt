@@ -1,0 +1,310 @@
+-- From what a call comes to in a state by code to what it means there.
+use Rattle.std.proofs.Common.{◌≡◌, ◌≢◌, ◌⊎◌, inl, inr, ℕ, ◌-◌, Bool, List, [], ◌∷◌, Option, None, Some, Result, Ok, Err, IfErr, IsErrAnd, OnOk, refl, sym, ap, subst, ◌∙◌, arith}
+use Rattle.std.specs.Global.{Global}
+use Rattle.std.specs.Option.{option_map}
+use Rattle.std.specs.Prelude.{String, string_bytes}
+use Rattle.template_values_errors.specs.declared.ErrorKind.{ErrorKind}
+use Rattle.template_values_errors.specs.declared.ErrorKind.TheVariants.{WriteFailure}
+use Rattle.template_values_errors.specs.Memory.{NoMemory}
+use Rattle.template_values_model.specs.Val.{Val}
+use Rattle.template_values_model.specs.Val as values
+use Rattle.template_values_core.specs.Reads.{is_true}
+use Rattle.template_values_forms.specs.Truth as truths
+use Rattle.template_callables.specs.Callables.{Asked, Says}
+use Rattle.template_process.specs.Approximants.{IsFinished}
+use Rattle.template_process.specs.Fuel.{under}
+use Rattle.template_process.specs.Process as processes
+use Rattle.template_process.specs.Process.{Answer, Told, tells, fails, breaks_off, done, value, item, no_item, items, closure}
+use Rattle.template_process.specs.Trace.{Reply, price_of}
+use Rattle.template_machine_going.specs.Paying.{Paid}
+use Rattle.template_machine_meaning.specs.Calls.{answered_by, beyond, call_plan, said, stated_plan, view_of}
+use Rattle.template_machine_meaning.specs.Captures.{captured}
+use Rattle.template_machine_meaning.specs.Functions.{Called, Invoked, invokes, test_named, found_called}
+use Rattle.template_machine_meaning.specs.Keys.{Around}
+use Rattle.template_machine_meaning.specs.Plans.{Plan, Runners, replies, settled, with_turning}
+use Rattle.template_machine_meaning.specs.Records.{known_of}
+use Rattle.template_machine_meaning.specs.Replies.{kinded, told}
+use Rattle.template_machine_meaning.specs.Surroundings.{Programs, runners}
+use Rattle.template_machine_meaning.specs.Turnings.{Turning, to_text, to_truth, decided, turned_by}
+use Rattle.template_machine_meaning.specs.World.{World, keeps, looked_up, depth_of}
+use Rattle.template_machine_meaning.proofs.Fair.{fair_found}
+use Rattle.template_machine_meaning.proofs.RunsKept.{KeepsReply, PlanKeeps, kept_call, kept_turning, world_stays}
+use Rattle.template_machine_calls.specs.Hosted.{around_under}
+use Rattle.template_machine_calls.specs.Left.{Planned, KeptUnlessValue, entry_plan, reached_by, value_left, with_turnings}
+use Rattle.template_machine_calls.specs.declared.reached.Entry.{Entry}
+use Rattle.template_machine_calls.specs.declared.reached.Reached.{Reached}
+use Rattle.template_machine_calls.specs.declared.rules.Rules.{Rules}
+use Rattle.template_machine_loop.proofs.Turned.{settled_turning, turned_does, turned_halts}
+use Rattle.template_machine_renders.specs.Outcomes.{TellsFailures}
+use Rattle.template_machine_renders.specs.Plans.{DoesPlan, replies_of, run_of}
+use Rattle.template_machine_renders.specs.Renders.{FaultsAs, broken, whole, leaves}
+use Rattle.template_machine_renders.proofs.Calls.{TellsTo, calls_tell, codes_uniform, failed_does, planned_does, reached_does}
+use Rattle.template_compiled.specs.Compiled.{standing_of}
+use Rattle.template_environment.specs.Extras.{UserAnswers}
+use Rattle.template_environment.specs.Reading.{callables_of, registry_of, setting_in}
+use Rattle.template_environment.specs.States.{DoesThere, GivesTold, around_in, codes_in, environment_in, found_in, fuel_left_in, own_name_in, programs_in, template_in, worded_in, world_in}
+use Rattle.template_environment.specs.declared.state.State.{State}
+
+-- want of memory is no failure of a sink
+pub want_quiet : (kinds : List ErrorKind) → NoMemory kinds → kinds ≢ WriteFailure ∷ []
+want_quiet kinds want = λ failed. cc
+
+-- nor is what a plan fails with
+pub plan_quiet : (w after : World) (p : Plan) (kinds : List ErrorKind) → PlanKeeps w p → NoMemory kinds ⊎ (p ≡ replies (told after (fails kinds)))
+    → kinds ≢ WriteFailure ∷ []
+plan_quiet w after p kinds kept (inl want) = want_quiet kinds want
+plan_quiet w after p kinds kept (inr fault) = λ failed.
+    let keeps : KeepsReply w (told after (fails (WriteFailure ∷ []))) =
+    subst (λ (ks : List ErrorKind). KeepsReply w (told after (fails ks))) failed (subst (PlanKeeps w) fault kept) in
+    absurd (keeps.told.0)
+
+-- nor is what refuses to turn a value
+turnings_kept : (w : World) (ts : List Turning) (p : Plan) → PlanKeeps w p → PlanKeeps w (with_turnings ts p)
+turnings_kept w [] p kept = kept
+turnings_kept w (t ∷ ts) p kept = kept_turning w t (with_turnings ts p) (turnings_kept w ts p kept)
+
+value_kept : (w : World) (v : Val) → PlanKeeps w (value_left v w)
+value_kept w v = record { world = world_stays w; told = tt; wraps = tt }
+
+pub turned_quiet : (w : World) (ts : List Turning) (v : Val) (result : Result Val (List ErrorKind)) → Planned value_left (with_turnings ts (value_left v w)) result w
+    → IfErr result (λ kinds. kinds ≢ WriteFailure ∷ [])
+turned_quiet w ts v (Ok u) planned = tt
+turned_quiet w ts v (Err kinds) planned = plan_quiet w w (with_turnings ts (value_left v w)) kinds (turnings_kept w ts (value_left v w) (value_kept w v)) planned
+
+-- a sink that counts no failures has none
+pub sink_quiet : (failures : ℕ) (result : Result Val (List ErrorKind)) → TellsFailures result failures failures → IfErr result (λ kinds. kinds ≢ WriteFailure ∷ [])
+sink_quiet failures (Ok v) told = tt
+sink_quiet failures (Err kinds) (inl failed) = absurd (omega (arith, failed.1))
+sink_quiet failures (Err kinds) (inr quiet) = quiet.0
+
+-- the answer that is told, where no sink fails
+gives_told : (fuel : Option ℕ) (r : Reply World) (result : Result Val (List ErrorKind)) (after : World) (left : Option ℕ)
+    → IfErr result (λ kinds. kinds ≢ WriteFailure ∷ []) → TellsTo fuel r result after left None None → GivesTold value fuel result r
+gives_told fuel r (Ok v) after left quiet h = (h.2.over, h.0)
+gives_told fuel r (Err kinds) after left quiet (whole faulted text) = inl faulted
+gives_told fuel r (Err kinds) after left quiet (broken (inl want) begins) = inr want
+gives_told fuel r (Err kinds) after left quiet (broken (inr failed) begins) = absurd (quiet failed)
+
+-- a fault that is handed on
+err_told : {X : Type 0} (give : X → Answer) (fuel : Option ℕ) (r : Reply World) (result : Result X (List ErrorKind)) (kinds : List ErrorKind)
+    → FaultsAs (under fuel (run_of r)) kinds ⊎ NoMemory kinds → IsErrAnd result (λ ks. ks ≡ kinds) → GivesTold give fuel result r
+err_told give fuel r (Ok x) kinds why is = absurd is
+err_told give fuel r (Err ks) kinds why is = subst (λ qs. FaultsAs (under fuel (run_of r)) qs ⊎ NoMemory qs) (sym is) why
+
+pub err_quiet : {X : Type 0} (result : Result X (List ErrorKind)) (kinds : List ErrorKind) → kinds ≢ WriteFailure ∷ [] → IsErrAnd result (λ ks. ks ≡ kinds)
+    → IfErr result (λ ks. ks ≢ WriteFailure ∷ [])
+err_quiet (Ok x) kinds quiet is = absurd is
+err_quiet (Err ks) kinds quiet is = subst (λ qs. qs ≢ WriteFailure ∷ []) (sym is) quiet
+
+pub err_only : {X : Type 0} (P : Type 0) (result : Result X (List ErrorKind)) (kinds : List ErrorKind) → IsErrAnd result (λ ks. ks ≡ kinds) → OnOk result P
+err_only P (Ok x) kinds is = absurd is
+err_only P (Err ks) kinds is = tt
+
+-- no memory was left
+pub want_told : {X : Type 0} (give : X → Answer) (fuel : Option ℕ) (r : Reply World) (result : Result X (List ErrorKind)) (kinds : List ErrorKind)
+    → NoMemory kinds → IsErrAnd result (λ ks. ks ≡ kinds) → GivesTold give fuel result r
+want_told give fuel r result kinds want is = err_told give fuel r result kinds (inr want) is
+
+module _ {E C M F J R : Type 0} (says : UserAnswers C M F J) (s : State E C M F J R) where
+  -- what a plan means in the state, under a bound
+  abbrev pub meant : Plan → ℕ → Reply World
+  meant p n = replies_of (programs_in says s) p (world_in s) n
+
+  abbrev Finished : Plan → ℕ → Type 0
+  Finished p n = IsFinished (run_of (meant p n)).end
+
+  module _ (p : Plan) (kept : PlanKeeps (world_in s) p) where
+    tells_there : (t : State E C M F J R) (result : Result Val (List ErrorKind)) (there : DoesThere says p s t result) (n : ℕ) → Finished p n
+        → TellsTo (fuel_left_in s) (meant p n) result (world_in t) there.left None None
+    tells_there t result there n finished =
+        calls_tell (setting_in says (environment_in s)) (option_map standing_of (template_in s)) (own_name_in s) p (world_in s) kept n
+        (world_in t) (fuel_left_in s) there.left None None result there.does finished
+
+    pub told_there : (t : State E C M F J R) (result : Result Val (List ErrorKind)) → DoesThere says p s t result
+        → IfErr result (λ kinds. kinds ≢ WriteFailure ∷ []) → (n : ℕ) → Finished p n → GivesTold value (fuel_left_in s) result (meant p n)
+    told_there t result there quiet n finished =
+        gives_told (fuel_left_in s) (meant p n) result (world_in t) there.left quiet (tells_there t result there n finished)
+
+    pub remains_there : (t : State E C M F J R) (v : Val) → DoesThere says p s t (Ok v) → (n : ℕ) → Finished p n
+        → fuel_left_in t ≡ leaves (fuel_left_in s) (run_of (meant p n))
+    remains_there t v there n finished =
+        there.spent (price_of there.does.items) there.does.pays ∙ (tells_there t (Ok v) there n finished).2.left_is
+
+    pub world_there : (t : State E C M F J R) (v : Val) → DoesThere says p s t (Ok v) → (n : ℕ) → Finished p n → world_in t ≡ (meant p n).after
+    world_there t v there n finished = sym (tells_there t (Ok v) there n finished).1
+
+    -- so it is of a result
+    pub remains_so : (t : State E C M F J R) (result : Result Val (List ErrorKind)) → DoesThere says p s t result
+        → OnOk result ((n : ℕ) → Finished p n → fuel_left_in t ≡ leaves (fuel_left_in s) (run_of (meant p n)))
+    remains_so t (Ok v) there = remains_there t v there
+    remains_so t (Err kinds) there = tt
+
+    pub world_so : (t : State E C M F J R) (result : Result Val (List ErrorKind)) → DoesThere says p s t result
+        → OnOk result ((n : ℕ) → Finished p n → world_in t ≡ (meant p n).after)
+    world_so t (Ok v) there = world_there t v there
+    world_so t (Err kinds) there = tt
+
+    -- a fault of the call
+    pub fault_told : (t : State E C M F J R) (kinds : List ErrorKind) → DoesThere says p s t (Err kinds)
+        → kinds ≢ WriteFailure ∷ [] → (n : ℕ) → Finished p n → FaultsAs (under (fuel_left_in s) (run_of (meant p n))) kinds ⊎ NoMemory kinds
+    fault_told t kinds there quiet n finished = told_there t (Err kinds) there quiet n finished
+
+    pub handed_told : (t : State E C M F J R) (kinds : List ErrorKind) → DoesThere says p s t (Err kinds) → kinds ≢ WriteFailure ∷ []
+        → {X : Type 0} (give : X → Answer) (result : Result X (List ErrorKind)) → IsErrAnd result (λ ks. ks ≡ kinds) → (n : ℕ) → Finished p n
+        → GivesTold give (fuel_left_in s) result (meant p n)
+    handed_told t kinds there quiet give result is n finished =
+        err_told give (fuel_left_in s) (meant p n) result kinds (fault_told t kinds there quiet n finished) is
+
+  -- what a call fails with
+  pub failed_there : (p : Plan) (after : World) (kinds : List ErrorKind) → NoMemory kinds ⊎ (p ≡ replies (told after (fails kinds)))
+      → DoesThere says p s (record s { machine = after }) (Err kinds)
+  failed_there p after kinds failed = record {
+    left = fuel_left_in s;
+    does = failed_does (codes_in says s) p (world_in s) after (fuel_left_in s) None kinds failed;
+    spent = λ price paid. refl;
+  }
+
+  -- so it is told, and it is no failure of a sink
+  module _ (p : Plan) (kept : PlanKeeps (world_in s) p) (after : World) (kinds : List ErrorKind) (failed : NoMemory kinds ⊎ (p ≡ replies (told after (fails kinds)))) where
+    pub failing_told : {X : Type 0} (give : X → Answer) (result : Result X (List ErrorKind)) → IsErrAnd result (λ ks. ks ≡ kinds) → (n : ℕ) → Finished p n
+        → GivesTold give (fuel_left_in s) result (meant p n)
+    failing_told give result is n finished =
+        err_told give (fuel_left_in s) (meant p n) result kinds
+        (fault_told p kept (record s { machine = after }) kinds (failed_there p after kinds failed) (plan_quiet (world_in s) after p kinds kept failed) n finished) is
+
+    pub failing_quiet : {X : Type 0} (result : Result X (List ErrorKind)) → IsErrAnd result (λ ks. ks ≡ kinds) → IfErr result (λ ks. ks ≢ WriteFailure ∷ [])
+    failing_quiet result is = err_quiet result kinds (plan_quiet (world_in s) after p kinds kept failed) is
+
+  -- what is around calls, and what they come to there
+  pub around_there : (rules : Rules) → rules.name.now ≡ own_name_in s → rules.limit ≡ (registry_of (environment_in s)).recursion_limit
+      → rules.undefined ≡ (registry_of (environment_in s)).undefined_behavior → around_under rules (callables_of says (environment_in s)) (around_in says s) ≡ around_in says s
+  around_there rules n l u = λ i. record (around_in says s) { name = n i; limit = l i; undefined = u i }
+
+  pub planned_there : (a : Around) (called : Called) (result : Result Reached (List ErrorKind)) (after : World) → a ≡ around_in says s
+      → Planned (reached_by a) (call_plan a (world_in s) called) result after
+      → Planned (reached_by (around_in says s)) (call_plan (around_in says s) (world_in s) called) result after
+  planned_there a called result after same planned =
+      subst (λ (x : Around). Planned (reached_by x) (call_plan x (world_in s) called) result after) same planned
+
+  pub found_there : (a : Around) (name : List ℕ) (us vs : List Val) (result : Result Reached (List ErrorKind)) (after : World) → a ≡ around_in says s → us ≡ vs
+      → Planned (reached_by a) (call_plan a (world_in s) (found_called (world_in s).globals (looked_up name (world_in s)) us)) result after
+      → Planned (reached_by (around_in says s)) (found_in says s name vs) result after
+  found_there a name us vs result after same is planned =
+      subst (λ (xs : List Val). Planned (reached_by (around_in says s)) (found_in says s name xs) result after) is
+      (planned_there a (found_called (world_in s).globals (looked_up name (world_in s)) us) result after same planned)
+
+  -- a value, and what is made of it
+  pub turned_there : (ts : List Turning) (v : Val) (result : Result Val (List ErrorKind)) → Planned value_left (with_turnings ts (value_left v (world_in s))) result (world_in s)
+      → DoesThere says (with_turnings ts (value_left v (world_in s))) s s result
+  turned_there ts v result planned = record {
+    left = fuel_left_in s;
+    does = planned_does (codes_in says s) (with_turnings ts (value_left v (world_in s))) (world_in s) (world_in s) (fuel_left_in s) None result planned;
+    spent = λ price paid. refl;
+  }
+
+  -- what a call came to, from where it began
+  pub reached_there : (came : Reached) (v : World) (p : Plan) (t : State E C M F J R) (result : Result Val (List ErrorKind)) → KeptUnlessValue (Ok came) (world_in s) v
+      → p ≡ reached_by (around_in says s) came v → DoesThere says (reached_by (around_in says s) came v) (record s { machine = v }) t result
+      → DoesThere says p s t result
+  reached_there came v p t result kept is there = record {
+    left = there.left;
+    does = subst (λ (q : Plan). DoesPlan value (codes_in says s) q (world_in s) (fuel_left_in s) None result (world_in t) there.left None) (sym is)
+        (reached_does (codes_in says s) (codes_uniform (setting_in says (environment_in s)) (option_map standing_of (template_in s)) (own_name_in s))
+        came (world_in s) v (fuel_left_in s) there.left None None result (world_in t) kept there.does);
+    spent = there.spent;
+  }
+
+  -- its value is printed
+  pub printed_there : (p : Plan) (t : State E C M F J R) (v : Val) (result : Result Val (List ErrorKind))
+      → Planned value_left (with_turning to_text (value_left v (world_in t))) result (world_in t) → DoesThere says p s t (Ok v)
+      → DoesThere says (with_turning to_text p) s t result
+  printed_there p t v result planned there = record {
+    left = there.left;
+    does = turned_does (codes_in says s) p (world_in s) (to_text ∷ []) (fuel_left_in s) there.left None None v (world_in t) result there.does planned;
+    spent = there.spent;
+  }
+
+  pub unprinted_there : (p : Plan) (t : State E C M F J R) (kinds : List ErrorKind) → DoesThere says p s t (Err kinds)
+      → DoesThere says (with_turning to_text p) s t (Err kinds)
+  unprinted_there p t kinds there = record {
+    left = there.left;
+    does = turned_halts (codes_in says s) p (world_in s) (to_text ∷ []) (fuel_left_in s) there.left None None kinds (world_in t) there.does;
+    spent = there.spent;
+  }
+
+  -- what a call enters runs by code
+  pub entered_there : (entry : Entry) (program : Programs) (left rest : Option ℕ) (t : State E C M F J R) (result : Result Val (List ErrorKind)) → program ≡ codes_in says s
+      → left ≡ fuel_left_in s → DoesPlan value program (entry_plan program.around entry (world_in s)) (world_in s) left None result (world_in t) rest None
+      → ((price : ℕ) → Paid price (fuel_left_in s) rest → fuel_left_in t ≡ rest)
+      → DoesThere says (entry_plan (around_in says s) entry (world_in s)) s t result
+  entered_there entry program left rest t result is same does spent = record {
+    left = rest;
+    does = subst (λ (f : Option ℕ). DoesPlan value (codes_in says s) (entry_plan (around_in says s) entry (world_in s)) (world_in s) f None result (world_in t) rest None) same
+        (subst (λ (p : Programs). DoesPlan value p (entry_plan p.around entry (world_in s)) (world_in s) left None result (world_in t) rest None) is does);
+    spent = spent;
+  }
+
+  -- what is reached, by its own name
+  pub reached_as : (t : State E C M F J R) (came same : Reached) (result : Result Val (List ErrorKind)) → same ≡ came
+      → DoesThere says (reached_by (around_in says s) came (world_in s)) s t result → DoesThere says (reached_by (around_in says s) same (world_in s)) s t result
+  reached_as t came same result is there =
+      subst (λ (x : Reached). DoesThere says (reached_by (around_in says s) x (world_in s)) s t result) (sym is) there
+
+  -- what is planned keeps what a run keeps
+  pub invoked_kept : (what : Invoked) (vs : List Val) → PlanKeeps (world_in s) (call_plan (around_in says s) (world_in s) (invokes what vs))
+  invoked_kept what vs = kept_call (around_in says s) (world_in s) (invokes what vs) tt
+
+  pub found_kept : (name : List ℕ) (vs : List Val) → PlanKeeps (world_in s) (found_in says s name vs)
+  found_kept name vs =
+      kept_call (around_in says s) (world_in s) (found_called (world_in s).globals (looked_up name (world_in s)) vs)
+      (fair_found (world_in s).globals (looked_up name (world_in s)) vs)
+
+  pub text_kept : (name : List ℕ) (vs : List Val) → PlanKeeps (world_in s) (with_turning to_text (found_in says s name vs))
+  text_kept name vs = kept_turning (world_in s) to_text (found_in says s name vs) (found_kept name vs)
+
+-- the text that is printed is what is told
+pub worded_told : {E C M F J R : Type 0} (fuel : Option ℕ) (r : Reply World) (t : State E C M F J R) (text : String Global)
+    → GivesTold value fuel (Ok (captured (world_in t).escape (keeps (string_bytes text)))) r → GivesTold (worded_in t) fuel (Ok text) r
+worded_told fuel r t text told = told
+
+-- a text that a plan fails to come to
+pub text_failed : (w : World) (p : Plan) (kinds : List ErrorKind) → NoMemory kinds ⊎ (p ≡ replies (told w (fails kinds)))
+    → NoMemory kinds ⊎ (with_turning to_text p ≡ replies (told w (fails kinds)))
+text_failed w p kinds (inl want) = inl want
+text_failed w p kinds (inr fault) = inr (ap (with_turning to_text) fault)
+
+-- a test gives true or false
+decided_truth : (r : Result Bool ErrorKind) (v : Val) → decided r ≡ tells (value v) → values.truth (is_true v) ≡ v
+decided_truth (Ok b) v e = let same : values.truth b ≡ v = cc in subst (λ (x : Val). values.truth (is_true x) ≡ x) same refl
+decided_truth (Err kind) v e = absurd (cc)
+
+is_truth : (w : World) (t : Told) (v : Val) → turned_by w to_truth t ≡ tells (value v) → values.truth (is_true v) ≡ v
+is_truth w (tells (value x)) v e = decided_truth (kinded (truths.truth_of (known_of w) x)) v e
+is_truth w (tells done) v e = absurd (cc)
+is_truth w (tells (processes.truth b)) v e = absurd (cc)
+is_truth w (tells (item x)) v e = absurd (cc)
+is_truth w (tells no_item) v e = absurd (cc)
+is_truth w (tells (items vs)) v e = absurd (cc)
+is_truth w (tells (closure c)) v e = absurd (cc)
+is_truth w (fails kinds) v e = absurd (cc)
+is_truth w breaks_off v e = absurd (cc)
+is_truth w processes.leaves v e = absurd (cc)
+
+test_truth : (f : Runners) (w : World) (a : Around) (go : World → Asked → Plan) (name : List ℕ) (vs : List Val) (o : Option Says) (v : Val)
+    → (settled f w (answered_by a go w (test_named name) vs o)).told ≡ tells (value v) → values.truth (is_true v) ≡ v
+test_truth f w a go name vs None v e = absurd (cc)
+test_truth f w a go name vs (Some says) v e =
+    let p : Plan = stated_plan go w (says (view_of a w) vs) in
+    is_truth (settled f w p).after (settled f w p).told v (ap (λ (r : Reply World). r.told) (sym (settled_turning f w to_truth p)) ∙ e)
+
+module _ {E C M F J R : Type 0} (says : UserAnswers C M F J) (s : State E C M F J R) (name : List ℕ) (vs : List Val) where
+  abbrev test_plan : Plan
+  test_plan = call_plan (around_in says s) (world_in s) (invokes (test_named name) vs)
+
+  pub test_told : (n : ℕ) (v : Val) (b : Bool) → b ≡ is_true v → GivesTold value (fuel_left_in s) (Ok v) (meant says s test_plan n)
+      → GivesTold (λ is. value (values.truth is)) (fuel_left_in s) (Ok b) (meant says s test_plan n)
+  test_told n v b is told =
+      let a : Around = around_in says s in
+      let same : values.truth (is_true v) ≡ v =
+      test_truth (runners (programs_in says s) n) (world_in s) a (beyond a 0 (a.limit - depth_of (world_in s))) name vs (said a.callables (test_named name)) v told.1 in
+      (told.0, told.1 ∙ ap (λ x. tells (value x)) (sym same ∙ ap (λ x. values.truth x) (sym is)))
