@@ -5,7 +5,9 @@ use crate::report::Report;
 use crate::runs::write_runs;
 use std::alloc::Global;
 use std::borrow::CowStr;
-use template_code::{CaptureMode, Instruction, Instructions, LOOP_FLAG_WITH_LOOP_VAR};
+use template_code::{
+    CaptureMode, Instruction, Instructions, LOOP_FLAG_WITH_LOOP_VAR, MACRO_CALLER,
+};
 use template_code_references::get_referenced_names;
 use template_compiled::{CompiledBlock, CompiledTemplate, CompiledTemplates, TemplateConfig};
 use template_values_core::{Content, Value};
@@ -123,6 +125,7 @@ fn write_moved(instruction: &Instruction<'_>, out: &mut Report) {
         Instruction::BeginCapture(CaptureMode::Capture) => out.push_str("capture"),
         Instruction::EndCapture => out.push_str("end_capture"),
         Instruction::PushLoop(0) => out.push_str("loop"),
+        Instruction::PushLoop(3) => out.push_str("recursive_loop_with_variable"),
         Instruction::UnpackList(count) => out.group("unpack", count),
         Instruction::UnpackLists(count) => out.group("spread", count),
         Instruction::BuildList(None) => out.push_str("(list counted)"),
@@ -184,8 +187,34 @@ fn write_placed(instruction: &Instruction<'_>, out: &mut Report) {
         Instruction::Include(false) => out.push_str("include"),
         Instruction::ExportLocals => out.push_str("export"),
         Instruction::BeginCapture(CaptureMode::Discard) => out.push_str("drop"),
+        _ => write_declared(instruction, out),
+    }
+}
+
+// What makes a macro or ends its body, or runs a loop's rounds again.
+fn write_declared(instruction: &Instruction<'_>, out: &mut Report) {
+    match instruction {
+        Instruction::Enclose(name) => write_named("(enclose", name.as_str(), out),
+        Instruction::GetClosure => out.push_str("closure"),
+        Instruction::BuildMacro(name, begins, flags) => {
+            write_macro(name.as_str(), *begins, *flags, out)
+        }
+        Instruction::Return => out.push_str("return"),
+        Instruction::IsUndefined => out.push_str("is_undefined"),
+        Instruction::FastRecurse => out.push_str("recurse"),
         _ => out.push('?'),
     }
+}
+
+// A macro, with the place where its body begins, and whether it takes a caller.
+fn write_macro(name: &str, begins: u32, flags: u8, out: &mut Report) {
+    out.push_str("(macro");
+    out.word(name);
+    out.tell(" ", &begins);
+    if flags == MACRO_CALLER {
+        out.word("caller")
+    }
+    out.push(')')
 }
 
 fn write_call(head: &str, name: Option<&str>, count: Option<u16>, out: &mut Report) {
@@ -207,8 +236,20 @@ fn write_load(value: &Value, out: &mut Report) {
         Content::Truth(truth) => out.group("load", &truth),
         Content::Int(number) => out.group("load", &number),
         Content::Text(text) => out.group("load", &text),
+        Content::List(names) => write_names(names, out),
         _ => out.push_str("(load ?)"),
     }
+}
+
+// The names of a macro's parameters.
+fn write_names(names: &[Value], out: &mut Report) {
+    out.push_str("(load names");
+    for name in names {
+        if let Content::Text(text) = name.content() {
+            out.word(text)
+        }
+    }
+    out.push(')')
 }
 
 // The names that the instructions refer to, up to each of them and past the last one.

@@ -1,4 +1,7 @@
 //! Instructions that calls of a generator make, one behind the other.
+ghost use Rattle.template_tree_statements.specs.View.{statement_of};
+ghost use Rattle.template_compiler_statement_codegen.specs.Listed.{IsRunnableTree};
+
 use crate::NAME;
 use crate::code::write_instructions;
 use crate::listed::{added, line_in, span_from, write_places};
@@ -9,7 +12,6 @@ use std::alloc::Global;
 use std::borrow::CowStr;
 use template_code::{Instruction, Instructions};
 use template_compiler_generator::CodeGenerator;
-use template_compiler_runnable::{is_runnable, is_runnable_expr};
 use template_tree::{Expr, Span};
 use template_tree_statements::Stmt;
 use template_values_errors::{Error, ErrorKind};
@@ -21,7 +23,9 @@ pub(crate) fn generated<'line>(
     tree: &Stmt<'line>,
     entries: &'line Map<String, Json>,
     out: &mut Report,
-) {
+)
+    requires { IsRunnableTree (statement_of tree.now) }
+{
     match (entries.get("calls"), entries.get("places")) {
         (Some(Json::Array(calls)), Some(Json::Array(places))) => {
             let ask_numbers = entries.get("numbers").is_some();
@@ -45,7 +49,9 @@ fn generate<'line>(
     places: &[Json],
     ask_numbers: bool,
     out: &mut Report,
-) {
+)
+    requires { IsRunnableTree (statement_of tree.now) }
+{
     let mut generator = CodeGenerator::new(alloc, NAME, "");
     make_all(&mut generator, tree, calls, out);
     if generator.is_closed() {
@@ -75,7 +81,9 @@ fn make_all<'line>(
     tree: &Stmt<'line>,
     calls: &'line [Json],
     out: &mut Report,
-) {
+)
+    requires { IsRunnableTree (statement_of tree.now) }
+{
     for call in calls {
         if let Err(error) = make(generator, tree, call) {
             return out.refuse(error.kind());
@@ -90,7 +98,9 @@ fn make<'line>(
     generator: &mut CodeGenerator<'line>,
     tree: &Stmt<'line>,
     call: &'line Json,
-) -> Result<(), Error> {
+) -> Result<(), Error>
+    requires { IsRunnableTree (statement_of tree.now) }
+{
     match call {
         Json::String(name) => make_named(generator, tree, name.as_str()),
         Json::Array(parts) => make_of_parts(generator, parts.as_slice()),
@@ -102,9 +112,11 @@ fn make_named<'line>(
     generator: &mut CodeGenerator<'line>,
     tree: &Stmt<'line>,
     name: &str,
-) -> Result<(), Error> {
+) -> Result<(), Error>
+    requires { IsRunnableTree (statement_of tree.now) }
+{
     match name {
-        "template" if is_runnable(tree) => generator.compile_stmt(tree),
+        "template" => generator.compile_stmt(tree),
         _ => make_plain(generator, name),
     }
 }
@@ -173,7 +185,7 @@ fn make_of_text<'line>(
     let variable = Expr::variable(name, Span::default());
     match call {
         "lookup" => add(generator, Instruction::Lookup(CowStr::Borrowed(name))),
-        "expression" if is_runnable_expr(&variable) => generator.compile_expr(&variable),
+        "expression" => generator.compile_expr(&variable),
         "target" => generator.compile_assignment(&variable),
         _ => unreadable(),
     }

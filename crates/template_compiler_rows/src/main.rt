@@ -21,10 +21,9 @@
 //! - `runs`: where its instructions come from, as `(line count "text")` for each run of them that come from one place;
 //! - `references`: the names that the instructions up to each one refer to, and up to one past the last, the latest
 //!   first, as `(index name ..)`;
-//! - `runnable`: whether all of its constructs run; `names`: the names that it uses; `nested`: the same, each with the
-//!   dotted names that stand directly behind it; `closures`: the names that each macro and each body of a call block
-//!   encloses that stands in the template's body, after the macro's name; `units`: the names that each of its units uses,
-//!   in order of place;
+//! - `names`: the names that it uses; `nested`: the same, each with the dotted names that stand directly behind it;
+//!   `closures`: the names that each macro and each body of a call block encloses that stands in the template's body,
+//!   after the macro's name; `units`: the names that each of its units uses, in order of place;
 //! - `generated`, with two more entries, `calls` of a generator and `places`: how many instructions come of the calls, the
 //!   hint of room for them and where those at the places come from, each with a `;` behind it, and then the instructions.
 //!   A call is its name, or an array of its name and a text, a line, or the line that a span starts in; `template`

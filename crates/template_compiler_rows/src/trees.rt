@@ -1,4 +1,8 @@
-//! What is asked of trees: whether they run, the names that they use, what is generated of one, and what a constant one is.
+//! What is asked of trees: the names that they use, what is generated of one, and what a constant one is.
+ghost use Rattle.std.specs.Prelude.{IfOk};
+ghost use Rattle.template_tree_statements.specs.View.{statement_of};
+ghost use Rattle.template_compiler_statement_codegen.specs.Listed.{IsRunnableTree};
+
 use crate::NAME;
 use crate::generated::generated;
 use crate::report::Report;
@@ -7,7 +11,6 @@ use serde_json::{Map, Value as Json};
 use std::alloc::Global;
 use std::collections::BTreeSet;
 use template_compiler_folding::as_const;
-use template_compiler_runnable::is_runnable;
 use template_compiler_sources::{parse, parse_expr};
 use template_compiler_syntax::SyntaxConfig;
 use template_names_undeclared::{add_undeclared, find_undeclared};
@@ -15,7 +18,7 @@ use template_tree::Expr;
 use template_tree_statements::Stmt;
 use template_values_errors::{Error, ErrorKind};
 
-/// What is asked of the tree of a template: `runnable`, `names`, `nested`, or what a generator makes of it.
+/// What is asked of the tree of a template: `names`, `nested`, or what a generator makes of it.
 pub(crate) fn about_template<'line>(
     alloc: Global,
     source: &'line str,
@@ -33,7 +36,9 @@ fn about_read<'line>(
     ask: &str,
     entries: &'line Map<String, Json>,
     out: &mut Report,
-) {
+)
+    requires { IfOk read.now (λ tree. IsRunnableTree (statement_of tree)) }
+{
     match read {
         Ok(tree) => about_tree(alloc, tree, ask, entries, out),
         Err(error) => out.refuse(error.kind()),
@@ -46,10 +51,11 @@ fn about_tree<'line>(
     ask: &str,
     entries: &'line Map<String, Json>,
     out: &mut Report,
-) {
+)
+    requires { IsRunnableTree (statement_of tree.now) }
+{
     match ask {
         "generated" => generated(alloc, tree, entries, out),
-        "runnable" => out.tell("", &is_runnable(tree)),
         "names" => names(alloc, tree, false, out),
         "nested" => names(alloc, tree, true, out),
         "closures" => closures(alloc, tree, out),

@@ -16,7 +16,7 @@ use Rattle.template_values_kwargs.specs.Keywords.{keywords, argument}
 use Rattle.template_values_named.specs.Named.{local_at}
 use Rattle.template_values_operators.specs.Kinds.{list_made}
 use Rattle.template_values_operators.specs.Products.{product_of}
-use Rattle.template_callables.specs.Callables.{View, Stated, finishes, refuses, goes_on, call, filter, test, lookup}
+use Rattle.template_callables.specs.Callables.{View, Stated, finishes, refuses, goes_on, call, filter, test, lookup, call_macro, block}
 use Rattle.template_machine_rows.specs.declared.what.What.{What}
 use Rattle.template_machine_rows.specs.declared.what.What.TheVariants as whats
 use Rattle.template_machine_rows.specs.declared.what.Seen.{Seen}
@@ -89,6 +89,7 @@ abbrev pub name_says : Named → View → List ℕ → List Val → Stated
 name_says nameds.Filter view name vs = goes_on [] (filter name vs)
 name_says nameds.Test view name vs = goes_on [] (test name vs)
 name_says nameds.Lookup view name vs = goes_on [] (lookup name)
+name_says nameds.Macro view name vs = goes_on [] (call_macro name vs)
 name_says nameds.Get view name vs = given (local_at name view.temps)
 name_says nameds.Set view name vs = set_first name view vs
 
@@ -135,5 +136,7 @@ what_says (whats.Fails kind cause) view vs = refuses (kind ∷ option_to_list ca
 what_says (whats.Filter name) view vs = goes_on [] (filter (string_bytes name) vs)
 what_says (whats.Test name) view vs = goes_on [] (test (string_bytes name) vs)
 what_says (whats.Lookup name) view vs = goes_on [] (lookup (string_bytes name))
+what_says (whats.Macro name) view vs = goes_on [] (call_macro (string_bytes name) vs)
+what_says (whats.Rendered name) view vs = goes_on [] (block (string_bytes name))
 what_says (whats.Get name) view vs = given (local_at (string_bytes name) view.temps)
 what_says (whats.First first) view vs = to_first first view vs

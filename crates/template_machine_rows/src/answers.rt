@@ -106,19 +106,23 @@ fn context_of(alloc: Global, case: &Case<'_>) -> Result<Value, Error> {
     Value::from_map(alloc, entries)
 }
 
-// The function of a list of two numbers, that of its environment and its own; or the namespace of such a list under its word, of
-// that of its state and its own.
+// The function of a list of two numbers, that of its environment and its own; or the namespace, the macro or the loop of such a
+// list under its word, of that of its state and its own.
 fn held_of(said: &Value) -> Result<Value, Error> {
-    match said.value_at("namespace") {
-        Some(namespace) => {
-            let (state, number) = numbers_of(namespace)?;
-            Ok(Value::namespace(state, number))
-        }
-        None => {
-            let (environment, number) = numbers_of(said)?;
-            Ok(Value::function(environment, number))
-        }
+    if let Some(namespace) = said.value_at("namespace") {
+        let (state, number) = numbers_of(namespace)?;
+        return Ok(Value::namespace(state, number));
     }
+    if let Some(made) = said.value_at("macro") {
+        let (state, number) = numbers_of(made)?;
+        return Ok(Value::macro_record(state, number));
+    }
+    if let Some(opened) = said.value_at("loop") {
+        let (state, number) = numbers_of(opened)?;
+        return Ok(Value::loop_record(state, number));
+    }
+    let (environment, number) = numbers_of(said)?;
+    Ok(Value::function(environment, number))
 }
 
 fn numbers_of(said: &Value) -> Result<(u64, usize), Error> {

@@ -9,7 +9,7 @@ use template_values_errors::{Error, ErrorKind, UndefinedBehavior};
 use template_values_json::context_from_json;
 
 // The names of a case's entries.
-const KNOWN: [&str; 30] = [
+const KNOWN: [&str; 31] = [
     "globals",
     "remove_globals",
     "filters",
@@ -24,6 +24,7 @@ const KNOWN: [&str; 30] = [
     "again",
     "held",
     "calls",
+    "after",
     "temps",
     "templates",
     "main",
@@ -67,11 +68,13 @@ pub(crate) struct Case<'line> {
     pub(crate) subject: Subject<'line>,
     /// A map of a list, of the calls that are made on a state.
     pub(crate) calls: Value,
+    /// Such a map, of the calls that are made on the state that a render left.
+    pub(crate) after: Value,
     /// The names of the temps that are told behind a render.
     pub(crate) temps: Vec<&'line str>,
     pub(crate) setting: Setting,
     pub(crate) context: Value,
-    /// A map of lists of two numbers, of the functions that the context has besides.
+    /// A map of what the context has besides, by numbers: functions, namespaces, macros and loops.
     pub(crate) held: Value,
 }
 
@@ -179,6 +182,7 @@ impl<'line> Case<'line> {
         list_brings(alloc, entries.get("again"), &mut again, out);
         let steps = steps_of(alloc, entries.get("templates"), out);
         let calls = wrapped_of(alloc, entries.get("calls"));
+        let after = wrapped_of(alloc, entries.get("after"));
         let temps = listed_of(alloc, entries.get("temps"));
         let context = object_of(alloc, entries.get("context"));
         let held = object_of(alloc, entries.get("held"));
@@ -188,6 +192,7 @@ impl<'line> Case<'line> {
             subject: subject_of(entries, steps.as_slice(), out),
             steps,
             calls: out.or(calls, Value::none()),
+            after: out.or(after, Value::none()),
             temps: out.or(temps, Vec::new(alloc)),
             setting: Setting::read(entries, out),
             context: out.or(context, Value::none()),

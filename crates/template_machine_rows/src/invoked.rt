@@ -14,9 +14,15 @@ pub(crate) fn call_all<E: Extension>(
     out: &mut Report,
 ) {
     match state {
-        Ok(mut state) => call_each(&mut state, items_at(calls, "it"), out),
+        Ok(state) => call_in(state, calls, out),
         Err(error) => out.fault(&error),
     }
+}
+
+/// The same on a state that there is.
+pub(crate) fn call_in<E: Extension>(state: State<'_, '_, E>, calls: &Value, out: &mut Report) {
+    let mut state = state;
+    call_each(&mut state, items_at(calls, "it"), out)
 }
 
 fn call_each<E: Extension>(state: &mut State<'_, '_, E>, calls: &[Value], out: &mut Report) {
@@ -36,6 +42,10 @@ fn tell_call<E: Extension>(state: &mut State<'_, '_, E>, call: &Value, out: &mut
         tell_value(&state.apply_filter(name, args), out)
     } else if let Some(name) = text_at(call, "perform_test") {
         tell_truth(&state.perform_test(name, args), out)
+    } else if let Some(name) = text_at(call, "call_macro") {
+        out.text(&state.call_macro(name, args))
+    } else if let Some(name) = text_at(call, "lookup") {
+        tell_temp(&state.lookup(name), out)
     } else if let Some(name) = text_at(call, "get_temp") {
         tell_temp(&state.get_temp(name), out)
     } else if call.value_at("tell").is_some() {

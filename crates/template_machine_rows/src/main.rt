@@ -13,11 +13,13 @@
 //! - `brings`: objects with the entries that stand so far, which are brought in turn behind those of the case; `again`:
 //!   such objects, each of which is brought behind the answer, before the same is asked for again;
 //! - `held`: functions that the context has besides, an object of arrays of two numbers: that of an environment, and that of
-//!   a function; or namespaces, each an object with such an array under `namespace`: that of a state, and that of a namespace;
+//!   a function; or namespaces, macros and loops, each an object with such an array under `namespace`, `macro` or `loop`: that
+//!   of a state, and its own;
 //! - `calls`: calls on a state in place of a render, an array of objects: `apply_filter` or `perform_test`, a name, with
-//!   `args`, an array; `get_temp`, a name; `set_temp`, a name, with a `value`; `format`, a value; `render_block`, a name;
-//!   `get_template`, a name; `current_block`; or `tell`, which tells the state. The state is a new one of the template `main`,
-//!   where this is named, else one without a template;
+//!   `args`, an array, and so `call_macro`; `lookup`, a name; `get_temp`, a name; `set_temp`, a name, with a `value`; `format`, a
+//!   value; `render_block`, a name; `get_template`, a name; `current_block`; or `tell`, which tells the state. The state is a new
+//!   one of the template `main`, where this is named, else one without a template;
+//! - `after`: such calls on the state that a render left;
 //! - `temps`: the names of the temps that are told behind a render, an array of texts;
 //! - `templates`: what is done before the render, in order: `[name, source]` adds a template, `[name, null]` removes
 //!   the one of that name, `null` removes all, an object with `line_statement` and `line_comment` sets the prefixes of
@@ -48,13 +50,14 @@
 //!   `{"keyword": name}`: the keyword argument of a name;
 //! - `name`, `escape`, `undefined`, `block`: what it sees of the run;
 //! - `{"gives": value}`: a value; `{"fails": kind}`, `{"fails": [kind, cause]}`: a fault;
-//! - `{"filter": name}`, `{"test": name}`: what these come to for the same arguments; `{"lookup": name}`: what a name stands
-//!   for; `{"get": name}`: what is among the temps under a name, or undefined;
+//! - `{"filter": name}`, `{"test": name}`, `{"macro": name}`: what these come to for the same arguments; `{"lookup": name}`: what
+//!   a name stands for; `{"rendered": name}`: the text of a block; `{"get": name}`: what is among the temps under a name, or
+//!   undefined;
 //! - of the first argument, where MissingArgument is answered without one: `first`: itself; `safe`: its text as a safe one;
 //!   `same`: whether the second is equal; `{"times": value}`: the product; `{"temp": name}`: it stands among the temps under
 //!   the name, and what stood there is given; `{"down": name}`: itself where it is at most 0, else what the filter comes to
 //!   for one less; `call`: what it comes to where it is called with the others; and by its text, with the others:
-//!   `filter`, `test`, `lookup`, `get`, and `set`, which puts the second argument among the temps.
+//!   `filter`, `test`, `lookup`, `macro`, `get`, and `set`, which puts the second argument among the temps.
 //!
 //! In an object a word stands under `answer`, and beside the answer there may be `sets`, an array of pairs of a name and a
 //! value, which are set among the temps first; and `counts`, a name, under which the temps then have one more than the number
@@ -71,8 +74,10 @@
 //! - `! Kind` where the main template does not stand, where a source or an expression is refused, and where a call ended
 //!   with a fault that leaves no text;
 //! - the value of an expression, as JSON, or `undefined`, or `function N of M` for a function, N being its number and M that
-//!   of its environment; a value that a state knows may also be `namespace N of M`, M being the number of its state;
-//! - ` temps [name value, name -]` behind that, where temps are asked for, with `-` where there is none;
+//!   of its environment; a value that a state knows may also be `namespace N of M`, `macro N of M` or `loop N of M`, M being the
+//!   number of its state;
+//! - ` temps [name value, name -]` behind that, where temps are asked for, with `-` where there is none; ` after ` and what the
+//!   calls on the state that is left give, where there are such;
 //! - what each of the calls on a state gives, with `, ` between: a value, a text, `true` or `false`, the name of a template or of
 //!   a block, and `-` where there is no temp or no block;
 //! - `[name, name]` where names are asked for, and two such lists for those that are used: without what stands behind

@@ -1,5 +1,6 @@
 //! Renders, by the place that their text goes to.
 use crate::case::{Case, Place};
+use crate::invoked::call_in;
 use crate::report::Report;
 use crate::tellings::{tell_state, tell_temps};
 use template_callables::Extension;
@@ -33,7 +34,7 @@ fn tell_nowhere<E: Extension>(
 ) {
     let ended = template.render_captured_to(ids, context, &mut NullWriter);
     out.push('_');
-    tell_end(&ended, case, out);
+    tell_end(ended, case, out);
 }
 
 fn tell_text<E: Extension>(
@@ -46,7 +47,7 @@ fn tell_text<E: Extension>(
     let mut text = String::new(out.alloc());
     let ended = template.render_captured_to(ids, context, &mut text);
     out.quoted(text.as_bytes());
-    tell_end(&ended, case, out);
+    tell_end(ended, case, out);
 }
 
 fn tell_room<E: Extension>(
@@ -74,7 +75,7 @@ fn tell_filled<E: Extension>(
     let (left, ended) = fill(template, ids, context, bytes);
     let taken = bytes.len().saturating_sub(left);
     out.quoted(bytes.get(..taken).unwrap_or(b""));
-    tell_end(&ended, case, out);
+    tell_end(ended, case, out);
 }
 
 // Renders into the bytes, and tells how many of them are left.
@@ -91,7 +92,7 @@ fn fill<'template, 'line, E: Extension>(
 
 // What follows the text: what the render took of its fuel and left, or how it ended.
 fn tell_end<E: Extension>(
-    ended: &Result<Captured<'_, '_, E>, Error>,
+    ended: Result<Captured<'_, '_, E>, Error>,
     case: &Case<'_>,
     out: &mut Report,
 ) {
@@ -99,13 +100,14 @@ fn tell_end<E: Extension>(
         Ok(captured) => tell_left(captured, case, out),
         Err(error) => {
             out.push(' ');
-            out.fault(error);
+            out.fault(&error);
         }
     }
 }
 
-// What a render took of its fuel, where one is set; then the state that it left and its temps, where the case asks for them.
-fn tell_left<E: Extension>(captured: &Captured<'_, '_, E>, case: &Case<'_>, out: &mut Report) {
+// What a render took of its fuel, where one is set; then the state that it left and its temps, where the case asks for them, and
+// what the calls give that are made on that state.
+fn tell_left<E: Extension>(captured: Captured<'_, '_, E>, case: &Case<'_>, out: &mut Report) {
     if let Some((consumed, _)) = captured.fuel_levels() {
         out.tell(" price ", &consumed);
     }
@@ -116,6 +118,10 @@ fn tell_left<E: Extension>(captured: &Captured<'_, '_, E>, case: &Case<'_>, out:
     if !case.temps.is_empty() {
         out.push_str(" temps ");
         tell_temps(captured.state(), case.temps.as_slice(), out);
+    }
+    if case.after.value_at("it").is_some() {
+        out.push_str(" after ");
+        call_in(captured.into_state(), &case.after, out);
     }
 }
 
@@ -130,7 +136,7 @@ pub(crate) fn tell_captured<E: Extension>(
     match template.render_captured(ids, context) {
         Ok(captured) => {
             out.quoted(captured.output().as_bytes());
-            tell_left(&captured, case, out);
+            tell_left(captured, case, out);
         }
         Err(error) => out.fault(&error),
     }

@@ -92,7 +92,8 @@ impl Report {
         }
     }
 
-    /// A value as JSON, but for the undefined one, and for functions and namespaces, which are told by their numbers.
+    /// A value as JSON, but for the undefined one, and for functions, namespaces, macros and loops, which are told by their
+    /// numbers.
     pub(crate) fn value(&mut self, value: &Value) {
         match value.content() {
             Content::Undefined => self.push_str("undefined"),
@@ -100,6 +101,8 @@ impl Report {
                 self.numbered("function ", number, environment)
             }
             Content::Namespace(state, number) => self.numbered("namespace ", number, state),
+            Content::Macro(state, number) => self.numbered("macro ", number, state),
+            Content::Loop(state, number) => self.numbered("loop ", number, state),
             _ => self.json(value),
         }
     }

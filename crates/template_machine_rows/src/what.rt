@@ -43,6 +43,10 @@ pub(crate) enum What {
     Test(String),
     /// What a name stands for.
     Lookup(String),
+    /// What the macro of a name comes to for the arguments, as a text.
+    Macro(String),
+    /// The text of the block of a name.
+    Rendered(String),
     /// What is among the temps under a name; undefined, if nothing is.
     Get(String),
     /// What is made of the first argument. There has to be one.
@@ -92,6 +96,8 @@ pub(crate) enum Named {
     Test,
     /// The name is looked up.
     Lookup,
+    /// The macro of the name is called with them.
+    Macro,
     /// What is among the temps under the name is given.
     Get,
     /// The first of them is among the temps under the name from then on.
@@ -119,6 +125,8 @@ impl What {
             What::Filter(name) => filter(alloc, name.as_str(), args),
             What::Test(name) => test(alloc, name.as_str(), args),
             What::Lookup(name) => lookup(alloc, name.as_str()),
+            What::Macro(name) => call_macro(alloc, name.as_str(), args),
+            What::Rendered(name) => rendered(alloc, name.as_str()),
             What::Get(name) => Ok(Answer::from(copy_or_undefined(view.get_temp(name.as_str())))),
             What::First(first) => match args {
                 [value, others @ ..] => first.answer(alloc, view, value, others),
@@ -187,6 +195,7 @@ impl Named {
             Named::Filter => filter(alloc, name, args),
             Named::Test => test(alloc, name, args),
             Named::Lookup => lookup(alloc, name),
+            Named::Macro => call_macro(alloc, name, args),
             Named::Get => Ok(Answer::from(copy_or_undefined(view.get_temp(name)))),
             Named::Set => match args {
                 [value, ..] => set(alloc, view, name, value),
@@ -288,6 +297,22 @@ fn call(alloc: Global, value: &Value, args: &[Value]) -> Result<Answer, Error>
     ensures refused { IfErr result NoMemory }
 {
     let asked = Further::Call(value.copy()?, copy_all(alloc, args)?);
+    Ok(Answer::More(None, asked))
+}
+
+fn call_macro(alloc: Global, name: &str, args: &[Value]) -> Result<Answer, Error>
+    ensures answers { IfOk result (Answers (goes_on [] (callables.call_macro name.now args.now))) }
+    ensures refused { IfErr result NoMemory }
+{
+    let asked = Further::Macro(String::from_str(alloc, name)?, copy_all(alloc, args)?);
+    Ok(Answer::More(None, asked))
+}
+
+fn rendered(alloc: Global, name: &str) -> Result<Answer, Error>
+    ensures answers { IfOk result (Answers (goes_on [] (callables.block name.now))) }
+    ensures refused { IfErr result NoMemory }
+{
+    let asked = Further::Block(String::from_str(alloc, name)?);
     Ok(Answer::More(None, asked))
 }
 
