@@ -107,10 +107,12 @@ nested_runs_out s before c x e follow y runs least kinds later after within stop
   least = least + stops.least;
   wraps = y.wraps ++ stops.wraps;
   rest = λ n. whole s before c x e follow y runs least within next n (stops.rest n);
+  remained = stops.remained;
   is = λ n le. comes_behind s before c x e follow y runs least within next n (omega arith) stops.items (behind (paid stops.wraps ∷ []) (stops.rest n)) (stops.is n (omega arith));
   kinds_are = ap (λ ks. y.wraps ++ ks) stops.kinds_are ∙ sym (append_assoc y.wraps stops.wraps (OutOfFuel ∷ []));
-  pays = subst (λ p. Paid p x.left later) (sym (price-wrapped y.wraps stops.items)) stops.pays;
+  pays = subst (λ p. Paid p x.left stops.remained) (sym (price-wrapped y.wraps stops.items)) stops.pays;
   spent = stops.spent;
+  nothing = stops.nothing;
   text = subst (Appends x.taken after) (sym (text-wrapped y.wraps stops.items)) stops.text;
 }
 
@@ -119,8 +121,10 @@ nested_wants s before c x e follow y runs least later after within stops next = 
   items = map (wrapped_by y.wraps) stops.items;
   least = least + stops.least;
   rest = λ n. whole s before c x e follow y runs least within next n (stops.rest n);
+  remained = stops.remained;
   is = λ n le. comes_behind s before c x e follow y runs least within next n (omega arith) stops.items (stops.rest n) (stops.is n (omega arith));
-  pays = subst (λ p. Paid p x.left later) (sym (price-wrapped y.wraps stops.items)) stops.pays;
+  pays = subst (λ p. Paid p x.left stops.remained) (sym (price-wrapped y.wraps stops.items)) stops.pays;
+  stays = stops.stays;
   text = subst (AppendsBeginning x.taken after) (sym (text-wrapped y.wraps stops.items)) stops.text;
 }
 

@@ -1,7 +1,7 @@
 //! What instructions cost of a fuel, and what was consumed of it; and how the error is told of what ran within another run.
 #![tactic(auto)]
 
-ghost use Rattle.std.specs.Prelude.{◌≡◌, ◌≤◌, ◌+◌, ◌∷◌, [], ℕ, IfErr, OnOk, OnErr, option_map};
+ghost use Rattle.std.specs.Prelude.{◌≡◌, ◌≤◌, ◌+◌, ◌∷◌, [], ℕ, IfErr, OnOk, OnErr, Some, option_map};
 ghost use Rattle.template_machine_going.specs.Paying.{Paid, IsSpent};
 
 mod tracking;
@@ -16,19 +16,20 @@ pub use wrapping::wrapped;
 ///
 /// # Errors
 ///
-/// [`ErrorKind::OutOfFuel`]; the fuel is then as it was.
+/// [`ErrorKind::OutOfFuel`] where nothing is left behind the step; then nothing is left from then on.
 pub fn charge(left: &mut Option<u64>, price: u64) -> Result<(), Error>
     requires { price ≤ 1 }
     ensures paid { OnOk result (Paid price left.old left.new) }
     ensures priced { OnErr result (price ≡ 1) }
     ensures spent { OnErr result (IsSpent left.old) }
-    ensures unchanged { OnErr result (left.new ≡ left.old) }
+    ensures nothing { OnErr result (left.new ≡ Some 0) }
     ensures kind { IfErr result (λ kinds. kinds ≡ ErrorKind.OutOfFuel ∷ []) }
 {
     let Some(fuel) = *left else {
         return Ok(());
     };
     if price > 0 && fuel <= price {
+        *left = Some(0);
         return Err(Error::new(ErrorKind::OutOfFuel));
     }
     *left = Some(fuel - price);
