@@ -1,2 +1,3 @@
 mod Naming
+mod Lasting
 pub mod Cloned

@@ -3,6 +3,7 @@ ghost use Rattle.std.specs.Prelude.{◌≡◌, ◌+◌, ◌^◌, ◌<◌, [], If
 ghost use Rattle.template_values_errors.specs.Memory.{NoMemory};
 ghost use Rattle.template_code_blocks.specs.Streams.{heads_of, streams_in};
 ghost use Rattle.template_machine_meaning.specs.Bodies.{bodies_at, with_bodies, with_body, with_place};
+ghost use Rattle.template_machine_meaning.specs.Keeps.{KeepsBodies};
 ghost use Rattle.template_machine_blocks.specs.Stack.{HasBehind, HasBody, IsBehind, IsBody, home_behind, home_running};
 ghost use Rattle.template_machine_blocks.specs.Streams.{home_of};
 
@@ -92,6 +93,7 @@ impl<'env> BlockStack<'env> {
     ) -> Result<(), Error>
         ensures appended { OnOk result (self.new ≡ with_bodies (home_of home.entry) (heads_of (streams_in blocks.now)) self.old) }
         ensures refused { IfErr result NoMemory }
+        ensures kept { OnErr result (KeepsBodies self.old self.new) }
     {
         for block in blocks {
             self.add(alloc, home, block.name.as_str())?;

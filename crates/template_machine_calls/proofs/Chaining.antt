@@ -15,7 +15,7 @@ use Rattle.template_machine_meaning.specs.Keys.{Around}
 use Rattle.template_machine_meaning.specs.Replies.{told, refused}
 use Rattle.template_machine_meaning.specs.World.{World}
 use Rattle.template_machine_state.specs.Changes.{OnlyTemps}
-use Rattle.template_machine_calls.specs.Left.{Going, said_plan, asked_plan, turnings_for, turnings_in, with_turnings, Planned, Replied, KeepsWorld, KeptUnlessValue}
+use Rattle.template_machine_calls.specs.Left.{Going, said_plan, asked_plan, turnings_for, turnings_in, with_turnings, Planned, Replied, IsOpenAlike, KeepsWorld, KeptUnlessValue}
 use Rattle.template_machine_calls.specs.declared.outcome.Outcome.{Outcome}
 use Rattle.template_machine_calls.specs.declared.outcome.Outcome.TheVariants as outcome
 use Rattle.template_machine_calls.specs.declared.reached.Turning as called
@@ -105,6 +105,13 @@ none_further a plan ts pending left w asked before none =
 pub only_temps_on : (u v w : World) → OnlyTemps u v → OnlyTemps v w → OnlyTemps u w
 only_temps_on u v w first second = second ∙ ap (λ (x : World). record x { temps = w.temps; held = w.held }) first
 
+-- what is open is as it was then
+pub temps_open : (w after : World) → OnlyTemps w after → IsOpenAlike w after
+temps_open w after only = (ap (λ (x : World). x.frames) only, ap (λ (x : World). x.blocks) only)
+
+pub open_behind : (u v w : World) → OnlyTemps u v → IsOpenAlike v w → IsOpenAlike u w
+open_behind u v w first second = (second.0 ∙ ap (λ (x : World). x.frames) first, second.1 ∙ ap (λ (x : World). x.blocks) first)
+
 -- a plan by another name
 pub planned_as : {X : Type 0} (on : X → World → Plan) (plan same : Plan) (result : Result X (List ErrorKind)) (after : World)
     → plan ≡ same → Planned on same result after → Planned on plan result after
@@ -137,7 +144,7 @@ err_keeps (Ok x) kinds w after only is = absurd is
 err_keeps (Err ks) kinds w after only is = only
 
 pub keeps_any : (result : Result Outcome (List ErrorKind)) (w after : World) → OnlyTemps w after → KeepsWorld result w after
-keeps_any (Ok (outcome.Value v)) w after only = tt
+keeps_any (Ok (outcome.Value v)) w after only = temps_open w after only
 keeps_any (Ok (outcome.Further further)) w after only = only
 keeps_any (Ok (outcome.Enters e)) w after only = only
 keeps_any (Err kinds) w after only = only
@@ -149,6 +156,6 @@ err_kept (Err ks) kinds w after kept is = kept
 
 -- a call behind another
 pub kept_behind : (result : Result Reached (List ErrorKind)) (u v w : World) → OnlyTemps u v → KeptUnlessValue result v w → KeptUnlessValue result u w
-kept_behind (Ok (reached.Value x turnings)) u v w first second = tt
+kept_behind (Ok (reached.Value x turnings)) u v w first second = open_behind u v w first second
 kept_behind (Ok (reached.Enters e)) u v w first second = only_temps_on u v w first second
 kept_behind (Err kinds) u v w first second = only_temps_on u v w first second

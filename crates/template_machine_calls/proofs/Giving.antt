@@ -6,7 +6,7 @@ use Rattle.template_values_errors.specs.declared.ErrorKind.{ErrorKind}
 use Rattle.template_values_errors.specs.declared.ErrorKind.TheVariants.{WriteFailure}
 use Rattle.template_values_errors.specs.Memory.{NoMemory}
 use Rattle.template_values_model.specs.Val.{Val}
-use Rattle.template_process.specs.Process.{Counts, Ask, call_function, fails, value, on_value, asks, over}
+use Rattle.template_process.specs.Process.{Counts, Ask, Told, tells, fails, breaks_off, leaves, call_function, value, on_value, asks, over}
 use Rattle.template_process.specs.Trace.{Reply, run, replied}
 use Rattle.template_code.specs.Code.{Operand, single, Code}
 use Rattle.template_code.specs.Steps.{deed, giving, handed}
@@ -14,9 +14,11 @@ use Rattle.template_walk.specs.Statements.{is_super_name}
 use Rattle.template_machine_meaning.specs.Blocks.{super_called}
 use Rattle.template_machine_meaning.specs.Calls.{call_plan}
 use Rattle.template_machine_meaning.specs.Functions.{name_called}
-use Rattle.template_machine_meaning.specs.Keeps.{IsMeant, IsFault, IsMeantEnd}
-use Rattle.template_machine_meaning.specs.Plans.{Plan, replies, settled}
+use Rattle.template_machine_meaning.specs.Keeps.{IsMeant, IsFault, IsMeantEnd, KeepsWorld}
+use Rattle.template_machine_meaning.specs.Plans.{Plan, replies, settled, with_turning}
 use Rattle.template_machine_meaning.specs.Replies.{told, changed}
+use Rattle.template_machine_meaning.specs.Turnings as meanings
+use Rattle.template_machine_meaning.specs.Turnings.{turned_by}
 use Rattle.template_machine_meaning.specs.Surroundings.{Programs, plan, answer, runners}
 use Rattle.template_machine_meaning.specs.World.{World, looked_up}
 use Rattle.template_machine_meaning.proofs.RunsKept.{runs_keep}
@@ -46,11 +48,34 @@ reply_spares s e w kinds after is =
     fault_spares kinds
     (subst (λ (r : Reply World). IsMeantEnd (replied (λ a t. run (answer s 0) (over []) t) r).end) (is 0) (runs_keep s 0 (asks e (λ a. over [])) w).end)
 
+-- every run keeps the world, so a reply leaves one that keeps it, whatever it tells
+run_keeps : (s : Programs) (e : Ask) (w : World) (r : Reply World) → answer s 0 w e ≡ r → KeepsWorld w (replied (λ a t. run (answer s 0) (over []) t) r).after
+run_keeps s e w r is =
+    subst (λ (q : Reply World). KeepsWorld w (replied (λ a t. run (answer s 0) (over []) t) q).after) is (runs_keep s 0 (asks e (λ a. over [])) w).world
+
+pub reply_keeps : (s : Programs) (e : Ask) (w : World) (t : Told) (after : World) → answer s 0 w e ≡ told after t → KeepsWorld w after
+reply_keeps s e w (tells a) after is = run_keeps s e w (told after (tells a)) is
+reply_keeps s e w (fails kinds) after is = run_keeps s e w (told after (fails kinds)) is
+reply_keeps s e w breaks_off after is = run_keeps s e w (told after breaks_off) is
+reply_keeps s e w leaves after is = run_keeps s e w (told after leaves) is
+
+-- what is made of a value leaves the world as the value does
+turned_told : (ts : List meanings.Turning) (v : Val) (after : World) → (t : Told) × (with_turnings ts (value_left v after) ≡ replies (told after t))
+turned_told [] v after = (tells (value v), refl)
+turned_told (turning ∷ ts) v after =
+    let inner = turned_told ts v after in
+    (turned_by after turning inner.0, ap (with_turning turning) inner.1)
+
 module _ (s : Programs) (c : Code) (e : Ask) (operands : List Operand) (w : World) (below : List Operand)
     (asking : (next : Next) (before : Counts) (place : ℕ) → deed next before c place operands ≡ giving next place below e)
     (call : Plan) (planned : plan s.around w e ≡ call) where
   replies_so : (r : Reply World) → call ≡ replies r → (n : ℕ) → answer s n w e ≡ r
   replies_so r is n = ap (settled (runners s n) w) (planned ∙ is)
+
+  value_keeps : (v : Val) (turnings : Vec Turning) (after : World) → call ≡ reached_by s.around (reached.Value v turnings) after → KeepsWorld w after
+  value_keeps v turnings after is =
+      let turned = turned_told (turnings_in turnings.items) v after in
+      reply_keeps s e w turned.0 after (replies_so (told after turned.0) (is ∙ turned.1) 0)
 
   gives : (v : Val) (after : World) → call ≡ replies (changed after (value v)) → (before : Counts) (place : ℕ) (left : Option ℕ) (taken : Option (List ℕ))
       → Acts (answer s) before c (spot place operands w left taken) (spot (suc place) (single v ∷ below) after left taken)
@@ -72,10 +97,11 @@ module _ (s : Programs) (c : Code) (e : Ask) (operands : List Operand) (w : Worl
 
   -- or the call failed, or no memory is left
   pub failed : {X : Type 0} (result : Result X (List ErrorKind)) (later : List Operand) (after : World) (kinds : List ErrorKind)
-      → NoMemory kinds ⊎ (call ≡ replies (told after (fails kinds))) → IsErrAnd result (λ ks. ks ≡ kinds) → Performs s c operands w result later after
-  failed result later after kinds (inl why) is = want_out s c operands w result suc later after kinds why is
-  failed result later after kinds (inr fault) is =
-      handed_on s c operands w result suc later after kinds (reply_spares s e w kinds after (replies_so (told after (fails kinds)) fault))
+      → KeepsWorld w after → NoMemory kinds ⊎ (call ≡ replies (told after (fails kinds))) → IsErrAnd result (λ ks. ks ≡ kinds)
+      → Performs s c operands w result later after
+  failed result later after kinds kept (inl why) is = want_out s c operands w result suc later after kinds kept why is
+  failed result later after kinds kept (inr fault) is =
+      handed_on s c operands w result suc later after kinds kept (reply_spares s e w kinds after (replies_so (told after (fails kinds)) fault))
       (λ place left taken before to others v. faulting (failing kinds after fault before place left taken)) is
 
   -- or it enters
@@ -92,8 +118,10 @@ module _ (s : Programs) (c : Code) (e : Ask) (operands : List Operand) (w : Worl
   pub put_out : (came : Reached) (result : Result (Option Entry) (List ErrorKind)) (later : List Operand) (after : World)
       → call ≡ reached_by s.around came after → KeptUnlessValue (Ok came) w after → Puts came after below result later → Calls s c operands w result later after
   put_out (reached.Value v turnings) (Ok None) later after is kept put = given {X = Unit {0}} (Ok tt) later put.0 after (is ∙ put.1) put.2 tt
-  put_out (reached.Value v turnings) (Err kinds) later after is kept (inl why) = failed {X = Unit {0}} (Err kinds) later after kinds (inl why) refl
-  put_out (reached.Value v turnings) (Err kinds) later after is kept (inr fault) = failed {X = Unit {0}} (Err kinds) later after kinds (inr (is ∙ fault)) refl
+  put_out (reached.Value v turnings) (Err kinds) later after is kept (inl why) =
+      failed {X = Unit {0}} (Err kinds) later after kinds (value_keeps v turnings after is) (inl why) refl
+  put_out (reached.Value v turnings) (Err kinds) later after is kept (inr fault) =
+      failed {X = Unit {0}} (Err kinds) later after kinds (value_keeps v turnings after is) (inr (is ∙ fault)) refl
   put_out (reached.Value v turnings) (Ok (Some entry)) later after is kept none = absurd none
   put_out (reached.Enters entry) (Ok (Some same)) later after is kept put =
       subst (λ (x : Entry). Enters s c operands w x later after) (sym put.0) (entered entry later after is kept put.1)

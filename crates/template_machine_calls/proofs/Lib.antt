@@ -1,3 +1,4 @@
+pub mod Temps
 pub mod Saying
 pub mod Chaining
 pub mod Turned
@@ -6,3 +7,4 @@ pub mod Handing
 pub mod Giving
 pub mod Formatting
 pub mod Printing
+pub mod Opening

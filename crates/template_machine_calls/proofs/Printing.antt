@@ -1,5 +1,5 @@
 -- The text of a printed value goes into the innermost capture, or into the sink.
-use Rattle.std.proofs.Common.{◌≡◌, ◌⊎◌, ◌↔◌, inl, inr, Bool, true, false, ℕ, suc, ◌<◌, List, [], ◌∷◌, ◌++◌, Option, None, Result, Ok, Err, OnOk, IfErr, IsErrAnd, length, append-nil, arith, refl, sym, ap, ◌∙◌, subst}
+use Rattle.std.proofs.Common.{◌≡◌, ◌⊎◌, ◌↔◌, inl, inr, Bool, true, false, ℕ, suc, ◌<◌, List, [], ◌∷◌, ◌++◌, Option, None, Result, Ok, Err, OnOk, OnErr, IfErr, IsErrAnd, length, append-nil, arith, refl, sym, ap, ◌∙◌, subst}
 use Rattle.std.proofs.lemmas.Bool.{false≢true}
 use Rattle.template_values_errors.specs.declared.ErrorKind.{ErrorKind}
 use Rattle.template_values_errors.specs.Memory.{NoMemory}
@@ -13,9 +13,11 @@ use Rattle.template_process.specs.Trace.{written, run, replied}
 use Rattle.template_code.specs.Code.{Operand, Code, single, emit}
 use Rattle.template_machine_output.specs.Writes.{AppendsBeginning}
 use Rattle.template_machine_meaning.specs.Captures.{with_text}
+use Rattle.template_machine_meaning.specs.Keeps.{KeepsWorld}
 use Rattle.template_machine_meaning.specs.Replies.{told}
 use Rattle.template_machine_meaning.specs.Surroundings.{Programs, answer, text_reply, written_reply}
 use Rattle.template_machine_meaning.specs.World.{Capture, World}
+use Rattle.template_machine_meaning.proofs.RunsKept.{world_stays}
 use Rattle.template_machine_going.specs.Acts.{Next, Acts}
 use Rattle.template_machine_going.specs.Outcomes.{Halts, WantsWith, faulting, wanting, StepsOut}
 use Rattle.template_machine_going.proofs.Paths.{paid_nothing}
@@ -24,6 +26,7 @@ use Rattle.template_machine_state.specs.Changes.{capture_changed, caught}
 use Rattle.template_machine_acts.proofs.Capturing.{passed_on, print_captures}
 use Rattle.template_machine_acts.proofs.Laws.{print_acts, print_faults}
 use Rattle.template_machine_steps.specs.Performs.{SparesSink, Steps, StepsWriting, spot}
+use Rattle.template_machine_steps.proofs.Keeping.{stays}
 use Rattle.template_machine_steps.proofs.Performing.{wanted}
 use Rattle.template_machine_steps.proofs.Sparing.{memory_spares}
 use Rattle.template_machine_calls.proofs.Giving.{reply_spares}
@@ -35,7 +38,12 @@ no_programs = record { process = λ n key. None; around = record { name = []; he
 -- what a call does that leaves the sink as it is
 pub steps_write : {X : Type 0} (s : Programs) (c : Code) (operands : List Operand) (w : World) (taken : Option (List ℕ)) (result : Result X (List ErrorKind)) (to : ℕ → ℕ)
     (later : List Operand) (after : World) → Steps s c operands w result to later after → StepsWriting s c operands w taken result to later after taken
-steps_write s c operands w taken result to later after steps = record { out = λ before place left. steps.out before place left taken }
+steps_write s c operands w taken result to later after steps = record { out = λ before place left. steps.out before place left taken; keeps = steps.keeps }
+
+-- a state that is as it was where a call failed
+unchanged_keeps : {X : Type 0} (result : Result X (List ErrorKind)) (w after : World) → OnErr result (after ≡ w) → OnErr result (KeepsWorld w after)
+unchanged_keeps (Ok x) w after same = tt
+unchanged_keeps (Err kinds) w after same = subst (KeepsWorld w) (sym same) (world_stays w)
 
 -- no failure is told where the sink took nothing
 pub spared_failures : {X : Type 0} (result : Result X (List ErrorKind)) (kinds : List ErrorKind) (count : ℕ) → SparesSink kinds
@@ -67,8 +75,10 @@ module _ (s : Programs) (v : Val) (below : List Operand) (w : World) where
       items = written text ∷ [];
       least = 0;
       rest = λ n. run (answer s n) (going place below next done) w;
+      remained = left;
       is = λ n le. ap (replied (λ b t. run (answer s n) (going place below next b) t)) (given ∙ passed_on w text none);
       pays = paid_nothing left;
+      stays = inl refl;
       text = beginning_alone taken after text appends;
     }
 
@@ -82,7 +92,7 @@ module _ (s : Programs) (v : Val) (below : List Operand) (w : World) where
     -- where no capture is open, the sink takes it
     pub sink_out : {X : Type 0} (taken after : Option (List ℕ)) (result : Result X (List ErrorKind)) → w.captures ≡ [] → Writes text result taken after
         → StepsWriting s emit (single v ∷ below) w taken result suc below w after
-    sink_out taken after result none wrote = record { out = λ before place left. sink_steps before place left taken after result none wrote }
+    sink_out taken after result none wrote = record { out = λ before place left. sink_steps before place left taken after result none wrote; keeps = stays result w }
 
     caught_acts : (before : Counts) (place : ℕ) (left : Option ℕ) (taken : Option (List ℕ)) (captures : List Capture) → w.captures ≡ captures → 0 < length captures
         → Acts (answer s) before emit (spot place (single v ∷ below) w left taken)
@@ -101,8 +111,12 @@ module _ (s : Programs) (v : Val) (below : List Operand) (w : World) where
 
     -- else the innermost one does
     pub caught_out : {X : Type 0} (taken : Option (List ℕ)) (after : World) (result : Result X (List ErrorKind)) → 0 < length w.captures
-        → OnOk result (after ≡ caught text w) → IfErr result NoMemory → StepsWriting s emit (single v ∷ below) w taken result suc below after taken
-    caught_out taken after result lt is why = record { out = λ before place left. caught_steps before place left taken after result lt is why }
+        → OnOk result (after ≡ caught text w) → IfErr result NoMemory → OnErr result (after ≡ w)
+        → StepsWriting s emit (single v ∷ below) w taken result suc below after taken
+    caught_out taken after result lt is why same = record {
+      out = λ before place left. caught_steps before place left taken after result lt is why;
+      keeps = unchanged_keeps result w after same;
+    }
 
   printing_halts : (kinds : List ErrorKind) → NoMemory kinds ⊎ (written_reply s.around w v ≡ told w (fails kinds)) → (before : Counts) (place : ℕ) (left : Option ℕ) (taken : Option (List ℕ))
       → Halts (answer s) before emit (spot place (single v ∷ below) w left taken) (spot (suc place) below w left taken) kinds
@@ -121,7 +135,7 @@ module _ (s : Programs) (v : Val) (below : List Operand) (w : World) where
   pub refused_out : {X : Type 0} (taken : Option (List ℕ)) (kinds : List ErrorKind) (result : Result X (List ErrorKind))
       → NoMemory kinds ⊎ (written_reply s.around w v ≡ told w (fails kinds)) → IsErrAnd result (λ ks. ks ≡ kinds)
       → StepsWriting s emit (single v ∷ below) w taken result suc below w taken
-  refused_out taken kinds result why is = record { out = λ before place left. refused_steps before place left taken kinds result why is }
+  refused_out taken kinds result why is = record { out = λ before place left. refused_steps before place left taken kinds result why is; keeps = stays result w }
 
   refusal_spares : (kinds : List ErrorKind) → NoMemory kinds ⊎ (written_reply s.around w v ≡ told w (fails kinds)) → SparesSink kinds
   refusal_spares kinds (inl why) = memory_spares kinds why

@@ -103,14 +103,19 @@ abbrev pub Replied : {X : Type 0} → (X → World → Reply World) → Reply Wo
 Replied on reply (Ok x) after = reply ≡ on x after
 Replied on reply (Err kinds) after = NoMemory kinds ⊎ (reply ≡ told after (fails kinds))
 
--- where a call came to no value yet, or failed, nothing but what callables have set is other
+-- the frames that are open are as they were, and so are the bodies of blocks
+abbrev pub IsOpenAlike : World → World → Type 0
+IsOpenAlike w after = (after.frames ≡ w.frames) × (after.blocks ≡ w.blocks)
+
+-- Where a call came to no value yet, or failed, nothing but what callables have set is other; where it came to one, what is open
+-- is as it was.
 abbrev pub KeepsWorld : Result Outcome (List ErrorKind) → World → World → Type 0
-KeepsWorld (Ok (outcome.Value v)) w after = Unit {0}
+KeepsWorld (Ok (outcome.Value v)) w after = IsOpenAlike w after
 KeepsWorld (Ok (outcome.Further further)) w after = OnlyTemps w after
 KeepsWorld (Ok (outcome.Enters e)) w after = OnlyTemps w after
 KeepsWorld (Err kinds) w after = OnlyTemps w after
 
 abbrev pub KeptUnlessValue : Result Reached (List ErrorKind) → World → World → Type 0
-KeptUnlessValue (Ok (reached.Value v turnings)) w after = Unit {0}
+KeptUnlessValue (Ok (reached.Value v turnings)) w after = IsOpenAlike w after
 KeptUnlessValue (Ok (reached.Enters e)) w after = OnlyTemps w after
 KeptUnlessValue (Err kinds) w after = OnlyTemps w after

@@ -6,6 +6,7 @@ pub mod Wrapping
 pub mod Doing
 mod Finding
 mod Within
+mod Lasting
 mod Parts
 pub mod Turned
 mod Followed
@@ -16,4 +17,5 @@ pub mod Stretching
 mod Onward
 mod Following
 mod Calling
+mod Loading
 mod Beginnings

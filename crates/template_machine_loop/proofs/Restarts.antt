@@ -119,22 +119,26 @@ module _ (s : Programs) (key : Key) (w : World) (left : Option ℕ) (taken : Opt
     least = h.more + (h.least + k.least);
     wraps = k.wraps;
     rest = λ n. with_beneath h.operands (k.rest (n - h.more));
+    remained = k.remained;
     is = λ n le.
         reached_run k.least (λ m. behind k.items (behind (paid k.wraps ∷ []) (k.rest m))) k.is n le
         ∙ behind-behind h.items k.items (behind (paid k.wraps ∷ []) (with_beneath h.operands (k.rest (n - h.more))));
     kinds_are = k.kinds_are;
-    pays = paid_behind h.items k.items left mid rest h.pays k.pays;
+    pays = paid_behind h.items k.items left mid k.remained h.pays k.pays;
     spent = k.spent;
+    nothing = k.nothing;
     text = text_behind h.items k.items taken reached written h.text k.text;
   })
   breaks_there kinds rest written (wanting why k) = wanting why (record {
     items = h.items ++ k.items;
     least = h.more + (h.least + k.least);
     rest = λ n. with_beneath h.operands (k.rest (n - h.more));
+    remained = k.remained;
     is = λ n le.
         reached_run k.least (λ m. behind k.items (k.rest m)) k.is n le
         ∙ behind-behind h.items k.items (with_beneath h.operands (k.rest (n - h.more)));
-    pays = paid_behind h.items k.items left mid rest h.pays k.pays;
+    pays = paid_behind h.items k.items left mid k.remained h.pays k.pays;
+    stays = k.stays;
     text = subst (AppendsBeginning taken written) (sym (text-append h.items k.items)) (beginning_after taken reached written (text_of h.items) (text_of k.items) h.text k.text);
   })
   breaks_there kinds rest written (straying why k) = straying why (record {
@@ -183,11 +187,13 @@ module _ (s : Programs) (key : Key) (w : World) (left : Option ℕ) (taken : Opt
           items = items;
           least = suc (least + bound);
           rest = λ n. behind_first items (ran (runners s n later) v);
+          remained = rest;
           is = λ n le.
               let there = goes_on_so after.parent refl n le in
               let begun = begins_on (runners s there.0) operands items (ended (ends operands) after) after.parent in
               first_left items (ran (runners s n later) v) begun.0 (ap (λ k. ran (runners s k later) v) there.1 ∙ there.2 ∙ begun.1);
           pays = pays;
+          stays = inl refl;
           text = beginning_whole reached written (text_of items) text;
         }))
 

@@ -4,6 +4,7 @@ ghost use Rattle.template_process.specs.Process.{done, value};
 ghost use Rattle.template_machine_blocks.specs.Streams.{home_of};
 ghost use Rattle.template_machine_meaning.specs.Blocks.{block_called, block_plan, block_within, super_plan, text_plan};
 ghost use Rattle.template_machine_meaning.specs.Captures.{is_dropping};
+ghost use Rattle.template_machine_meaning.specs.Keeps.{KeepsWorld};
 ghost use Rattle.template_machine_meaning.specs.Plans.{room_for};
 ghost use Rattle.template_machine_meaning.specs.World.{has_room};
 ghost use Rattle.template_machine_operations.specs.Outcomes.{TellsFailures};
@@ -43,6 +44,8 @@ pub fn run_block<'env, T: Templates, S: Sink>(
         let s = programs_under (T.standing templates) (T.joins templates) (T.callables templates) root program.entry.rules in
         DoesPlan (λ u. done) s (block_plan s.around state.old name.now) state.old left.old (S.taken sink.old) result state.new left.new (S.taken sink.new) }
     ensures back { PutsBack state.old state.new }
+    ensures keeps { KeepsWorld state.old state.new }
+    ensures frames { state.new.frames ≡ state.old.frames }
     ensures failures { TellsFailures result (S.failures sink.old) (S.failures sink.new) }
 {
     let found = body_to_run(program, name, state)?;
@@ -68,6 +71,7 @@ pub(crate) fn call_block<'env, T: Templates, S: Sink>(
     ensures plan { let templates = program.entry.templates.now in let root = option_map standing_of program.entry.root in
         let s = programs_under (T.standing templates) (T.joins templates) (T.callables templates) root program.entry.rules in
         DoesPlan (λ u. done) s (block_called s.around state.old name.now) state.old left.old (S.taken sink.old) result state.new left.new (S.taken sink.new) }
+    ensures keeps { KeepsWorld state.old state.new }
     ensures failures { TellsFailures result (S.failures sink.old) (S.failures sink.new) }
 {
     if is_passed_over(state) {
@@ -100,6 +104,8 @@ fn run_body<'env, T: Templates, S: Sink>(
         DoesPlan (λ u. done) s (room_for s.around.limit 1 state.old (block_within state.old (name_in found.entry) (home_of found.entry.home)))
         state.old left.old (S.taken sink.old) result state.new left.new (S.taken sink.new) }
     ensures back { PutsBack state.old state.new }
+    ensures keeps { KeepsWorld state.old state.new }
+    ensures frames { state.new.frames ≡ state.old.frames }
     ensures failures { TellsFailures result (S.failures sink.old) (S.failures sink.new) }
 {
     if !state.has_room(program.rules.limit, 1) {
@@ -138,6 +144,7 @@ pub(crate) fn print_super<'env, T: Templates, S: Sink>(
     ensures plan { let templates = program.entry.templates.now in let root = option_map standing_of program.entry.root in
         let s = programs_under (T.standing templates) (T.joins templates) (T.callables templates) root program.entry.rules in
         DoesPlan (λ u. done) s (super_plan s.around state.old false) state.old left.old (S.taken sink.old) result state.new left.new (S.taken sink.new) }
+    ensures keeps { KeepsWorld state.old state.new }
     ensures failures { TellsFailures result (S.failures sink.old) (S.failures sink.new) }
 {
     let Some(found) = body_behind(program, state) else {
@@ -181,6 +188,7 @@ pub(crate) fn call_super<'env, T: Templates, S: Sink>(
     ensures plan { let templates = program.entry.templates.now in let root = option_map standing_of program.entry.root in
         let s = programs_under (T.standing templates) (T.joins templates) (T.callables templates) root program.entry.rules in
         DoesPlan value s (super_plan s.around state.old true) state.old left.old (S.taken sink.old) result state.new left.new (S.taken sink.new) }
+    ensures keeps { KeepsWorld state.old state.new }
     ensures failures { TellsFailures result (S.failures sink.old) (S.failures sink.new) }
 {
     let Some(found) = body_behind(program, state) else {
@@ -228,6 +236,8 @@ pub(crate) fn run_block_text<'env, T: Templates, S: Sink>(
     ensures plan { let templates = program.entry.templates.now in let root = option_map standing_of program.entry.root in
         let s = programs_under (T.standing templates) (T.joins templates) (T.callables templates) root program.entry.rules in
         DoesPlan value s (text_plan s.around pending state.old name.now) state.old left.old (S.taken sink.old) result state.new left.new (S.taken sink.new) }
+    ensures keeps { KeepsWorld state.old state.new }
+    ensures frames { state.new.frames ≡ state.old.frames }
     ensures failures { TellsFailures result (S.failures sink.old) (S.failures sink.new) }
 {
     let found = body_to_run(program, name, state)?;

@@ -4,6 +4,7 @@ ghost use Rattle.template_code.specs.Code.{Code, Operand};
 ghost use Rattle.template_process.specs.Process.{value};
 ghost use Rattle.template_machine_calls.specs.Calls as calls;
 ghost use Rattle.template_machine_calls.specs.Left.{entering_plan, entry_plan};
+ghost use Rattle.template_machine_meaning.specs.Keeps.{KeepsWorld};
 ghost use Rattle.template_machine_meaning.specs.World.{World};
 ghost use Rattle.template_machine_operands.specs.Operands.{operands_in};
 ghost use Rattle.template_machine_operations.specs.Outcomes.{TellsFailures};
@@ -51,7 +52,7 @@ pub(crate) fn enter_call<'env, T: Templates, S: Sink>(
     operands.push(value)
 }
 
-/// Runs what a call enters, and gives what is made of its value.
+/// Runs what a call enters, and gives what is made of its value. The frames are then as they were, whatever its end.
 ///
 /// # Errors
 ///
@@ -71,6 +72,8 @@ pub fn run_entry<'env, T: Templates, S: Sink>(
         let s = programs_under (T.standing templates) (T.joins templates) (T.callables templates) root program.entry.rules in
         DoesPlan value s (entry_plan s.around entry state.old)
         state.old left.old (S.taken sink.old) result state.new left.new (S.taken sink.new) }
+    ensures keeps { KeepsWorld state.old state.new }
+    ensures frames { state.new.frames ≡ state.old.frames }
     ensures failures { TellsFailures result (S.failures sink.old) (S.failures sink.new) }
 {
     let Entry {
@@ -100,6 +103,8 @@ fn run_entering<'env, T: Templates, S: Sink>(
         let s = programs_under (T.standing templates) (T.joins templates) (T.callables templates) root program.entry.rules in
         DoesPlan value s (entering_plan s.around pending state.old entering)
         state.old left.old (S.taken sink.old) result state.new left.new (S.taken sink.new) }
+    ensures keeps { KeepsWorld state.old state.new }
+    ensures frames { state.new.frames ≡ state.old.frames }
     ensures failures { TellsFailures result (S.failures sink.old) (S.failures sink.new) }
 {
     match entering {

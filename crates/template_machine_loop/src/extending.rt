@@ -1,7 +1,8 @@
 //! Which template is extended.
-ghost use Rattle.std.specs.Prelude.{ℕ, List, Option, IfErr, option_map};
+ghost use Rattle.std.specs.Prelude.{ℕ, List, Option, IfErr, OnErr, option_map};
 ghost use Rattle.template_process.specs.Process.{done};
 ghost use Rattle.template_machine_meaning.specs.Blocks.{load_plan};
+ghost use Rattle.template_machine_meaning.specs.Keeps.{KeepsWorld};
 ghost use Rattle.template_machine_steps.specs.Performs.{SparesSink};
 ghost use Rattle.template_machine_loop.specs.Plans.{DoesPlan};
 ghost use Rattle.template_machine_loop.specs.Programs.{programs_under, standing_of};
@@ -31,6 +32,7 @@ pub(crate) fn extend<'env, T: Templates>(
         let s = programs_under (T.standing templates) (T.joins templates) (T.callables templates) root program.entry.rules in
         (left : Option ℕ) (taken : Option (List ℕ)) →
         DoesPlan (λ u. done) s (load_plan s.around state.old state.old.parent value.now) state.old left taken result state.new left taken }
+    ensures keeps { OnErr result (KeepsWorld state.old state.new) }
     ensures spares { IfErr result SparesSink }
 {
     if state.parent().is_some() {

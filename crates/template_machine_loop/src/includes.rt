@@ -3,6 +3,7 @@ ghost use Rattle.std.specs.Prelude.{◌≡◌, ◌⊎◌, Ok, Err, Some, IfOk, I
 ghost use Rattle.template_values_errors.specs.Memory.{NoMemory};
 ghost use Rattle.template_process.specs.Process.{done};
 ghost use Rattle.template_machine_meaning.specs.Includes.{first_standing, include_levels, include_plan, include_within};
+ghost use Rattle.template_machine_meaning.specs.Keeps.{KeepsWorld};
 ghost use Rattle.template_machine_meaning.specs.Plans.{room_for};
 ghost use Rattle.template_machine_meaning.specs.Records.{known_of};
 ghost use Rattle.template_machine_operations.specs.Outcomes.{TellsFailures};
@@ -47,6 +48,7 @@ pub(crate) fn include<'env, T: Templates, S: Sink>(
         let s = programs_under (T.standing templates) (T.joins templates) (T.callables templates) root program.entry.rules in
         DoesPlan (λ u. done) s (include_plan (known_of state.old) s.around state.old ignore_missing value)
         state.old left.old (S.taken sink.old) result state.new left.new (S.taken sink.new) }
+    ensures keeps { KeepsWorld state.old state.new }
     ensures failures { TellsFailures result (S.failures sink.old) (S.failures sink.new) }
 {
     let choice = chosen(alloc, program, ignore_missing, value, state)?;
@@ -72,6 +74,7 @@ fn run_included<'env, T: Templates, S: Sink>(
         let s = programs_under (T.standing templates) (T.joins templates) (T.callables templates) root program.entry.rules in
         DoesPlan (λ u. done) s (room_for s.around.limit include_levels state.old (include_within state.old (found_of (standing_of found.entry))))
         state.old left.old (S.taken sink.old) result state.new left.new (S.taken sink.new) }
+    ensures keeps { KeepsWorld state.old state.new }
     ensures failures { TellsFailures result (S.failures sink.old) (S.failures sink.new) }
 {
     if !state.has_room(program.rules.limit, INCLUDE_LEVELS) {

@@ -3,6 +3,7 @@ ghost use Rattle.std.specs.Prelude.{◌≡◌, ◌⊎◌, IfErr, IfOk, map, opti
 ghost use Rattle.template_values_errors.specs.Memory.{NoMemory};
 ghost use Rattle.template_code.specs.Code.{single};
 ghost use Rattle.template_process.specs.Process.{value};
+ghost use Rattle.template_machine_meaning.specs.Keeps.{KeepsWorld};
 ghost use Rattle.template_machine_meaning.specs.Macros.{macro_plan};
 ghost use Rattle.template_machine_meaning.specs.Records.{macro_of};
 ghost use Rattle.template_machine_operations.specs.Outcomes.{TellsFailures};
@@ -65,6 +66,8 @@ pub(crate) fn call_macro<'env, T: Templates, S: Sink>(
         let s = programs_under (T.standing templates) (T.joins templates) (T.callables templates) root program.entry.rules in
         DoesPlan value s (macro_plan s.around.limit pending state.old args.items (macro_of state.old id number))
         state.old left.old (S.taken sink.old) result state.new left.new (S.taken sink.new) }
+    ensures keeps { KeepsWorld state.old state.new }
+    ensures frames { state.new.frames ≡ state.old.frames }
     ensures failures { TellsFailures result (S.failures sink.old) (S.failures sink.new) }
 {
     let begun = begin(alloc, program, id, number, args, pending, state)?;

@@ -3,6 +3,7 @@ ghost use Rattle.std.specs.Prelude.{◌≡◌, ◌∷◌, [], ◌⊎◌, Bool, I
 ghost use Rattle.template_values_errors.specs.Memory.{NoMemory};
 ghost use Rattle.template_values_errors.specs.declared.ErrorKind.TheVariants.{InvalidOperation};
 ghost use Rattle.template_process.specs.Process.{done, value};
+ghost use Rattle.template_machine_meaning.specs.Keeps.{KeepsWorld};
 ghost use Rattle.template_machine_meaning.specs.Records.{loop_of};
 ghost use Rattle.template_machine_loops.specs.Rounds.{rounds_in};
 ghost use Rattle.template_machine_meaning.specs.Keys.{Around};
@@ -46,7 +47,8 @@ pub(crate) struct Begun<'env> {
     pub(crate) items: Items,
 }
 
-/// Runs the rounds of the innermost loop again over the items of a value, and writes their text where the run stands.
+/// Runs the rounds of the innermost loop again over the items of a value, and writes their text where the run stands. Behind an error,
+/// what was open around them is as it was.
 ///
 /// # Errors
 ///
@@ -65,6 +67,7 @@ pub(crate) fn print_rounds<'env, T: Templates, S: Sink>(
     ensures plan { let templates = program.entry.templates.now in let root = option_map standing_of program.entry.root in
         let s = programs_under (T.standing templates) (T.joins templates) (T.callables templates) root program.entry.rules in
         DoesPlan (λ u. done) s (recurse_plan s.around state.old over) state.old left.old (S.taken sink.old) result state.new left.new (S.taken sink.new) }
+    ensures keeps { KeepsWorld state.old state.new }
     ensures failures { TellsFailures result (S.failures sink.old) (S.failures sink.new) }
 {
     let Some(current) = state.innermost_loop() else {
@@ -78,14 +81,20 @@ pub(crate) fn print_rounds<'env, T: Templates, S: Sink>(
     let ran = run_from(
         alloc, program, code, place, operands, state, left, scratch, sink,
     );
-    state.leave_rounds(alloc, caller);
     match ran {
-        Ok(_) => Ok(()),
-        Err(error) => Err(error),
+        Ok(_) => {
+            state.leave_rounds(alloc, caller);
+            Ok(())
+        }
+        Err(error) => {
+            state.leave_block(caller);
+            Err(error)
+        }
     }
 }
 
 /// Runs the rounds of the loop of a number, in the state of an id, again over the items of the one argument, and gives their text.
+/// Behind an error, what was open around them is as it was.
 ///
 /// # Errors
 ///
@@ -106,6 +115,8 @@ pub(crate) fn call_rounds<'env, T: Templates, S: Sink>(
         let s = programs_under (T.standing templates) (T.joins templates) (T.callables templates) root program.entry.rules in
         DoesPlan value s (again_plan s.around state.old args.items (loop_of state.old id number))
         state.old left.old (S.taken sink.old) result state.new left.new (S.taken sink.new) }
+    ensures keeps { KeepsWorld state.old state.new }
+    ensures frames { state.new.frames ≡ state.old.frames }
     ensures failures { TellsFailures result (S.failures sink.old) (S.failures sink.new) }
 {
     let over = only(args)?;
@@ -123,7 +134,7 @@ pub(crate) fn call_rounds<'env, T: Templates, S: Sink>(
     match ran {
         Ok(_) => state.leave_rounds_text(alloc, caller),
         Err(error) => {
-            state.leave_named_rounds(alloc, caller);
+            state.leave_block(caller);
             Err(error)
         }
     }

@@ -1,6 +1,7 @@
 //! The run of code with the templates that are extended.
 ghost use Rattle.std.specs.Prelude.{◌≡◌, ◌≤◌, length, Some, option_map};
 ghost use Rattle.template_code.specs.Listing.{code_in};
+ghost use Rattle.template_machine_meaning.specs.Keeps.{KeepsWorld};
 ghost use Rattle.template_machine_meaning.specs.Keys.{Stream, whole_of};
 ghost use Rattle.template_machine_operations.specs.Outcomes.{TellsFailures};
 ghost use Rattle.template_machine_loop.specs.Programs.{code_at, programs_under, standing_of};
@@ -35,6 +36,7 @@ pub fn run_whole<'env, T: Templates, S: Sink>(
         (here : Stream) → code_at (T.standing templates) root here ≡ Some (code_in code.now) →
         KeyRuns (programs_under (T.standing templates) (T.joins templates) (T.callables templates) root program.entry.rules)
         (whole_of here) state.old left.old (S.taken sink.old) result state.new left.new (S.taken sink.new) }
+    ensures keeps { KeepsWorld state.old state.new }
     ensures failures { TellsFailures result (S.failures sink.old) (S.failures sink.new) }
 {
     let _first = run_to_end(alloc, program, code, state, left, scratch, sink)?;

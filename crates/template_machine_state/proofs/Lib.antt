@@ -4,3 +4,4 @@ mod Closing
 mod Worlds
 mod Stacks
 mod Enclosing
+pub mod Keeping

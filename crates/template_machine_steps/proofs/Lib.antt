@@ -1,4 +1,5 @@
 pub mod Performing
+pub mod Keeping
 pub mod Lacking
 pub mod Stepping
 pub mod Gathering

@@ -8,17 +8,19 @@ use Rattle.template_code.specs.Listing.{code_in}
 use Rattle.template_code.specs.View.{code_of}
 use Rattle.template_code_blocks.specs.Streams.{stream_in}
 use Rattle.template_machine_blocks.specs.Streams.{home_of}
-use Rattle.template_machine_meaning.specs.World.{World}
+use Rattle.template_machine_meaning.specs.World.{World, empty_frame, loop_frame}
 use Rattle.template_machine_meaning.specs.Records.{known_of, loop_of, macro_of}
-use Rattle.template_machine_meaning.specs.Rounds.{again_plan, recurse_plan, rounds_plan}
+use Rattle.template_machine_meaning.specs.Rounds.{again_plan, loop_again, recurse_plan, rounds_plan, rounds_within}
 use Rattle.template_machine_loops.specs.Rounds.{rounds_in}
 use Rattle.template_machine_meaning.specs.Blocks.{block_called, block_plan, block_within, super_plan, super_within, text_plan, text_within}
 use Rattle.template_machine_meaning.specs.Macros.{macro_levels, macro_plan}
 use Rattle.template_machine_meaning.specs.Includes.{include_levels, include_within, include_plan}
-use Rattle.template_machine_meaning.specs.Plans.{Caller, caller_of, put_back, room_for, outermost, after_by, calls_macro, calls_super, includes, runs_rounds, takes_block}
+use Rattle.template_machine_meaning.specs.Plans.{Caller, caller_of, put_back, room_for, outermost, after_by, calls_block, calls_macro, calls_super, includes, runs_rounds, takes_block}
 use Rattle.template_machine_meaning.specs.Keeps.{KeepsWorld}
 use Rattle.template_machine_meaning.specs.Keys.{block_of, whole_of}
+use Rattle.template_machine_meaning.proofs.RunsKept.{block_begun, include_begun, macro_begun, rounds_begun, text_begun, world_on, world_stays}
 use Rattle.template_machine_going.proofs.Going.{goes_nowhere}
+use Rattle.template_machine_steps.proofs.Keeping.{goes_keep, keeps_so}
 use Rattle.template_machine_steps.proofs.Stepping.{lost_one, lost_out}
 use Rattle.template_machine_perform.proofs.Lifting.{no_programs, spared_tells}
 use Rattle.template_machine_meaning.specs.Captures.{captured, innermost}
@@ -29,12 +31,13 @@ use Rattle.template_machine_operations.specs.Outcomes.{TellsFailures}
 use Rattle.template_machine_loop.specs.Found.{name_in, found_of, FindsTemplateOrNone}
 use Rattle.template_machine_loop.specs.Programs.{standing_of, programs_under, task_of}
 use Rattle.template_machine_loop.specs.Runs.{RunsFrom}
-use Rattle.template_machine_loop.proofs.Advancing.{advance_over, behind_on, ended_task, place_fits, goes_further, goes_keeps, ends_keep, run_ended, run_over, run_stopped, run_wanting}
+use Rattle.template_machine_loop.proofs.Advancing.{advance_over, behind_on, ended_task, place_fits, goes_further, ends_keep, run_ended, run_over, run_stopped, run_wanting}
 use Rattle.template_machine_loop.proofs.Onward.{behind_lost, paid_leads, paid_onward, performs_behind, spared, steps_on_there, steps_over, steps_spent, steps_to, tells_on_led, tells_on_there, tells_onward}
 use Rattle.template_machine_loop.proofs.Entered.{recurse_lacks, call_done, call_enters, does_as, does_steps, block_does, printed_does, recurse_does, include_does, load_does, super_lost, named_refused, named_halted, named_does}
 use Rattle.template_machine_loop.proofs.Failing.{other, tells_other, tells_on, tells_wrapped}
 use Rattle.template_machine_loop.proofs.Followed.{comes_itself, key_stops, key_ends, key_lacks, key_lost, key_restarts}
 use Rattle.template_machine_loop.proofs.Within.{length-writes, keyed, refused_as, roomless, roomy, puts_back_itself, puts_back_same, stops_first, block_code, template_code, within_ends, within_breaks, within_does, within_gives, plan_as, refused_plan, tells_as, as_captured, as_innermost, as_kept, given_tells}
+use Rattle.template_machine_loop.proofs.Lasting.{comes_back, frames_back, restart_keeps, rounds_put_back, stays_same, super_begun}
 use Rattle.template_machine_loop.proofs.Parts.{again_refused, loop_known, loop_runs, macro_begins, macro_entered, macro_keyed, macro_runs, no_loop_known, no_loop_runs, not_recursive, rounds_entered, rounds_keyed, rounds_refused, rounds_runs}
 use Rattle.template_machine_loop.proofs.Turned.{call_gives, call_halts, halted_as, turned_does, turned_halts, turning_tells, uniform}
 use Rattle.template_machine_loop.proofs.Wrapping.{stop_spares}
@@ -47,7 +50,7 @@ pub running::step-returns-in_err-pay-clause-advances : goal.running::step-return
 running::step-returns-in_err-pay-clause-advances g t c at =
     steps_spent (programs_under (g.T.Templates.standing c.args.program.templates.now) (g.T.Templates.joins c.args.program.templates.now) (g.T.Callbacks.callables c.args.program.templates.now) (option_map standing_of c.args.program.root) c.args.program.rules)
     (code_in c.args.code.now) (code_of c.args.instruction.now) c.args.place (operands_in c.args.operands.now) c.args.state.now c.args.left.now (g.S.Sink.taken c.args.sink.now)
-    c.from_residual.result (operands_in c.args.operands.now) c.args.state.now c.pay.new.left _ at c.in_err-pay.ensures.priced c.in_err-pay.ensures.spent c.in_err-pay.ensures.unchanged
+    c.from_residual.result (operands_in c.args.operands.now) c.args.state.now c.pay.new.left _ (world_stays c.args.state.now) at c.in_err-pay.ensures.priced c.in_err-pay.ensures.spent c.in_err-pay.ensures.nothing
     c.in_err-pay.ensures.kind c.from_residual.ensures.1
 
 pub running::step-returns-in_err-pay-clause-failures : goal.running::step-returns-in_err-pay-clause-failures
@@ -157,11 +160,22 @@ running::run_from-returns-in_err-ahead-clause-failures g t c =
     tells_on ℕ c.from_residual.result _ (g.S.Sink.failures c.args.sink.now) (g.S.Sink.failures c.loop.sink) (g.S.Sink.failures c.advance_unpaid.new.sink)
     c.from_residual.ensures.1 c.loop.invariant.1 c.in_err-ahead.ensures.failures
 
+pub running::run_from-returns-in_err-ahead-clause-keeps : goal.running::run_from-returns-in_err-ahead-clause-keeps
+running::run_from-returns-in_err-ahead-clause-keeps g t c =
+    let s = programs_under (g.T.Templates.standing c.args.program.templates.now) (g.T.Templates.joins c.args.program.templates.now) (g.T.Callbacks.callables c.args.program.templates.now) (option_map standing_of c.args.program.root) c.args.program.rules in
+    let so_far : KeepsWorld c.args.state.now c.loop.state = goes_keep s (code_in c.args.code.now) _ _ c.loop.invariant.0 in
+    world_on c.args.state.now c.loop.state c.advance_unpaid.new.state so_far (c.in_err-ahead.ensures.advances s c.formats-formatted.ensures).keeps
+
 pub running::run_from-returns-in_default-clause-runs : goal.running::run_from-returns-in_default-clause-runs
 running::run_from-returns-in_default-clause-runs g t c =
     let s = programs_under (g.T.Templates.standing c.args.program.templates.now) (g.T.Templates.joins c.args.program.templates.now) (g.T.Callbacks.callables c.args.program.templates.now) (option_map standing_of c.args.program.root) c.args.program.rules in
     run_ended s _ _ _ _ _ _ _ _ _ _ _
     (goes_further s _ _ _ _ _ _ _ _ _ _ _ _ c.loop.invariant.0 (c.in_ok-ahead.ensures.advances s c.formats-formatted.ensures)) (sym c.in_default.ensures)
+
+pub running::run_from-returns-in_default-clause-keeps : goal.running::run_from-returns-in_default-clause-keeps
+running::run_from-returns-in_default-clause-keeps g t c =
+    let s = programs_under (g.T.Templates.standing c.args.program.templates.now) (g.T.Templates.joins c.args.program.templates.now) (g.T.Callbacks.callables c.args.program.templates.now) (option_map standing_of c.args.program.root) c.args.program.rules in
+    goes_keep s (code_in c.args.code.now) _ _ (goes_further s _ _ _ _ _ _ _ _ _ _ _ _ c.loop.invariant.0 (c.in_ok-ahead.ensures.advances s c.formats-formatted.ensures))
 
 pub running::run_from-returns-in_err-next-clause-runs : goal.running::run_from-returns-in_err-next-clause-runs
 running::run_from-returns-in_err-next-clause-runs g t c =
@@ -175,6 +189,12 @@ running::run_from-returns-in_err-next-clause-failures g t c =
     tells_on (Option ℕ) c.from_residual-in_err-next.result _ (g.S.Sink.failures c.args.sink.now) (g.S.Sink.failures c.advance_unpaid.new.sink) (g.S.Sink.failures c.step.new.sink)
     c.from_residual-in_err-next.ensures.1 (c.in_ok-ahead.ensures.failures ∙ c.loop.invariant.1) c.in_err-next.ensures.failures
 
+pub running::run_from-returns-in_err-next-clause-keeps : goal.running::run_from-returns-in_err-next-clause-keeps
+running::run_from-returns-in_err-next-clause-keeps g t c =
+    let s = programs_under (g.T.Templates.standing c.args.program.templates.now) (g.T.Templates.joins c.args.program.templates.now) (g.T.Callbacks.callables c.args.program.templates.now) (option_map standing_of c.args.program.root) c.args.program.rules in
+    let on : KeepsWorld c.args.state.now c.advance_unpaid.new.state = goes_keep s (code_in c.args.code.now) _ _ (goes_further s _ _ _ _ _ _ _ _ _ _ _ _ c.loop.invariant.0 (c.in_ok-ahead.ensures.advances s c.formats-formatted.ensures)) in
+    world_on c.args.state.now c.advance_unpaid.new.state c.step.new.state on (c.in_err-next.ensures.advances (sym c.in-Some.ensures)).keeps
+
 pub running::run_from-returns-in-None-clause-runs : goal.running::run_from-returns-in-None-clause-runs
 running::run_from-returns-in-None-clause-runs g t c =
     let s = programs_under (g.T.Templates.standing c.args.program.templates.now) (g.T.Templates.joins c.args.program.templates.now) (g.T.Callbacks.callables c.args.program.templates.now) (option_map standing_of c.args.program.root) c.args.program.rules in
@@ -184,6 +204,14 @@ running::run_from-returns-in-None-clause-runs g t c =
 
 pub running::run_from-returns-in-None-clause-failures : goal.running::run_from-returns-in-None-clause-failures
 running::run_from-returns-in-None-clause-failures g t c = c.in_ok-next.ensures.failures ∙ (c.in_ok-ahead.ensures.failures ∙ c.loop.invariant.1)
+
+pub running::run_from-returns-in-None-clause-keeps : goal.running::run_from-returns-in-None-clause-keeps
+running::run_from-returns-in-None-clause-keeps g t c =
+    let s = programs_under (g.T.Templates.standing c.args.program.templates.now) (g.T.Templates.joins c.args.program.templates.now) (g.T.Callbacks.callables c.args.program.templates.now) (option_map standing_of c.args.program.root) c.args.program.rules in
+    let on : KeepsWorld c.args.state.now c.advance_unpaid.new.state = goes_keep s (code_in c.args.code.now) _ _ (goes_further s _ _ _ _ _ _ _ _ _ _ _ _ c.loop.invariant.0 (c.in_ok-ahead.ensures.advances s c.formats-formatted.ensures)) in
+    let over : KeepsWorld c.advance_unpaid.new.state c.step.new.state =
+    ends_keep s (code_in c.args.code.now) _ _ _ _ _ (steps_over s _ _ _ _ _ _ _ _ _ _ _ c.in-None.is (c.in_ok-next.ensures.advances (sym c.in-Some.ensures))) in
+    world_on c.args.state.now c.advance_unpaid.new.state c.step.new.state on over
 
 pub running::run_from-loop-preserved : goal.running::run_from-loop-preserved
 running::run_from-loop-preserved g t c = (
@@ -198,7 +226,7 @@ pub running::run_from-step-requires : goal.running::run_from-step-requires
 running::run_from-step-requires g t c κs within =
     let s = programs_under (g.T.Templates.standing c.args.program.templates.now) (g.T.Templates.joins c.args.program.templates.now) (g.T.Callbacks.callables c.args.program.templates.now) (option_map standing_of c.args.program.root) c.args.program.rules in
     let kept : KeepsWorld c.args.state.now c.advance_unpaid.new.state =
-    goes_keeps s (code_in c.args.code.now) _ _ (goes_further s _ _ _ _ _ _ _ _ _ _ _ _ c.loop.invariant.0 (c.in_ok-ahead.ensures.advances s c.formats-formatted.ensures)) in
+    goes_keep s (code_in c.args.code.now) _ _ (goes_further s _ _ _ _ _ _ _ _ _ _ _ _ c.loop.invariant.0 (c.in_ok-ahead.ensures.advances s c.formats-formatted.ensures)) in
     let outer : c.advance_unpaid.new.state.outer ≡ c.args.state.now.outer = kept.outer in
     let floor : c.advance_unpaid.new.state.floor ≡ c.args.state.now.floor = kept.floor in
     let many : c.args.state.now.floor ≤ length c.advance_unpaid.new.state.frames = (kept.frames c.requires).many in
@@ -214,6 +242,11 @@ running::run_from-returns-clause-runs g t c = run_wanting (programs_under (g.T.T
 
 pub running::run_from-returns-clause-failures : goal.running::run_from-returns-clause-failures
 running::run_from-returns-clause-failures g t c = inr (other c.new.result (OutOfMemory ∷ []) c.new.ensures tt, c.loop.invariant.1)
+
+pub running::run_from-returns-clause-keeps : goal.running::run_from-returns-clause-keeps
+running::run_from-returns-clause-keeps g t c =
+    let s = programs_under (g.T.Templates.standing c.args.program.templates.now) (g.T.Templates.joins c.args.program.templates.now) (g.T.Callbacks.callables c.args.program.templates.now) (option_map standing_of c.args.program.root) c.args.program.rules in
+    goes_keep s (code_in c.args.code.now) _ _ c.loop.invariant.0
 
 -- from its first place on
 pub running::run_to_end-run_from-requires : goal.running::run_to_end-run_from-requires
@@ -242,6 +275,9 @@ blocks::run_body-returns-then-not-has_room-clause-back g t c = puts_back_itself 
 pub blocks::run_body-returns-then-not-has_room-clause-failures : goal.blocks::run_body-returns-then-not-has_room-clause-failures
 blocks::run_body-returns-then-not-has_room-clause-failures g t c = inr (other c.new.result (InvalidOperation ∷ []) c.new.ensures tt, refl)
 
+pub blocks::run_body-returns-then-not-has_room-clause-keeps : goal.blocks::run_body-returns-then-not-has_room-clause-keeps
+blocks::run_body-returns-then-not-has_room-clause-keeps g t c = world_stays c.args.state.now
+
 pub blocks::run_body-enter_block-requires : goal.blocks::run_body-enter_block-requires
 blocks::run_body-enter_block-requires g t c =
     let room : length c.args.state.now.frames + c.args.state.now.outer + 1 ≤ c.args.program.rules.limit = roomy c.args.program.rules.limit 1 c.args.state.now (sym c.has_room.ensures ∙ c.if-not-has_room.false) in
@@ -259,6 +295,12 @@ blocks::run_body-returns-in_err-caller-clause-back g t c = puts_back_same c.args
 pub blocks::run_body-returns-in_err-caller-clause-failures : goal.blocks::run_body-returns-in_err-caller-clause-failures
 blocks::run_body-returns-in_err-caller-clause-failures g t c =
     tells_other c.from_residual.result _ (g.S.Sink.failures c.args.sink.now) c.from_residual.ensures.1 (other _ (OutOfMemory ∷ []) c.in_err-caller.ensures.refused tt)
+
+pub blocks::run_body-returns-in_err-caller-clause-keeps : goal.blocks::run_body-returns-in_err-caller-clause-keeps
+blocks::run_body-returns-in_err-caller-clause-keeps g t c = stays_same c.args.state.now c.enter_block.new.self c.in_err-caller.ensures.unchanged
+
+pub blocks::run_body-returns-in_err-caller-clause-frames : goal.blocks::run_body-returns-in_err-caller-clause-frames
+blocks::run_body-returns-in_err-caller-clause-frames g t c = ap (λ (w : World). w.frames) c.in_err-caller.ensures.unchanged
 
 pub blocks::run_body-run_whole-ran-requires : goal.blocks::run_body-run_whole-ran-requires
 blocks::run_body-run_whole-ran-requires g t c κs within =
@@ -283,6 +325,23 @@ blocks::run_body-returns-clause-plan g t c =
     (c.run_whole-ran.ensures.runs (block_of home (name_in c.args.found)) (block_code (g.T.Templates.standing c.args.program.templates.now) (g.T.Templates.joins c.args.program.templates.now) (g.T.Callbacks.callables c.args.program.templates.now) (option_map standing_of c.args.program.root) c.args.program.rules home (name_in c.args.found) stream c.requires)) (λ u. refl)
     (c.leave_block.ensures ∙ ap (λ (k : Caller). put_back k c.run_whole-ran.new.state) c.in_ok-caller.ensures.kept)
 
+pub blocks::run_body-returns-clause-keeps : goal.blocks::run_body-returns-clause-keeps
+blocks::run_body-returns-clause-keeps g t c =
+    let home = home_of c.args.found.home in
+    comes_back c.args.state.now (block_within c.args.state.now (name_in c.args.found) home) c.enter_block.new.self c.run_whole-ran.new.state
+    (c.in_ok-caller.ensures.within ∙ ap (λ n. (block_within c.args.state.now n home).begins) c.as_str.ensures.value) c.run_whole-ran.ensures.keeps
+    (block_begun c.args.state.now (name_in c.args.found) home) c.leave_block.new.self
+    (c.leave_block.ensures ∙ ap (λ (k : Caller). put_back k c.run_whole-ran.new.state) c.in_ok-caller.ensures.kept)
+
+pub blocks::run_body-returns-clause-frames : goal.blocks::run_body-returns-clause-frames
+blocks::run_body-returns-clause-frames g t c =
+    let home = home_of c.args.found.home in
+    frames_back c.args.state.now (block_within c.args.state.now (name_in c.args.found) home) c.enter_block.new.self c.run_whole-ran.new.state
+    (c.in_ok-caller.ensures.within ∙ ap (λ n. (block_within c.args.state.now n home).begins) c.as_str.ensures.value) c.run_whole-ran.ensures.keeps
+    empty_frame refl refl c.leave_block.new.self
+    (ap (λ (w : World). w.frames)
+    (c.leave_block.ensures ∙ ap (λ (k : Caller). put_back k c.run_whole-ran.new.state) c.in_ok-caller.ensures.kept))
+
 pub blocks::run_body-returns-clause-back : goal.blocks::run_body-returns-clause-back
 blocks::run_body-returns-clause-back g t c = record {
   within = c.run_whole-ran.new.state;
@@ -303,6 +362,9 @@ pub blocks::run_block-returns-in_err-found-clause-failures : goal.blocks::run_bl
 blocks::run_block-returns-in_err-found-clause-failures g t c =
     tells_other c.from_residual.result _ (g.S.Sink.failures c.args.sink.now) c.from_residual.ensures.1 c.in_err-found.ensures.spares
 
+pub blocks::run_block-returns-in_err-found-clause-keeps : goal.blocks::run_block-returns-in_err-found-clause-keeps
+blocks::run_block-returns-in_err-found-clause-keeps g t c = world_stays c.args.state.now
+
 pub blocks::run_block-run_body-requires : goal.blocks::run_block-run_body-requires
 blocks::run_block-run_body-requires g t c κs within =
     let bound : 8 * (c.args.program.rules.limit - (length c.args.state.now.frames + c.args.state.now.outer)) + 2 ≡ t = c.requires.1.0 in
@@ -320,6 +382,9 @@ blocks::call_block-returns-then-is_passed_over-clause-plan g t c =
     let s = programs_under (g.T.Templates.standing c.args.program.templates.now) (g.T.Templates.joins c.args.program.templates.now) (g.T.Callbacks.callables c.args.program.templates.now) (option_map standing_of c.args.program.root) c.args.program.rules in
     answers s (block_called s.around c.args.state.now c.args.name.now) c.args.state.now c.args.left.now (g.S.Sink.taken c.args.sink.now) (λ (u : Unit {0}). done) _ c.args.state.now
     (passed_over s c.args.state.now c.args.name.now (sym c.is_passed_over.ensures ∙ c.if-is_passed_over.true))
+
+pub blocks::call_block-returns-then-is_passed_over-clause-keeps : goal.blocks::call_block-returns-then-is_passed_over-clause-keeps
+blocks::call_block-returns-then-is_passed_over-clause-keeps g t c = world_stays c.args.state.now
 
 pub blocks::call_block-run_block-requires : goal.blocks::call_block-run_block-requires
 blocks::call_block-run_block-requires g t c κs within =
@@ -343,6 +408,9 @@ blocks::print_super-returns-in_default-clause-plan g t c =
 pub blocks::print_super-returns-in_default-clause-failures : goal.blocks::print_super-returns-in_default-clause-failures
 blocks::print_super-returns-in_default-clause-failures g t c = inr (other c.new.result (InvalidOperation ∷ []) c.new.ensures tt, refl)
 
+pub blocks::print_super-returns-in_default-clause-keeps : goal.blocks::print_super-returns-in_default-clause-keeps
+blocks::print_super-returns-in_default-clause-keeps g t c = world_stays c.args.state.now
+
 pub blocks::print_super-returns-then-not-has_room-clause-plan : goal.blocks::print_super-returns-then-not-has_room-clause-plan
 blocks::print_super-returns-then-not-has_room-clause-plan g t c =
     let s = programs_under (g.T.Templates.standing c.args.program.templates.now) (g.T.Templates.joins c.args.program.templates.now) (g.T.Callbacks.callables c.args.program.templates.now) (option_map standing_of c.args.program.root) c.args.program.rules in
@@ -354,6 +422,9 @@ blocks::print_super-returns-then-not-has_room-clause-plan g t c =
 
 pub blocks::print_super-returns-then-not-has_room-clause-failures : goal.blocks::print_super-returns-then-not-has_room-clause-failures
 blocks::print_super-returns-then-not-has_room-clause-failures g t c = inr (other c.new-then-not-has_room.result (InvalidOperation ∷ []) c.new-then-not-has_room.ensures tt, refl)
+
+pub blocks::print_super-returns-then-not-has_room-clause-keeps : goal.blocks::print_super-returns-then-not-has_room-clause-keeps
+blocks::print_super-returns-then-not-has_room-clause-keeps g t c = world_stays c.args.state.now
 
 pub blocks::print_super-enter_super-requires-clause-depth : goal.blocks::print_super-enter_super-requires-clause-depth
 blocks::print_super-enter_super-requires-clause-depth g t c =
@@ -372,6 +443,9 @@ blocks::print_super-returns-in_err-caller-clause-plan g t c =
 pub blocks::print_super-returns-in_err-caller-clause-failures : goal.blocks::print_super-returns-in_err-caller-clause-failures
 blocks::print_super-returns-in_err-caller-clause-failures g t c =
     tells_other c.from_residual.result _ (g.S.Sink.failures c.args.sink.now) c.from_residual.ensures.1 (other _ (OutOfMemory ∷ []) c.in_err-caller.ensures.refused tt)
+
+pub blocks::print_super-returns-in_err-caller-clause-keeps : goal.blocks::print_super-returns-in_err-caller-clause-keeps
+blocks::print_super-returns-in_err-caller-clause-keeps g t c = stays_same c.args.state.now c.enter_super.new.self c.in_err-caller.ensures.unchanged
 
 pub blocks::print_super-run_whole-ran-requires : goal.blocks::print_super-run_whole-ran-requires
 blocks::print_super-run_whole-ran-requires g t c κs within =
@@ -417,10 +491,32 @@ blocks::print_super-returns-in-Err-clause-plan g t c =
 pub blocks::print_super-returns-in-Ok-clause-failures : goal.blocks::print_super-returns-in-Ok-clause-failures
 blocks::print_super-returns-in-Ok-clause-failures g t c = subst (λ r. TellsFailures r (g.S.Sink.failures c.args.sink.now) (g.S.Sink.failures c.run_whole-ran.new.sink)) c.in-Ok.is c.run_whole-ran.ensures.failures
 
+pub blocks::print_super-returns-in-Ok-clause-keeps : goal.blocks::print_super-returns-in-Ok-clause-keeps
+blocks::print_super-returns-in-Ok-clause-keeps g t c =
+    let s = programs_under (g.T.Templates.standing c.args.program.templates.now) (g.T.Templates.joins c.args.program.templates.now) (g.T.Callbacks.callables c.args.program.templates.now) (option_map standing_of c.args.program.root) c.args.program.rules in
+    let home = home_of c.in-Some.found.home in
+    let y = super_within c.args.state.now false (name_in c.in-Some.found) c.in-Some.found.place home in
+    comes_back c.args.state.now y c.enter_super.new.self c.run_whole-ran.new.state
+    (c.in_ok-caller.ensures.within ∙ ap (λ n. (super_within c.args.state.now false n c.in-Some.found.place home).begins) c.as_str-name.ensures.value) c.run_whole-ran.ensures.keeps
+    (super_begun s c.args.state.now false y (c.in-Some.ensures.found.planned false) (sym c.has_room.ensures ∙ c.if-not-has_room.false)) c.leave_super.new.self
+    (c.leave_super.ensures false ∙ ap (λ (k : Caller). after_by (calls_super false c.as_str-name.result.now c.in-Some.found.place) k c.run_whole-ran.new.state) c.in_ok-caller.ensures.kept
+    ∙ ap (λ n. after_by (calls_super false n c.in-Some.found.place) (caller_of c.args.state.now) c.run_whole-ran.new.state) c.as_str-name.ensures.value)
+
 pub blocks::print_super-returns-in-Err-clause-failures : goal.blocks::print_super-returns-in-Err-clause-failures
 blocks::print_super-returns-in-Err-clause-failures g t c =
     tells_wrapped (Unit {0}) (Unit {0}) EvalBlock c.in-Err.error c.wrapped.result (g.S.Sink.failures c.args.sink.now) (g.S.Sink.failures c.run_whole-ran.new.sink) tt c.wrapped.ensures
     (tells_as c.run_whole-ran.result c.in-Err.error (g.S.Sink.failures c.args.sink.now) (g.S.Sink.failures c.run_whole-ran.new.sink) c.in-Err.is c.run_whole-ran.ensures.failures)
+
+pub blocks::print_super-returns-in-Err-clause-keeps : goal.blocks::print_super-returns-in-Err-clause-keeps
+blocks::print_super-returns-in-Err-clause-keeps g t c =
+    let s = programs_under (g.T.Templates.standing c.args.program.templates.now) (g.T.Templates.joins c.args.program.templates.now) (g.T.Callbacks.callables c.args.program.templates.now) (option_map standing_of c.args.program.root) c.args.program.rules in
+    let home = home_of c.in-Some.found.home in
+    let y = super_within c.args.state.now false (name_in c.in-Some.found) c.in-Some.found.place home in
+    comes_back c.args.state.now y c.enter_super.new.self c.run_whole-ran.new.state
+    (c.in_ok-caller.ensures.within ∙ ap (λ n. (super_within c.args.state.now false n c.in-Some.found.place home).begins) c.as_str-name.ensures.value) c.run_whole-ran.ensures.keeps
+    (super_begun s c.args.state.now false y (c.in-Some.ensures.found.planned false) (sym c.has_room.ensures ∙ c.if-not-has_room.false)) c.leave_super.new.self
+    (c.leave_super.ensures false ∙ ap (λ (k : Caller). after_by (calls_super false c.as_str-name.result.now c.in-Some.found.place) k c.run_whole-ran.new.state) c.in_ok-caller.ensures.kept
+    ∙ ap (λ n. after_by (calls_super false n c.in-Some.found.place) (caller_of c.args.state.now) c.run_whole-ran.new.state) c.as_str-name.ensures.value)
 
 -- the body behind: call_super
 pub blocks::call_super-returns-in_default-clause-plan : goal.blocks::call_super-returns-in_default-clause-plan
@@ -431,6 +527,9 @@ blocks::call_super-returns-in_default-clause-plan g t c =
 
 pub blocks::call_super-returns-in_default-clause-failures : goal.blocks::call_super-returns-in_default-clause-failures
 blocks::call_super-returns-in_default-clause-failures g t c = inr (other c.new.result (InvalidOperation ∷ []) c.new.ensures tt, refl)
+
+pub blocks::call_super-returns-in_default-clause-keeps : goal.blocks::call_super-returns-in_default-clause-keeps
+blocks::call_super-returns-in_default-clause-keeps g t c = world_stays c.args.state.now
 
 pub blocks::call_super-returns-then-not-has_room-clause-plan : goal.blocks::call_super-returns-then-not-has_room-clause-plan
 blocks::call_super-returns-then-not-has_room-clause-plan g t c =
@@ -443,6 +542,9 @@ blocks::call_super-returns-then-not-has_room-clause-plan g t c =
 
 pub blocks::call_super-returns-then-not-has_room-clause-failures : goal.blocks::call_super-returns-then-not-has_room-clause-failures
 blocks::call_super-returns-then-not-has_room-clause-failures g t c = inr (other c.new-then-not-has_room.result (InvalidOperation ∷ []) c.new-then-not-has_room.ensures tt, refl)
+
+pub blocks::call_super-returns-then-not-has_room-clause-keeps : goal.blocks::call_super-returns-then-not-has_room-clause-keeps
+blocks::call_super-returns-then-not-has_room-clause-keeps g t c = world_stays c.args.state.now
 
 pub blocks::call_super-enter_super-requires-clause-depth : goal.blocks::call_super-enter_super-requires-clause-depth
 blocks::call_super-enter_super-requires-clause-depth g t c =
@@ -461,6 +563,9 @@ blocks::call_super-returns-in_err-caller-clause-plan g t c =
 pub blocks::call_super-returns-in_err-caller-clause-failures : goal.blocks::call_super-returns-in_err-caller-clause-failures
 blocks::call_super-returns-in_err-caller-clause-failures g t c =
     tells_other c.from_residual.result _ (g.S.Sink.failures c.args.sink.now) c.from_residual.ensures.1 (other _ (OutOfMemory ∷ []) c.in_err-caller.ensures.refused tt)
+
+pub blocks::call_super-returns-in_err-caller-clause-keeps : goal.blocks::call_super-returns-in_err-caller-clause-keeps
+blocks::call_super-returns-in_err-caller-clause-keeps g t c = stays_same c.args.state.now c.enter_super.new.self c.in_err-caller.ensures.unchanged
 
 pub blocks::call_super-run_whole-ran-requires : goal.blocks::call_super-run_whole-ran-requires
 blocks::call_super-run_whole-ran-requires g t c κs within =
@@ -510,10 +615,32 @@ pub blocks::call_super-returns-in-Ok-clause-failures : goal.blocks::call_super-r
 blocks::call_super-returns-in-Ok-clause-failures g t c =
     given_tells _ c.run_whole-ran.result c.leave_named_super.result (g.S.Sink.failures c.args.sink.now) (g.S.Sink.failures c.run_whole-ran.new.sink) c.in-Ok.is c.run_whole-ran.ensures.failures c.leave_named_super.ensures.refused
 
+pub blocks::call_super-returns-in-Ok-clause-keeps : goal.blocks::call_super-returns-in-Ok-clause-keeps
+blocks::call_super-returns-in-Ok-clause-keeps g t c =
+    let s = programs_under (g.T.Templates.standing c.args.program.templates.now) (g.T.Templates.joins c.args.program.templates.now) (g.T.Callbacks.callables c.args.program.templates.now) (option_map standing_of c.args.program.root) c.args.program.rules in
+    let home = home_of c.in-Some.found.home in
+    let y = super_within c.args.state.now true (name_in c.in-Some.found) c.in-Some.found.place home in
+    comes_back c.args.state.now y c.enter_super.new.self c.run_whole-ran.new.state
+    (c.in_ok-caller.ensures.within ∙ ap (λ n. (super_within c.args.state.now true n c.in-Some.found.place home).begins) c.as_str-name.ensures.value) c.run_whole-ran.ensures.keeps
+    (super_begun s c.args.state.now true y (c.in-Some.ensures.found.planned true) (sym c.has_room.ensures ∙ c.if-not-has_room.false)) c.leave_named_super.new.self
+    (c.leave_named_super.ensures.ended ∙ ap (λ (k : Caller). after_by (calls_super true c.as_str-name.result.now c.in-Some.found.place) k c.run_whole-ran.new.state) c.in_ok-caller.ensures.kept
+    ∙ ap (λ n. after_by (calls_super true n c.in-Some.found.place) (caller_of c.args.state.now) c.run_whole-ran.new.state) c.as_str-name.ensures.value)
+
 pub blocks::call_super-returns-in-Err-clause-failures : goal.blocks::call_super-returns-in-Err-clause-failures
 blocks::call_super-returns-in-Err-clause-failures g t c =
     tells_wrapped (Unit {0}) Val EvalBlock c.in-Err.error c.wrapped.result (g.S.Sink.failures c.args.sink.now) (g.S.Sink.failures c.run_whole-ran.new.sink) tt c.wrapped.ensures
     (tells_as c.run_whole-ran.result c.in-Err.error (g.S.Sink.failures c.args.sink.now) (g.S.Sink.failures c.run_whole-ran.new.sink) c.in-Err.is c.run_whole-ran.ensures.failures)
+
+pub blocks::call_super-returns-in-Err-clause-keeps : goal.blocks::call_super-returns-in-Err-clause-keeps
+blocks::call_super-returns-in-Err-clause-keeps g t c =
+    let s = programs_under (g.T.Templates.standing c.args.program.templates.now) (g.T.Templates.joins c.args.program.templates.now) (g.T.Callbacks.callables c.args.program.templates.now) (option_map standing_of c.args.program.root) c.args.program.rules in
+    let home = home_of c.in-Some.found.home in
+    let y = super_within c.args.state.now true (name_in c.in-Some.found) c.in-Some.found.place home in
+    comes_back c.args.state.now y c.enter_super.new.self c.run_whole-ran.new.state
+    (c.in_ok-caller.ensures.within ∙ ap (λ n. (super_within c.args.state.now true n c.in-Some.found.place home).begins) c.as_str-name.ensures.value) c.run_whole-ran.ensures.keeps
+    (super_begun s c.args.state.now true y (c.in-Some.ensures.found.planned true) (sym c.has_room.ensures ∙ c.if-not-has_room.false)) c.leave_super.new.self
+    (c.leave_super.ensures true ∙ ap (λ (k : Caller). after_by (calls_super true c.as_str-name.result.now c.in-Some.found.place) k c.run_whole-ran.new.state) c.in_ok-caller.ensures.kept
+    ∙ ap (λ n. after_by (calls_super true n c.in-Some.found.place) (caller_of c.args.state.now) c.run_whole-ran.new.state) c.as_str-name.ensures.value)
 
 -- includes
 pub includes::include-returns-in_err-choice-clause-plan : goal.includes::include-returns-in_err-choice-clause-plan
@@ -526,6 +653,9 @@ includes::include-returns-in_err-choice-clause-failures g t c =
     let s = programs_under (g.T.Templates.standing c.args.program.templates.now) (g.T.Templates.joins c.args.program.templates.now) (g.T.Callbacks.callables c.args.program.templates.now) (option_map standing_of c.args.program.root) c.args.program.rules in
     tells_other c.from_residual.result _ (g.S.Sink.failures c.args.sink.now) c.from_residual.ensures.1
     (stop_spares s c.args.state.now (events.include c.args.ignore_missing c.args.value) _ c.in_err-choice.ensures.refused)
+
+pub includes::include-returns-in_err-choice-clause-keeps : goal.includes::include-returns-in_err-choice-clause-keeps
+includes::include-returns-in_err-choice-clause-keeps g t c = world_stays c.args.state.now
 
 pub includes::include-run_included-requires : goal.includes::include-run_included-requires
 includes::include-run_included-requires g t c κs within =
@@ -548,6 +678,9 @@ includes::include-returns-in-None-clause-plan g t c =
     let found = subst (λ o. FindsTemplateOrNone s (g.T.Templates.standing c.args.program.templates.now) c.args.state.now c.args.ignore_missing c.args.value (option_map standing_of o)) c.in-None.is c.in_ok-choice.ensures.found in
     answers s (include_plan (known_of c.args.state.now) s.around c.args.state.now c.args.ignore_missing c.args.value) c.args.state.now c.args.left.now (g.S.Sink.taken c.args.sink.now) (λ (u : Unit {0}). done) _ c.args.state.now found
 
+pub includes::include-returns-in-None-clause-keeps : goal.includes::include-returns-in-None-clause-keeps
+includes::include-returns-in-None-clause-keeps g t c = world_stays c.args.state.now
+
 pub includes::run_included-returns-then-not-has_room-clause-plan : goal.includes::run_included-returns-then-not-has_room-clause-plan
 includes::run_included-returns-then-not-has_room-clause-plan g t c =
     let s = programs_under (g.T.Templates.standing c.args.program.templates.now) (g.T.Templates.joins c.args.program.templates.now) (g.T.Callbacks.callables c.args.program.templates.now) (option_map standing_of c.args.program.root) c.args.program.rules in
@@ -556,6 +689,9 @@ includes::run_included-returns-then-not-has_room-clause-plan g t c =
 
 pub includes::run_included-returns-then-not-has_room-clause-failures : goal.includes::run_included-returns-then-not-has_room-clause-failures
 includes::run_included-returns-then-not-has_room-clause-failures g t c = inr (other c.new.result (InvalidOperation ∷ []) c.new.ensures tt, refl)
+
+pub includes::run_included-returns-then-not-has_room-clause-keeps : goal.includes::run_included-returns-then-not-has_room-clause-keeps
+includes::run_included-returns-then-not-has_room-clause-keeps g t c = world_stays c.args.state.now
 
 pub includes::run_included-enter_include-requires : goal.includes::run_included-enter_include-requires
 includes::run_included-enter_include-requires g t c =
@@ -571,6 +707,9 @@ includes::run_included-returns-in_err-caller-clause-plan g t c =
 pub includes::run_included-returns-in_err-caller-clause-failures : goal.includes::run_included-returns-in_err-caller-clause-failures
 includes::run_included-returns-in_err-caller-clause-failures g t c =
     tells_other c.from_residual.result _ (g.S.Sink.failures c.args.sink.now) c.from_residual.ensures.1 (other _ (OutOfMemory ∷ []) c.in_err-caller.ensures.refused tt)
+
+pub includes::run_included-returns-in_err-caller-clause-keeps : goal.includes::run_included-returns-in_err-caller-clause-keeps
+includes::run_included-returns-in_err-caller-clause-keeps g t c = stays_same c.args.state.now c.enter_include.new.self c.in_err-caller.ensures.unchanged
 
 pub includes::run_included-run_whole-ran-requires : goal.includes::run_included-run_whole-ran-requires
 includes::run_included-run_whole-ran-requires g t c κs within =
@@ -610,10 +749,24 @@ includes::run_included-returns-in-Err-clause-plan g t c =
 pub includes::run_included-returns-in-Ok-clause-failures : goal.includes::run_included-returns-in-Ok-clause-failures
 includes::run_included-returns-in-Ok-clause-failures g t c = subst (λ r. TellsFailures r (g.S.Sink.failures c.args.sink.now) (g.S.Sink.failures c.run_whole-ran.new.sink)) c.in-Ok.is c.run_whole-ran.ensures.failures
 
+pub includes::run_included-returns-in-Ok-clause-keeps : goal.includes::run_included-returns-in-Ok-clause-keeps
+includes::run_included-returns-in-Ok-clause-keeps g t c =
+    comes_back c.args.state.now (include_within c.args.state.now (found_of (standing_of c.args.found))) c.enter_include.new.self c.run_whole-ran.new.state
+    c.in_ok-caller.ensures.within c.run_whole-ran.ensures.keeps
+    (include_begun c.args.state.now (found_of (standing_of c.args.found))) c.leave_include.new.self
+    (c.leave_include.ensures ∙ ap (λ (k : Caller). after_by includes k c.run_whole-ran.new.state) c.in_ok-caller.ensures.kept)
+
 pub includes::run_included-returns-in-Err-clause-failures : goal.includes::run_included-returns-in-Err-clause-failures
 includes::run_included-returns-in-Err-clause-failures g t c =
     tells_wrapped (Unit {0}) (Unit {0}) BadInclude c.in-Err.error c.wrapped.result (g.S.Sink.failures c.args.sink.now) (g.S.Sink.failures c.run_whole-ran.new.sink) tt c.wrapped.ensures
     (tells_as c.run_whole-ran.result c.in-Err.error (g.S.Sink.failures c.args.sink.now) (g.S.Sink.failures c.run_whole-ran.new.sink) c.in-Err.is c.run_whole-ran.ensures.failures)
+
+pub includes::run_included-returns-in-Err-clause-keeps : goal.includes::run_included-returns-in-Err-clause-keeps
+includes::run_included-returns-in-Err-clause-keeps g t c =
+    comes_back c.args.state.now (include_within c.args.state.now (found_of (standing_of c.args.found))) c.enter_include.new.self c.run_whole-ran.new.state
+    c.in_ok-caller.ensures.within c.run_whole-ran.ensures.keeps
+    (include_begun c.args.state.now (found_of (standing_of c.args.found))) c.leave_include.new.self
+    (c.leave_include.ensures ∙ ap (λ (k : Caller). after_by includes k c.run_whole-ran.new.state) c.in_ok-caller.ensures.kept)
 
 -- code with the templates that are extended
 pub whole::run_whole-run_to_end-requires : goal.whole::run_whole-run_to_end-requires
@@ -633,20 +786,19 @@ whole::run_whole-returns-in_err-_first-clause-failures g t c =
     tells_on Operands c.from_residual.result _ (g.S.Sink.failures c.args.sink.now) (g.S.Sink.failures c.args.sink.now) (g.S.Sink.failures c.run_to_end.new.sink) c.from_residual.ensures.1 refl c.in_err-_first.ensures.failures
 
 pub whole::run_whole-loop-init : goal.whole::run_whole-loop-init
-whole::run_whole-loop-init g t c =
-    let s = programs_under (g.T.Templates.standing c.args.program.templates.now) (g.T.Templates.joins c.args.program.templates.now) (g.T.Callbacks.callables c.args.program.templates.now) (option_map standing_of c.args.program.root) c.args.program.rules in
-    let kept : KeepsWorld c.args.state.now c.run_to_end.new.state = ends_keep s (code_in c.args.code.now) c.args.state.now c.args.left.now (g.S.Sink.taken c.args.sink.now) (operands_in c.in_ok-_first._first) c.run_to_end.new.state c.run_to_end.new.left (g.S.Sink.taken c.run_to_end.new.sink) c.in_ok-_first.ensures.runs in (
-      λ here at. record { code = code_in c.args.code.now; world = c.args.state.now; mid = c.args.left.now; reached = g.S.Sink.taken c.args.sink.now; come = comes_itself (g.T.Templates.standing c.args.program.templates.now) (g.T.Templates.joins c.args.program.templates.now) (g.T.Callbacks.callables c.args.program.templates.now) (option_map standing_of c.args.program.root) c.args.program.rules here (code_in c.args.code.now) c.args.state.now c.args.left.now (g.S.Sink.taken c.args.sink.now) at; operands = operands_in c.in_ok-_first._first; ends = c.in_ok-_first.ensures.runs },
-      kept.floor,
-      kept.outer,
-      (kept.frames c.requires).many,
-      c.in_ok-_first.ensures.failures,
-    )
+whole::run_whole-loop-init g t c = (
+  λ here at. record { code = code_in c.args.code.now; world = c.args.state.now; mid = c.args.left.now; reached = g.S.Sink.taken c.args.sink.now; come = comes_itself (g.T.Templates.standing c.args.program.templates.now) (g.T.Templates.joins c.args.program.templates.now) (g.T.Callbacks.callables c.args.program.templates.now) (option_map standing_of c.args.program.root) c.args.program.rules here (code_in c.args.code.now) c.args.state.now c.args.left.now (g.S.Sink.taken c.args.sink.now) at; operands = operands_in c.in_ok-_first._first; ends = c.in_ok-_first.ensures.runs },
+  c.in_ok-_first.ensures.keeps,
+  c.in_ok-_first.ensures.failures,
+)
 
 pub whole::run_whole-returns-in_default-clause-runs : goal.whole::run_whole-returns-in_default-clause-runs
 whole::run_whole-returns-in_default-clause-runs g t c here at =
     let h = c.loop.invariant.0 here at in
     key_ends (g.T.Templates.standing c.args.program.templates.now) (g.T.Templates.joins c.args.program.templates.now) (g.T.Callbacks.callables c.args.program.templates.now) (option_map standing_of c.args.program.root) c.args.program.rules (whole_of here) c.args.state.now c.args.left.now (g.S.Sink.taken c.args.sink.now) h.code h.world h.mid h.reached h.come h.operands c.loop.state c.loop.left (g.S.Sink.taken c.loop.sink) h.ends (tt {0}) (sym c.in_default.ensures)
+
+pub whole::run_whole-returns-in_default-clause-keeps : goal.whole::run_whole-returns-in_default-clause-keeps
+whole::run_whole-returns-in_default-clause-keeps g t c = c.loop.invariant.1
 
 pub whole::run_whole-returns-in_default-get-clause-runs : goal.whole::run_whole-returns-in_default-get-clause-runs
 whole::run_whole-returns-in_default-get-clause-runs g t c here at =
@@ -654,16 +806,19 @@ whole::run_whole-returns-in_default-get-clause-runs g t c here at =
     key_lost (g.T.Templates.standing c.args.program.templates.now) (g.T.Templates.joins c.args.program.templates.now) (g.T.Callbacks.callables c.args.program.templates.now) (option_map standing_of c.args.program.root) c.args.program.rules (whole_of here) c.args.state.now c.args.left.now (g.S.Sink.taken c.args.sink.now) h.code h.world h.mid h.reached h.come h.operands c.loop.state c.loop.left (g.S.Sink.taken c.loop.sink) h.ends (Unit {0}) c.in-Some.name.now c.new.result c.loop.state (sym c.in-Some.ensures) (sym c.in_default-get.ensures.found) c.new.ensures
 
 pub whole::run_whole-returns-in_default-get-clause-failures : goal.whole::run_whole-returns-in_default-get-clause-failures
-whole::run_whole-returns-in_default-get-clause-failures g t c = inr (other c.new.result (TemplateNotFound ∷ []) c.new.ensures tt, c.loop.invariant.4)
+whole::run_whole-returns-in_default-get-clause-failures g t c = inr (other c.new.result (TemplateNotFound ∷ []) c.new.ensures tt, c.loop.invariant.2)
+
+pub whole::run_whole-returns-in_default-get-clause-keeps : goal.whole::run_whole-returns-in_default-get-clause-keeps
+whole::run_whole-returns-in_default-get-clause-keeps g t c = c.loop.invariant.1
 
 pub whole::run_whole-run_to_end-requires-in-loop : goal.whole::run_whole-run_to_end-requires-in-loop
 whole::run_whole-run_to_end-requires-in-loop g t c κs within =
     let floor : c.restart.new.self.floor ≡ c.loop.state.floor = ap (λ w. w.floor) c.restart.ensures in
     let outer : c.restart.new.self.outer ≡ c.loop.state.outer = ap (λ w. w.outer) c.restart.ensures in
     let many : length c.restart.new.self.frames ≡ length c.loop.state.frames = ap (λ w. length w.frames) c.restart.ensures in
-    let floor0 : c.loop.state.floor ≡ c.args.state.now.floor = c.loop.invariant.1 in
-    let outer0 : c.loop.state.outer ≡ c.args.state.now.outer = c.loop.invariant.2 in
-    let many0 : c.args.state.now.floor ≤ length c.loop.state.frames = c.loop.invariant.3 in
+    let floor0 : c.loop.state.floor ≡ c.args.state.now.floor = c.loop.invariant.1.floor in
+    let outer0 : c.loop.state.outer ≡ c.args.state.now.outer = c.loop.invariant.1.outer in
+    let many0 : c.args.state.now.floor ≤ length c.loop.state.frames = (c.loop.invariant.1.frames c.requires).many in
     let bound : 8 * (c.args.program.rules.limit - (c.args.state.now.floor + c.args.state.now.outer)) + 8 ≡ t = c.decreases in
     let below : 8 * (c.args.program.rules.limit - (c.restart.new.self.floor + c.restart.new.self.outer)) + 7 < t = omega (arith, bound, floor, outer, floor0, outer0) in
     let there : c.restart.new.self.floor ≤ length c.restart.new.self.frames = omega (arith, floor, many, floor0, many0) in
@@ -678,19 +833,18 @@ whole::run_whole-returns-in_err-_next-clause-runs g t c here at =
 
 pub whole::run_whole-returns-in_err-_next-clause-failures : goal.whole::run_whole-returns-in_err-_next-clause-failures
 whole::run_whole-returns-in_err-_next-clause-failures g t c =
-    tells_on Operands c.from_residual-in_err-_next.result _ (g.S.Sink.failures c.args.sink.now) (g.S.Sink.failures c.loop.sink) (g.S.Sink.failures c.run_to_end-in-loop.new.sink) c.from_residual-in_err-_next.ensures.1 c.loop.invariant.4 c.in_err-_next.ensures.failures
+    tells_on Operands c.from_residual-in_err-_next.result _ (g.S.Sink.failures c.args.sink.now) (g.S.Sink.failures c.loop.sink) (g.S.Sink.failures c.run_to_end-in-loop.new.sink) c.from_residual-in_err-_next.ensures.1 c.loop.invariant.2 c.in_err-_next.ensures.failures
+
+pub whole::run_whole-returns-in_err-_next-clause-keeps : goal.whole::run_whole-returns-in_err-_next-clause-keeps
+whole::run_whole-returns-in_err-_next-clause-keeps g t c =
+    let began : KeepsWorld c.loop.state c.restart.new.self = restart_keeps c.loop.state c.restart.new.self c.in-Some.name.now c.restart.ensures in
+    let kept : KeepsWorld c.loop.state c.run_to_end-in-loop.new.state = world_on c.loop.state c.restart.new.self c.run_to_end-in-loop.new.state began c.in_err-_next.ensures.keeps in
+    world_on c.args.state.now c.loop.state c.run_to_end-in-loop.new.state c.loop.invariant.1 kept
 
 pub whole::run_whole-loop-preserved : goal.whole::run_whole-loop-preserved
 whole::run_whole-loop-preserved g t c =
-    let s = programs_under (g.T.Templates.standing c.args.program.templates.now) (g.T.Templates.joins c.args.program.templates.now) (g.T.Callbacks.callables c.args.program.templates.now) (option_map standing_of c.args.program.root) c.args.program.rules in
-    let kept : KeepsWorld c.restart.new.self c.run_to_end-in-loop.new.state = ends_keep s (code_in c.in-Some-get.parent.code.now) c.restart.new.self c.loop.left (g.S.Sink.taken c.loop.sink) (operands_in c.in_ok-_next._next) c.run_to_end-in-loop.new.state c.run_to_end-in-loop.new.left (g.S.Sink.taken c.run_to_end-in-loop.new.sink) c.in_ok-_next.ensures.runs in
-    let floor : c.restart.new.self.floor ≡ c.loop.state.floor = ap (λ w. w.floor) c.restart.ensures in
-    let outer : c.restart.new.self.outer ≡ c.loop.state.outer = ap (λ w. w.outer) c.restart.ensures in
-    let many : length c.restart.new.self.frames ≡ length c.loop.state.frames = ap (λ w. length w.frames) c.restart.ensures in
-    let floor0 : c.loop.state.floor ≡ c.args.state.now.floor = c.loop.invariant.1 in
-    let many0 : c.args.state.now.floor ≤ length c.loop.state.frames = c.loop.invariant.3 in
-    let there : c.restart.new.self.floor ≤ length c.restart.new.self.frames = omega (arith, floor, many, floor0, many0) in
-    let after : c.restart.new.self.floor ≤ length c.run_to_end-in-loop.new.state.frames = (kept.frames there).many in (
+    let began : KeepsWorld c.loop.state c.restart.new.self = restart_keeps c.loop.state c.restart.new.self c.in-Some.name.now c.restart.ensures in
+    let kept : KeepsWorld c.loop.state c.run_to_end-in-loop.new.state = world_on c.loop.state c.restart.new.self c.run_to_end-in-loop.new.state began c.in_ok-_next.ensures.keeps in (
       λ here at.
           let h = c.loop.invariant.0 here at in
           record {
@@ -702,10 +856,8 @@ whole::run_whole-loop-preserved g t c =
             operands = operands_in c.in_ok-_next._next;
             ends = c.in_ok-_next.ensures.runs;
           },
-      kept.floor ∙ floor ∙ c.loop.invariant.1,
-      kept.outer ∙ outer ∙ c.loop.invariant.2,
-      omega (arith, after, floor, floor0),
-      c.in_ok-_next.ensures.failures ∙ c.loop.invariant.4,
+      world_on c.args.state.now c.loop.state c.run_to_end-in-loop.new.state c.loop.invariant.1 kept,
+      c.in_ok-_next.ensures.failures ∙ c.loop.invariant.2,
     )
 
 pub whole::run_whole-returns-clause-runs : goal.whole::run_whole-returns-clause-runs
@@ -714,7 +866,10 @@ whole::run_whole-returns-clause-runs g t c here at =
     key_lacks (g.T.Templates.standing c.args.program.templates.now) (g.T.Templates.joins c.args.program.templates.now) (g.T.Callbacks.callables c.args.program.templates.now) (option_map standing_of c.args.program.root) c.args.program.rules (whole_of here) c.args.state.now c.args.left.now (g.S.Sink.taken c.args.sink.now) h.code h.world h.mid h.reached h.come h.operands c.loop.state c.loop.left (g.S.Sink.taken c.loop.sink) h.ends (Unit {0}) c.new-2.result c.new-2.ensures
 
 pub whole::run_whole-returns-clause-failures : goal.whole::run_whole-returns-clause-failures
-whole::run_whole-returns-clause-failures g t c = inr (other c.new-2.result (OutOfMemory ∷ []) c.new-2.ensures tt, c.loop.invariant.4)
+whole::run_whole-returns-clause-failures g t c = inr (other c.new-2.result (OutOfMemory ∷ []) c.new-2.ensures tt, c.loop.invariant.2)
+
+pub whole::run_whole-returns-clause-keeps : goal.whole::run_whole-returns-clause-keeps
+whole::run_whole-returns-clause-keeps g t c = c.loop.invariant.1
 
 -- instructions that may enter a run within
 
@@ -753,7 +908,7 @@ entering::enter-returns-in_err-value-in-FastRecurse-clause-does g t c =
     let s = programs_under (g.T.Templates.standing c.args.program.templates.now) (g.T.Templates.joins c.args.program.templates.now) (g.T.Callbacks.callables c.args.program.templates.now) (option_map standing_of c.args.program.root) c.args.program.rules in
     does_as s codes.fast_recurse (code_of c.args.instruction.now) _ _ _ _ c.from_residual-in_err-value-in-FastRecurse.result _ _ _ _ (ap code_of c.in-FastRecurse.is)
     (does_steps s codes.fast_recurse _ _ _ _ c.from_residual-in_err-value-in-FastRecurse.result _ _
-    (lost_out s codes.fast_recurse _ _ c.from_residual-in_err-value-in-FastRecurse.result suc _ _ _
+    (lost_out s codes.fast_recurse _ _ c.from_residual-in_err-value-in-FastRecurse.result suc _ _ _ (world_stays c.args.state.now)
     (λ next before place. recurse_lacks next before place _ c.in_err-value-in-FastRecurse.ensures.none) c.in_err-value-in-FastRecurse.ensures.kind c.from_residual-in_err-value-in-FastRecurse.ensures.1))
 
 pub entering::enter-returns-in_err-value-in-FastRecurse-clause-failures : goal.entering::enter-returns-in_err-value-in-FastRecurse-clause-failures
@@ -763,14 +918,14 @@ entering::enter-returns-in_err-value-in-FastRecurse-clause-failures g t c =
 pub entering::enter-returns-in_ok-value-in-FastRecurse-clause-does : goal.entering::enter-returns-in_ok-value-in-FastRecurse-clause-does
 entering::enter-returns-in_ok-value-in-FastRecurse-clause-does g t c =
     let s = programs_under (g.T.Templates.standing c.args.program.templates.now) (g.T.Templates.joins c.args.program.templates.now) (g.T.Callbacks.callables c.args.program.templates.now) (option_map standing_of c.args.program.root) c.args.program.rules in
-    recurse_does s (code_of c.args.instruction.now) c.in_ok-value-in-FastRecurse.value _ _ _ _ _ c.print_rounds.result _ _ _ (ap code_of c.in-FastRecurse.is) c.in_ok-value-in-FastRecurse.ensures.taken c.print_rounds.ensures.plan
+    recurse_does s (code_of c.args.instruction.now) c.in_ok-value-in-FastRecurse.value _ _ _ _ _ c.print_rounds.result _ _ _ (keeps_so c.print_rounds.result c.args.state.now c.print_rounds.new.state c.print_rounds.ensures.keeps) (ap code_of c.in-FastRecurse.is) c.in_ok-value-in-FastRecurse.ensures.taken c.print_rounds.ensures.plan
 
 pub entering::enter-returns-in_err-value-in-Include-clause-does : goal.entering::enter-returns-in_err-value-in-Include-clause-does
 entering::enter-returns-in_err-value-in-Include-clause-does g t c =
     let s = programs_under (g.T.Templates.standing c.args.program.templates.now) (g.T.Templates.joins c.args.program.templates.now) (g.T.Callbacks.callables c.args.program.templates.now) (option_map standing_of c.args.program.root) c.args.program.rules in
     does_as s (codes.include c.in-Include.ignore_missing) (code_of c.args.instruction.now) _ _ _ _ c.from_residual.result _ _ _ _ (ap code_of c.in-Include.is)
     (does_steps s (codes.include c.in-Include.ignore_missing) _ _ _ _ c.from_residual.result _ _
-    (lost_one s (codes.include c.in-Include.ignore_missing) _ _ c.from_residual.result suc _ _ _ tt c.in_err-value-in-Include.ensures.none c.in_err-value-in-Include.ensures.kind c.from_residual.ensures.1))
+    (lost_one s (codes.include c.in-Include.ignore_missing) _ _ c.from_residual.result suc _ _ _ (world_stays c.args.state.now) tt c.in_err-value-in-Include.ensures.none c.in_err-value-in-Include.ensures.kind c.from_residual.ensures.1))
 
 pub entering::enter-returns-in_err-value-in-Include-clause-failures : goal.entering::enter-returns-in_err-value-in-Include-clause-failures
 entering::enter-returns-in_err-value-in-Include-clause-failures g t c =
@@ -779,24 +934,24 @@ entering::enter-returns-in_err-value-in-Include-clause-failures g t c =
 pub entering::enter-returns-in_ok-value-in-Include-clause-does : goal.entering::enter-returns-in_ok-value-in-Include-clause-does
 entering::enter-returns-in_ok-value-in-Include-clause-does g t c =
     let s = programs_under (g.T.Templates.standing c.args.program.templates.now) (g.T.Templates.joins c.args.program.templates.now) (g.T.Callbacks.callables c.args.program.templates.now) (option_map standing_of c.args.program.root) c.args.program.rules in
-    include_does s (code_of c.args.instruction.now) c.in-Include.ignore_missing c.in_ok-value-in-Include.value _ _ _ _ _ c.include.result _ _ _ (ap code_of c.in-Include.is) c.in_ok-value-in-Include.ensures.taken c.include.ensures.plan
+    include_does s (code_of c.args.instruction.now) c.in-Include.ignore_missing c.in_ok-value-in-Include.value _ _ _ _ _ c.include.result _ _ _ (keeps_so c.include.result c.args.state.now c.include.new.state c.include.ensures.keeps) (ap code_of c.in-Include.is) c.in_ok-value-in-Include.ensures.taken c.include.ensures.plan
 
 pub entering::enter-returns-in-CallBlock-clause-does : goal.entering::enter-returns-in-CallBlock-clause-does
 entering::enter-returns-in-CallBlock-clause-does g t c =
     let s = programs_under (g.T.Templates.standing c.args.program.templates.now) (g.T.Templates.joins c.args.program.templates.now) (g.T.Callbacks.callables c.args.program.templates.now) (option_map standing_of c.args.program.root) c.args.program.rules in
-    block_does s (code_of c.args.instruction.now) c.as_str.result.now _ _ _ _ c.call_block.result _ _ _ (ap code_of c.in-CallBlock.is ∙ ap (λ n. codes.call_block n) (sym c.as_str.ensures.value)) c.call_block.ensures.plan
+    block_does s (code_of c.args.instruction.now) c.as_str.result.now _ _ _ _ c.call_block.result _ _ _ (keeps_so c.call_block.result c.args.state.now c.call_block.new.state c.call_block.ensures.keeps) (ap code_of c.in-CallBlock.is ∙ ap (λ n. codes.call_block n) (sym c.as_str.ensures.value)) c.call_block.ensures.plan
 
 pub entering::enter-returns-in-FastSuper-clause-does : goal.entering::enter-returns-in-FastSuper-clause-does
 entering::enter-returns-in-FastSuper-clause-does g t c =
     let s = programs_under (g.T.Templates.standing c.args.program.templates.now) (g.T.Templates.joins c.args.program.templates.now) (g.T.Callbacks.callables c.args.program.templates.now) (option_map standing_of c.args.program.root) c.args.program.rules in
-    printed_does s (code_of c.args.instruction.now) _ _ _ _ c.print_super.result _ _ _ (ap code_of c.in-FastSuper.is) c.print_super.ensures.plan
+    printed_does s (code_of c.args.instruction.now) _ _ _ _ c.print_super.result _ _ _ (keeps_so c.print_super.result c.args.state.now c.print_super.new.state c.print_super.ensures.keeps) (ap code_of c.in-FastSuper.is) c.print_super.ensures.plan
 
 pub entering::enter-returns-in_err-value-in-LoadBlocks-clause-does : goal.entering::enter-returns-in_err-value-in-LoadBlocks-clause-does
 entering::enter-returns-in_err-value-in-LoadBlocks-clause-does g t c =
     let s = programs_under (g.T.Templates.standing c.args.program.templates.now) (g.T.Templates.joins c.args.program.templates.now) (g.T.Callbacks.callables c.args.program.templates.now) (option_map standing_of c.args.program.root) c.args.program.rules in
     does_as s codes.load_blocks (code_of c.args.instruction.now) _ _ _ _ c.from_residual-in_err-value-in-LoadBlocks.result _ _ _ _ (ap code_of c.in-LoadBlocks.is)
     (does_steps s codes.load_blocks _ _ _ _ c.from_residual-in_err-value-in-LoadBlocks.result _ _
-    (lost_one s codes.load_blocks _ _ c.from_residual-in_err-value-in-LoadBlocks.result suc _ _ _ tt c.in_err-value-in-LoadBlocks.ensures.none c.in_err-value-in-LoadBlocks.ensures.kind c.from_residual-in_err-value-in-LoadBlocks.ensures.1))
+    (lost_one s codes.load_blocks _ _ c.from_residual-in_err-value-in-LoadBlocks.result suc _ _ _ (world_stays c.args.state.now) tt c.in_err-value-in-LoadBlocks.ensures.none c.in_err-value-in-LoadBlocks.ensures.kind c.from_residual-in_err-value-in-LoadBlocks.ensures.1))
 
 pub entering::enter-returns-in_err-value-in-LoadBlocks-clause-failures : goal.entering::enter-returns-in_err-value-in-LoadBlocks-clause-failures
 entering::enter-returns-in_err-value-in-LoadBlocks-clause-failures g t c =
@@ -805,7 +960,7 @@ entering::enter-returns-in_err-value-in-LoadBlocks-clause-failures g t c =
 pub entering::enter-returns-in_ok-value-in-LoadBlocks-clause-does : goal.entering::enter-returns-in_ok-value-in-LoadBlocks-clause-does
 entering::enter-returns-in_ok-value-in-LoadBlocks-clause-does g t c =
     let s = programs_under (g.T.Templates.standing c.args.program.templates.now) (g.T.Templates.joins c.args.program.templates.now) (g.T.Callbacks.callables c.args.program.templates.now) (option_map standing_of c.args.program.root) c.args.program.rules in
-    load_does s (code_of c.args.instruction.now) c.in_ok-value-in-LoadBlocks.value _ _ _ _ _ c.extend.result _ _ _ (ap code_of c.in-LoadBlocks.is) c.in_ok-value-in-LoadBlocks.ensures.taken (c.extend.ensures.plan c.args.left.now (g.S.Sink.taken c.args.sink.now))
+    load_does s (code_of c.args.instruction.now) c.in_ok-value-in-LoadBlocks.value _ _ _ _ _ c.extend.result _ _ _ c.extend.ensures.keeps (ap code_of c.in-LoadBlocks.is) c.in_ok-value-in-LoadBlocks.ensures.taken (c.extend.ensures.plan c.args.left.now (g.S.Sink.taken c.args.sink.now))
 
 pub entering::enter-returns-in_ok-value-in-LoadBlocks-clause-failures : goal.entering::enter-returns-in_ok-value-in-LoadBlocks-clause-failures
 entering::enter-returns-in_ok-value-in-LoadBlocks-clause-failures g t c = spared_tells c.extend.result (g.S.Sink.failures c.args.sink.now) c.extend.ensures.spares
@@ -814,12 +969,12 @@ pub entering::enter-returns-in_err-args-in-CallFunction-clause-does : goal.enter
 entering::enter-returns-in_err-args-in-CallFunction-clause-does g t c =
     let s = programs_under (g.T.Templates.standing c.args.program.templates.now) (g.T.Templates.joins c.args.program.templates.now) (g.T.Callbacks.callables c.args.program.templates.now) (option_map standing_of c.args.program.root) c.args.program.rules in
     super_lost s (code_of c.args.instruction.now) _ c.in-CallFunction.count c.widened.result (ap code_of c.in-CallFunction.is) c.widened.ensures _ c.args.state.now c.args.left.now (g.S.Sink.taken c.args.sink.now) _
-    c.from_residual-in_err-args-in-CallFunction.result _ c.args.state.now c.in_err-args-in-CallFunction.ensures.refused c.from_residual-in_err-args-in-CallFunction.ensures.1
+    c.from_residual-in_err-args-in-CallFunction.result _ c.args.state.now (world_stays c.args.state.now) c.in_err-args-in-CallFunction.ensures.refused c.from_residual-in_err-args-in-CallFunction.ensures.1
 
 pub entering::enter-returns-then-not-is_none-clause-does : goal.entering::enter-returns-then-not-is_none-clause-does
 entering::enter-returns-then-not-is_none-clause-does g t c =
     let s = programs_under (g.T.Templates.standing c.args.program.templates.now) (g.T.Templates.joins c.args.program.templates.now) (g.T.Callbacks.callables c.args.program.templates.now) (option_map standing_of c.args.program.root) c.args.program.rules in
-    named_refused s (code_of c.args.instruction.now) _ c.in-CallFunction.count c.widened.result (ap code_of c.in-CallFunction.is) c.widened.ensures (sym (ap task_of (ap code_of c.in-CallFunction.is)) ∙ c.requires) _ _ c.args.state.now c.args.left.now (g.S.Sink.taken c.args.sink.now) c.in_ok-args-in-CallFunction.args.items c.in_ok-args-in-CallFunction.ensures.taken _ c.new.result _ c.args.state.now
+    named_refused s (code_of c.args.instruction.now) _ c.in-CallFunction.count c.widened.result (ap code_of c.in-CallFunction.is) c.widened.ensures (sym (ap task_of (ap code_of c.in-CallFunction.is)) ∙ c.requires) _ _ c.args.state.now c.args.left.now (g.S.Sink.taken c.args.sink.now) c.in_ok-args-in-CallFunction.args.items c.in_ok-args-in-CallFunction.ensures.taken _ c.new.result _ c.args.state.now (world_stays c.args.state.now)
     (ap (λ vs. length vs == 0) (sym c.as_slice.ensures.value) ∙ sym c.is_none.ensures ∙ c.if-not-is_none.true) c.new.ensures
 
 pub entering::enter-returns-in_err-text-in-CallFunction-clause-does : goal.entering::enter-returns-in_err-text-in-CallFunction-clause-does
@@ -827,14 +982,14 @@ entering::enter-returns-in_err-text-in-CallFunction-clause-does g t c =
     let s = programs_under (g.T.Templates.standing c.args.program.templates.now) (g.T.Templates.joins c.args.program.templates.now) (g.T.Callbacks.callables c.args.program.templates.now) (option_map standing_of c.args.program.root) c.args.program.rules in
     named_halted s (code_of c.args.instruction.now) _ c.in-CallFunction.count c.widened.result (ap code_of c.in-CallFunction.is) c.widened.ensures (sym (ap task_of (ap code_of c.in-CallFunction.is)) ∙ c.requires) _ _ c.args.state.now c.args.left.now (g.S.Sink.taken c.args.sink.now) c.in_ok-args-in-CallFunction.args.items c.in_ok-args-in-CallFunction.ensures.taken
     (ap (λ vs. length vs == 0) (sym c.as_slice.ensures.value) ∙ sym c.is_none.ensures ∙ c.if-not-is_none.false) c.call_super.new.state c.call_super.new.left (g.S.Sink.taken c.call_super.new.sink) _ _
-    c.from_residual-in_err-text-in-CallFunction.result _ c.in_err-text-in-CallFunction.ensures.plan c.from_residual-in_err-text-in-CallFunction.ensures.1
+    c.from_residual-in_err-text-in-CallFunction.result _ c.in_err-text-in-CallFunction.ensures.keeps c.in_err-text-in-CallFunction.ensures.plan c.from_residual-in_err-text-in-CallFunction.ensures.1
 
 pub entering::enter-returns-in_ok-text-in-CallFunction-clause-does : goal.entering::enter-returns-in_ok-text-in-CallFunction-clause-does
 entering::enter-returns-in_ok-text-in-CallFunction-clause-does g t c =
     let s = programs_under (g.T.Templates.standing c.args.program.templates.now) (g.T.Templates.joins c.args.program.templates.now) (g.T.Callbacks.callables c.args.program.templates.now) (option_map standing_of c.args.program.root) c.args.program.rules in
     named_does s (code_of c.args.instruction.now) _ c.in-CallFunction.count c.widened.result (ap code_of c.in-CallFunction.is) c.widened.ensures (sym (ap task_of (ap code_of c.in-CallFunction.is)) ∙ c.requires) _ _ c.args.state.now c.args.left.now (g.S.Sink.taken c.args.sink.now) c.in_ok-args-in-CallFunction.args.items c.in_ok-args-in-CallFunction.ensures.taken
     (ap (λ vs. length vs == 0) (sym c.as_slice.ensures.value) ∙ sym c.is_none.ensures ∙ c.if-not-is_none.false) c.call_super.new.state c.call_super.new.left (g.S.Sink.taken c.call_super.new.sink)
-    c.in_ok-text-in-CallFunction.text c.push.result _ c.in_ok-text-in-CallFunction.ensures.plan c.push.ensures.pushed c.push.ensures.refused
+    c.in_ok-text-in-CallFunction.text c.push.result _ c.in_ok-text-in-CallFunction.ensures.keeps c.in_ok-text-in-CallFunction.ensures.plan c.push.ensures.pushed c.push.ensures.refused
 
 -- macros that are called
 pub macros::call_macro-returns-in_err-begun-clause-plan : goal.macros::call_macro-returns-in_err-begun-clause-plan
@@ -845,6 +1000,9 @@ macros::call_macro-returns-in_err-begun-clause-plan g t c =
 pub macros::call_macro-returns-in_err-begun-clause-failures : goal.macros::call_macro-returns-in_err-begun-clause-failures
 macros::call_macro-returns-in_err-begun-clause-failures g t c =
     tells_other c.from_residual.result _ (g.S.Sink.failures c.args.sink.now) c.from_residual.ensures.1 c.in_err-begun.ensures.spares
+
+pub macros::call_macro-returns-in_err-begun-clause-keeps : goal.macros::call_macro-returns-in_err-begun-clause-keeps
+macros::call_macro-returns-in_err-begun-clause-keeps g t c = world_stays c.args.state.now
 
 pub macros::call_macro-enter_macro-requires : goal.macros::call_macro-enter_macro-requires
 macros::call_macro-enter_macro-requires g t c =
@@ -860,6 +1018,12 @@ macros::call_macro-returns-in_err-caller-clause-plan g t c =
 pub macros::call_macro-returns-in_err-caller-clause-failures : goal.macros::call_macro-returns-in_err-caller-clause-failures
 macros::call_macro-returns-in_err-caller-clause-failures g t c =
     tells_other c.from_residual-in_err-caller.result _ (g.S.Sink.failures c.args.sink.now) c.from_residual-in_err-caller.ensures.1 (other _ (OutOfMemory ∷ []) c.in_err-caller.ensures.refused tt)
+
+pub macros::call_macro-returns-in_err-caller-clause-keeps : goal.macros::call_macro-returns-in_err-caller-clause-keeps
+macros::call_macro-returns-in_err-caller-clause-keeps g t c = stays_same c.args.state.now c.enter_macro.new.self c.in_err-caller.ensures.unchanged
+
+pub macros::call_macro-returns-in_err-caller-clause-frames : goal.macros::call_macro-returns-in_err-caller-clause-frames
+macros::call_macro-returns-in_err-caller-clause-frames g t c = ap (λ (w : World). w.frames) c.in_err-caller.ensures.unchanged
 
 pub macros::call_macro-run_from-ran-requires : goal.macros::call_macro-run_from-ran-requires
 macros::call_macro-run_from-ran-requires g t c κs within =
@@ -905,9 +1069,51 @@ pub macros::call_macro-returns-in-Ok-clause-failures : goal.macros::call_macro-r
 macros::call_macro-returns-in-Ok-clause-failures g t c =
     given_tells _ c.run_from-ran.result c.leave_macro_text.result (g.S.Sink.failures c.args.sink.now) (g.S.Sink.failures c.run_from-ran.new.sink) c.in-Ok.is c.run_from-ran.ensures.failures c.leave_macro_text.ensures.refused
 
+pub macros::call_macro-returns-in-Ok-clause-keeps : goal.macros::call_macro-returns-in-Ok-clause-keeps
+macros::call_macro-returns-in-Ok-clause-keeps g t c =
+    let s = programs_under (g.T.Templates.standing c.args.program.templates.now) (g.T.Templates.joins c.args.program.templates.now) (g.T.Callbacks.callables c.args.program.templates.now) (option_map standing_of c.args.program.root) c.args.program.rules in
+    let begun = c.in_ok-begun.begun in
+    let found = c.in_ok-begun.ensures.begun in
+    comes_back c.args.state.now (macro_entered (g.T.Templates.standing c.args.program.templates.now) (g.T.Templates.joins c.args.program.templates.now) (g.T.Callbacks.callables c.args.program.templates.now) (option_map standing_of c.args.program.root) c.args.program.rules c.args.state.now c.args.pending (macro_plan s.around.limit c.args.pending c.args.state.now c.args.args.items (macro_of c.args.state.now c.args.id c.args.number)) begun found) c.enter_macro.new.self c.run_from-ran.new.state
+    (macro_begins (g.T.Templates.standing c.args.program.templates.now) (g.T.Templates.joins c.args.program.templates.now) (g.T.Callbacks.callables c.args.program.templates.now) (option_map standing_of c.args.program.root) c.args.program.rules c.args.state.now c.args.pending (macro_plan s.around.limit c.args.pending c.args.state.now c.args.args.items (macro_of c.args.state.now c.args.id c.args.number)) begun found c.enter_macro.new.self c.in_ok-caller.ensures.within) c.run_from-ran.ensures.keeps
+    (macro_begun c.args.state.now c.args.pending found.called found.over) c.leave_macro_text.new.self
+    (c.leave_macro_text.ensures.ended ∙ ap (λ (k : Caller). after_by calls_macro k c.run_from-ran.new.state) c.in_ok-caller.ensures.kept)
+
+pub macros::call_macro-returns-in-Ok-clause-frames : goal.macros::call_macro-returns-in-Ok-clause-frames
+macros::call_macro-returns-in-Ok-clause-frames g t c =
+    let s = programs_under (g.T.Templates.standing c.args.program.templates.now) (g.T.Templates.joins c.args.program.templates.now) (g.T.Callbacks.callables c.args.program.templates.now) (option_map standing_of c.args.program.root) c.args.program.rules in
+    let begun = c.in_ok-begun.begun in
+    let found = c.in_ok-begun.ensures.begun in
+    frames_back c.args.state.now (macro_entered (g.T.Templates.standing c.args.program.templates.now) (g.T.Templates.joins c.args.program.templates.now) (g.T.Callbacks.callables c.args.program.templates.now) (option_map standing_of c.args.program.root) c.args.program.rules c.args.state.now c.args.pending (macro_plan s.around.limit c.args.pending c.args.state.now c.args.args.items (macro_of c.args.state.now c.args.id c.args.number)) begun found) c.enter_macro.new.self c.run_from-ran.new.state
+    (macro_begins (g.T.Templates.standing c.args.program.templates.now) (g.T.Templates.joins c.args.program.templates.now) (g.T.Callbacks.callables c.args.program.templates.now) (option_map standing_of c.args.program.root) c.args.program.rules c.args.state.now c.args.pending (macro_plan s.around.limit c.args.pending c.args.state.now c.args.args.items (macro_of c.args.state.now c.args.id c.args.number)) begun found c.enter_macro.new.self c.in_ok-caller.ensures.within) c.run_from-ran.ensures.keeps
+    (record empty_frame { locals = found.over.locals; reads = found.called.closure }) refl refl c.leave_macro_text.new.self
+    (ap (λ (w : World). w.frames)
+    (c.leave_macro_text.ensures.ended ∙ ap (λ (k : Caller). after_by calls_macro k c.run_from-ran.new.state) c.in_ok-caller.ensures.kept))
+
 pub macros::call_macro-returns-clause-failures : goal.macros::call_macro-returns-clause-failures
 macros::call_macro-returns-clause-failures g t c =
     tells_as c.run_from-ran.result c.in-Err.error (g.S.Sink.failures c.args.sink.now) (g.S.Sink.failures c.run_from-ran.new.sink) c.in-Err.is c.run_from-ran.ensures.failures
+
+pub macros::call_macro-returns-clause-keeps : goal.macros::call_macro-returns-clause-keeps
+macros::call_macro-returns-clause-keeps g t c =
+    let s = programs_under (g.T.Templates.standing c.args.program.templates.now) (g.T.Templates.joins c.args.program.templates.now) (g.T.Callbacks.callables c.args.program.templates.now) (option_map standing_of c.args.program.root) c.args.program.rules in
+    let begun = c.in_ok-begun.begun in
+    let found = c.in_ok-begun.ensures.begun in
+    comes_back c.args.state.now (macro_entered (g.T.Templates.standing c.args.program.templates.now) (g.T.Templates.joins c.args.program.templates.now) (g.T.Callbacks.callables c.args.program.templates.now) (option_map standing_of c.args.program.root) c.args.program.rules c.args.state.now c.args.pending (macro_plan s.around.limit c.args.pending c.args.state.now c.args.args.items (macro_of c.args.state.now c.args.id c.args.number)) begun found) c.enter_macro.new.self c.run_from-ran.new.state
+    (macro_begins (g.T.Templates.standing c.args.program.templates.now) (g.T.Templates.joins c.args.program.templates.now) (g.T.Callbacks.callables c.args.program.templates.now) (option_map standing_of c.args.program.root) c.args.program.rules c.args.state.now c.args.pending (macro_plan s.around.limit c.args.pending c.args.state.now c.args.args.items (macro_of c.args.state.now c.args.id c.args.number)) begun found c.enter_macro.new.self c.in_ok-caller.ensures.within) c.run_from-ran.ensures.keeps
+    (macro_begun c.args.state.now c.args.pending found.called found.over) c.leave_macro.new.self
+    (c.leave_macro.ensures ∙ ap (λ (k : Caller). after_by calls_macro k c.run_from-ran.new.state) c.in_ok-caller.ensures.kept)
+
+pub macros::call_macro-returns-clause-frames : goal.macros::call_macro-returns-clause-frames
+macros::call_macro-returns-clause-frames g t c =
+    let s = programs_under (g.T.Templates.standing c.args.program.templates.now) (g.T.Templates.joins c.args.program.templates.now) (g.T.Callbacks.callables c.args.program.templates.now) (option_map standing_of c.args.program.root) c.args.program.rules in
+    let begun = c.in_ok-begun.begun in
+    let found = c.in_ok-begun.ensures.begun in
+    frames_back c.args.state.now (macro_entered (g.T.Templates.standing c.args.program.templates.now) (g.T.Templates.joins c.args.program.templates.now) (g.T.Callbacks.callables c.args.program.templates.now) (option_map standing_of c.args.program.root) c.args.program.rules c.args.state.now c.args.pending (macro_plan s.around.limit c.args.pending c.args.state.now c.args.args.items (macro_of c.args.state.now c.args.id c.args.number)) begun found) c.enter_macro.new.self c.run_from-ran.new.state
+    (macro_begins (g.T.Templates.standing c.args.program.templates.now) (g.T.Templates.joins c.args.program.templates.now) (g.T.Callbacks.callables c.args.program.templates.now) (option_map standing_of c.args.program.root) c.args.program.rules c.args.state.now c.args.pending (macro_plan s.around.limit c.args.pending c.args.state.now c.args.args.items (macro_of c.args.state.now c.args.id c.args.number)) begun found c.enter_macro.new.self c.in_ok-caller.ensures.within) c.run_from-ran.ensures.keeps
+    (record empty_frame { locals = found.over.locals; reads = found.called.closure }) refl refl c.leave_macro.new.self
+    (ap (λ (w : World). w.frames)
+    (c.leave_macro.ensures ∙ ap (λ (k : Caller). after_by calls_macro k c.run_from-ran.new.state) c.in_ok-caller.ensures.kept))
 
 -- a block for its text
 pub blocks::run_block_text-returns-in_err-found-clause-plan : goal.blocks::run_block_text-returns-in_err-found-clause-plan
@@ -920,6 +1126,9 @@ pub blocks::run_block_text-returns-in_err-found-clause-failures : goal.blocks::r
 blocks::run_block_text-returns-in_err-found-clause-failures g t c =
     tells_other c.from_residual.result _ (g.S.Sink.failures c.args.sink.now) c.from_residual.ensures.1 c.in_err-found.ensures.spares
 
+pub blocks::run_block_text-returns-in_err-found-clause-keeps : goal.blocks::run_block_text-returns-in_err-found-clause-keeps
+blocks::run_block_text-returns-in_err-found-clause-keeps g t c = world_stays c.args.state.now
+
 pub blocks::run_block_text-returns-then-not-has_room_beside-clause-plan : goal.blocks::run_block_text-returns-then-not-has_room_beside-clause-plan
 blocks::run_block_text-returns-then-not-has_room_beside-clause-plan g t c =
     let s = programs_under (g.T.Templates.standing c.args.program.templates.now) (g.T.Templates.joins c.args.program.templates.now) (g.T.Callbacks.callables c.args.program.templates.now) (option_map standing_of c.args.program.root) c.args.program.rules in
@@ -931,6 +1140,9 @@ blocks::run_block_text-returns-then-not-has_room_beside-clause-plan g t c =
 pub blocks::run_block_text-returns-then-not-has_room_beside-clause-failures : goal.blocks::run_block_text-returns-then-not-has_room_beside-clause-failures
 blocks::run_block_text-returns-then-not-has_room_beside-clause-failures g t c =
     inr (other c.new.result (InvalidOperation ∷ []) c.new.ensures tt, refl)
+
+pub blocks::run_block_text-returns-then-not-has_room_beside-clause-keeps : goal.blocks::run_block_text-returns-then-not-has_room_beside-clause-keeps
+blocks::run_block_text-returns-then-not-has_room_beside-clause-keeps g t c = world_stays c.args.state.now
 
 pub blocks::run_block_text-enter_block_text-requires : goal.blocks::run_block_text-enter_block_text-requires
 blocks::run_block_text-enter_block_text-requires g t c =
@@ -945,6 +1157,12 @@ blocks::run_block_text-returns-in_err-caller-clause-plan g t c =
 pub blocks::run_block_text-returns-in_err-caller-clause-failures : goal.blocks::run_block_text-returns-in_err-caller-clause-failures
 blocks::run_block_text-returns-in_err-caller-clause-failures g t c =
     tells_other c.from_residual-in_err-caller.result _ (g.S.Sink.failures c.args.sink.now) c.from_residual-in_err-caller.ensures.1 (other _ (OutOfMemory ∷ []) c.in_err-caller.ensures.refused tt)
+
+pub blocks::run_block_text-returns-in_err-caller-clause-keeps : goal.blocks::run_block_text-returns-in_err-caller-clause-keeps
+blocks::run_block_text-returns-in_err-caller-clause-keeps g t c = stays_same c.args.state.now c.enter_block_text.new.self c.in_err-caller.ensures.unchanged
+
+pub blocks::run_block_text-returns-in_err-caller-clause-frames : goal.blocks::run_block_text-returns-in_err-caller-clause-frames
+blocks::run_block_text-returns-in_err-caller-clause-frames g t c = ap (λ (w : World). w.frames) c.in_err-caller.ensures.unchanged
 
 pub blocks::run_block_text-run_whole-ran-requires : goal.blocks::run_block_text-run_whole-ran-requires
 blocks::run_block_text-run_whole-ran-requires g t c κs within =
@@ -991,9 +1209,43 @@ pub blocks::run_block_text-returns-in-Ok-clause-failures : goal.blocks::run_bloc
 blocks::run_block_text-returns-in-Ok-clause-failures g t c =
     given_tells _ c.run_whole-ran.result c.leave_block_text.result (g.S.Sink.failures c.args.sink.now) (g.S.Sink.failures c.run_whole-ran.new.sink) c.in-Ok.is c.run_whole-ran.ensures.failures c.leave_block_text.ensures.refused
 
+pub blocks::run_block_text-returns-in-Ok-clause-keeps : goal.blocks::run_block_text-returns-in-Ok-clause-keeps
+blocks::run_block_text-returns-in-Ok-clause-keeps g t c =
+    let home = home_of c.in_ok-found.found.home in
+    comes_back c.args.state.now (text_within c.args.state.now c.args.pending (name_in c.in_ok-found.found) home) c.enter_block_text.new.self c.run_whole-ran.new.state
+    (c.in_ok-caller.ensures.within ∙ ap (λ n. (text_within c.args.state.now c.args.pending n home).begins) c.as_str-name.ensures.value) c.run_whole-ran.ensures.keeps
+    (text_begun c.args.state.now c.args.pending (name_in c.in_ok-found.found) home) c.leave_block_text.new.self
+    (c.leave_block_text.ensures.ended ∙ ap (λ (k : Caller). after_by takes_block k c.run_whole-ran.new.state) c.in_ok-caller.ensures.kept)
+
+pub blocks::run_block_text-returns-in-Ok-clause-frames : goal.blocks::run_block_text-returns-in-Ok-clause-frames
+blocks::run_block_text-returns-in-Ok-clause-frames g t c =
+    let home = home_of c.in_ok-found.found.home in
+    frames_back c.args.state.now (text_within c.args.state.now c.args.pending (name_in c.in_ok-found.found) home) c.enter_block_text.new.self c.run_whole-ran.new.state
+    (c.in_ok-caller.ensures.within ∙ ap (λ n. (text_within c.args.state.now c.args.pending n home).begins) c.as_str-name.ensures.value) c.run_whole-ran.ensures.keeps
+    empty_frame refl refl c.leave_block_text.new.self
+    (ap (λ (w : World). w.frames)
+    (c.leave_block_text.ensures.ended ∙ ap (λ (k : Caller). after_by takes_block k c.run_whole-ran.new.state) c.in_ok-caller.ensures.kept))
+
 pub blocks::run_block_text-returns-in-Err-clause-failures : goal.blocks::run_block_text-returns-in-Err-clause-failures
 blocks::run_block_text-returns-in-Err-clause-failures g t c =
     tells_as c.run_whole-ran.result c.in-Err.error (g.S.Sink.failures c.args.sink.now) (g.S.Sink.failures c.run_whole-ran.new.sink) c.in-Err.is c.run_whole-ran.ensures.failures
+
+pub blocks::run_block_text-returns-in-Err-clause-keeps : goal.blocks::run_block_text-returns-in-Err-clause-keeps
+blocks::run_block_text-returns-in-Err-clause-keeps g t c =
+    let home = home_of c.in_ok-found.found.home in
+    comes_back c.args.state.now (text_within c.args.state.now c.args.pending (name_in c.in_ok-found.found) home) c.enter_block_text.new.self c.run_whole-ran.new.state
+    (c.in_ok-caller.ensures.within ∙ ap (λ n. (text_within c.args.state.now c.args.pending n home).begins) c.as_str-name.ensures.value) c.run_whole-ran.ensures.keeps
+    (text_begun c.args.state.now c.args.pending (name_in c.in_ok-found.found) home) c.leave_block.new.self
+    (c.leave_block.ensures ∙ ap (λ (k : Caller). put_back k c.run_whole-ran.new.state) c.in_ok-caller.ensures.kept)
+
+pub blocks::run_block_text-returns-in-Err-clause-frames : goal.blocks::run_block_text-returns-in-Err-clause-frames
+blocks::run_block_text-returns-in-Err-clause-frames g t c =
+    let home = home_of c.in_ok-found.found.home in
+    frames_back c.args.state.now (text_within c.args.state.now c.args.pending (name_in c.in_ok-found.found) home) c.enter_block_text.new.self c.run_whole-ran.new.state
+    (c.in_ok-caller.ensures.within ∙ ap (λ n. (text_within c.args.state.now c.args.pending n home).begins) c.as_str-name.ensures.value) c.run_whole-ran.ensures.keeps
+    empty_frame refl refl c.leave_block.new.self
+    (ap (λ (w : World). w.frames)
+    (c.leave_block.ensures ∙ ap (λ (k : Caller). put_back k c.run_whole-ran.new.state) c.in_ok-caller.ensures.kept))
 
 -- rounds of a loop that is called again, in the place of a print
 pub rounds::print_rounds-returns-in_default-clause-plan : goal.rounds::print_rounds-returns-in_default-clause-plan
@@ -1005,6 +1257,9 @@ pub rounds::print_rounds-returns-in_default-clause-failures : goal.rounds::print
 rounds::print_rounds-returns-in_default-clause-failures g t c =
     inr (other c.new.result (UnknownFunction ∷ []) c.new.ensures tt, refl)
 
+pub rounds::print_rounds-returns-in_default-clause-keeps : goal.rounds::print_rounds-returns-in_default-clause-keeps
+rounds::print_rounds-returns-in_default-clause-keeps g t c = world_stays c.args.state.now
+
 pub rounds::print_rounds-returns-in_err-again-clause-plan : goal.rounds::print_rounds-returns-in_err-again-clause-plan
 rounds::print_rounds-returns-in_err-again-clause-plan g t c =
     let s = programs_under (g.T.Templates.standing c.args.program.templates.now) (g.T.Templates.joins c.args.program.templates.now) (g.T.Callbacks.callables c.args.program.templates.now) (option_map standing_of c.args.program.root) c.args.program.rules in
@@ -1015,6 +1270,9 @@ pub rounds::print_rounds-returns-in_err-again-clause-failures : goal.rounds::pri
 rounds::print_rounds-returns-in_err-again-clause-failures g t c =
     tells_other c.from_residual.result _ (g.S.Sink.failures c.args.sink.now) c.from_residual.ensures.1 (other _ (InvalidOperation ∷ []) c.in_err-again.ensures.refused.1 tt)
 
+pub rounds::print_rounds-returns-in_err-again-clause-keeps : goal.rounds::print_rounds-returns-in_err-again-clause-keeps
+rounds::print_rounds-returns-in_err-again-clause-keeps g t c = world_stays c.args.state.now
+
 pub rounds::print_rounds-returns-in_err-begun-clause-plan : goal.rounds::print_rounds-returns-in_err-begun-clause-plan
 rounds::print_rounds-returns-in_err-begun-clause-plan g t c =
     let s = programs_under (g.T.Templates.standing c.args.program.templates.now) (g.T.Templates.joins c.args.program.templates.now) (g.T.Callbacks.callables c.args.program.templates.now) (option_map standing_of c.args.program.root) c.args.program.rules in
@@ -1024,6 +1282,9 @@ rounds::print_rounds-returns-in_err-begun-clause-plan g t c =
 pub rounds::print_rounds-returns-in_err-begun-clause-failures : goal.rounds::print_rounds-returns-in_err-begun-clause-failures
 rounds::print_rounds-returns-in_err-begun-clause-failures g t c =
     tells_other c.from_residual-in_err-begun.result _ (g.S.Sink.failures c.args.sink.now) c.from_residual-in_err-begun.ensures.1 c.in_err-begun.ensures.spares
+
+pub rounds::print_rounds-returns-in_err-begun-clause-keeps : goal.rounds::print_rounds-returns-in_err-begun-clause-keeps
+rounds::print_rounds-returns-in_err-begun-clause-keeps g t c = world_stays c.args.state.now
 
 pub rounds::print_rounds-enter_rounds-requires : goal.rounds::print_rounds-enter_rounds-requires
 rounds::print_rounds-enter_rounds-requires g t c =
@@ -1039,6 +1300,9 @@ rounds::print_rounds-returns-in_err-caller-clause-plan g t c =
 pub rounds::print_rounds-returns-in_err-caller-clause-failures : goal.rounds::print_rounds-returns-in_err-caller-clause-failures
 rounds::print_rounds-returns-in_err-caller-clause-failures g t c =
     tells_other c.from_residual-in_err-caller.result _ (g.S.Sink.failures c.args.sink.now) c.from_residual-in_err-caller.ensures.1 (other _ (OutOfMemory ∷ []) c.in_err-caller.ensures.refused tt)
+
+pub rounds::print_rounds-returns-in_err-caller-clause-keeps : goal.rounds::print_rounds-returns-in_err-caller-clause-keeps
+rounds::print_rounds-returns-in_err-caller-clause-keeps g t c = stays_same c.args.state.now c.enter_rounds.new.self c.in_err-caller.ensures.unchanged
 
 pub rounds::print_rounds-run_from-ran-requires : goal.rounds::print_rounds-run_from-ran-requires
 rounds::print_rounds-run_from-ran-requires g t c κs within =
@@ -1070,19 +1334,35 @@ rounds::print_rounds-returns-clause-plan g t c =
     let s = programs_under (g.T.Templates.standing c.args.program.templates.now) (g.T.Templates.joins c.args.program.templates.now) (g.T.Callbacks.callables c.args.program.templates.now) (option_map standing_of c.args.program.root) c.args.program.rules in
     let found = (c.in_ok-begun.ensures.begun false c.in-Some.current.now c.in_ok-again.ensures.again.0) in
     let y = rounds_entered (g.T.Templates.standing c.args.program.templates.now) (g.T.Templates.joins c.args.program.templates.now) (g.T.Callbacks.callables c.args.program.templates.now) (option_map standing_of c.args.program.root) c.args.program.rules c.args.state.now false c.in-Some.current.now (rounds_in c.in_ok-again.again.rounds) c.args.over c.in_ok-begun.begun found in
-    plan_as (λ (u : Unit {0}). done) s (recurse_plan s.around c.args.state.now c.args.over) _ c.args.state.now c.args.left.now (g.S.Sink.taken c.args.sink.now) (Err c.in-Err.error) c.leave_rounds.new.self c.run_from-ran.new.left (g.S.Sink.taken c.run_from-ran.new.sink) (loop_runs s c.args.state.now c.args.over c.in-Some.current.now c.in-Some.ensures ∙ found.planned)
+    plan_as (λ (u : Unit {0}). done) s (recurse_plan s.around c.args.state.now c.args.over) _ c.args.state.now c.args.left.now (g.S.Sink.taken c.args.sink.now) (Err c.in-Err.error) c.leave_block.new.self c.run_from-ran.new.left (g.S.Sink.taken c.run_from-ran.new.sink) (loop_runs s c.args.state.now c.args.over c.in-Some.current.now c.in-Some.ensures ∙ found.planned)
     (within_breaks (g.T.Templates.standing c.args.program.templates.now) (g.T.Templates.joins c.args.program.templates.now) (g.T.Callbacks.callables c.args.program.templates.now) (option_map standing_of c.args.program.root) c.args.program.rules 1 c.args.state.now y
     (rounds_keyed (g.T.Templates.standing c.args.program.templates.now) (g.T.Templates.joins c.args.program.templates.now) (g.T.Callbacks.callables c.args.program.templates.now) (option_map standing_of c.args.program.root) c.args.program.rules c.args.state.now false c.in-Some.current.now (rounds_in c.in_ok-again.again.rounds) c.args.over c.in_ok-begun.begun found) refl found.room c.args.left.now c.run_from-ran.new.left (g.S.Sink.taken c.args.sink.now) (g.S.Sink.taken c.run_from-ran.new.sink) c.enter_rounds.new.self c.run_from-ran.new.state
-    (c.in_ok-caller.ensures.within c.in-Some.current.now c.in_ok-again.ensures.again.1) _ _ (λ (u : Unit {0}). done) c.in-Err.error c.in-Err.error c.run_from-ran.result c.leave_rounds.new.self c.in-Err.is
+    (c.in_ok-caller.ensures.within c.in-Some.current.now c.in_ok-again.ensures.again.1) _ _ (λ (u : Unit {0}). done) c.in-Err.error c.in-Err.error c.run_from-ran.result c.leave_block.new.self c.in-Err.is
     (rounds_runs (g.T.Templates.standing c.args.program.templates.now) (g.T.Templates.joins c.args.program.templates.now) (g.T.Callbacks.callables c.args.program.templates.now) (option_map standing_of c.args.program.root) c.args.program.rules c.args.state.now false c.in-Some.current.now (rounds_in c.in_ok-again.again.rounds) c.args.over c.in_ok-begun.begun found c.enter_rounds.new.self c.args.left.now c.run_from-ran.new.left (g.S.Sink.taken c.args.sink.now) (g.S.Sink.taken c.run_from-ran.new.sink) (operands_in c.new-operands.result) c.run_from-ran.result c.run_from-ran.new.state c.new-operands.ensures c.run_from-ran.ensures.runs) refl)
 
 pub rounds::print_rounds-returns-in-Ok-clause-failures : goal.rounds::print_rounds-returns-in-Ok-clause-failures
 rounds::print_rounds-returns-in-Ok-clause-failures g t c =
     given_tells {Y = Unit {0}} _ c.run_from-ran.result (Ok tt) (g.S.Sink.failures c.args.sink.now) (g.S.Sink.failures c.run_from-ran.new.sink) c.in-Ok.is c.run_from-ran.ensures.failures tt
 
+pub rounds::print_rounds-returns-in-Ok-clause-keeps : goal.rounds::print_rounds-returns-in-Ok-clause-keeps
+rounds::print_rounds-returns-in-Ok-clause-keeps g t c =
+    let y = rounds_within c.args.state.now false c.in-Some.current.now (rounds_in c.in_ok-again.again.rounds) c.in_ok-begun.begun.items in
+    comes_back c.args.state.now y c.enter_rounds.new.self c.run_from-ran.new.state
+    (c.in_ok-caller.ensures.within c.in-Some.current.now c.in_ok-again.ensures.again.1) c.run_from-ran.ensures.keeps
+    (rounds_begun c.args.state.now false c.in-Some.current.now (rounds_in c.in_ok-again.again.rounds) c.in_ok-begun.begun.items) c.leave_rounds.new.self
+    (c.leave_rounds.ensures ∙ ap (λ (k : Caller). after_by (runs_rounds false) k c.run_from-ran.new.state) c.in_ok-caller.ensures.kept)
+
 pub rounds::print_rounds-returns-clause-failures : goal.rounds::print_rounds-returns-clause-failures
 rounds::print_rounds-returns-clause-failures g t c =
     tells_as c.run_from-ran.result c.in-Err.error (g.S.Sink.failures c.args.sink.now) (g.S.Sink.failures c.run_from-ran.new.sink) c.in-Err.is c.run_from-ran.ensures.failures
+
+pub rounds::print_rounds-returns-clause-keeps : goal.rounds::print_rounds-returns-clause-keeps
+rounds::print_rounds-returns-clause-keeps g t c =
+    let y = rounds_within c.args.state.now false c.in-Some.current.now (rounds_in c.in_ok-again.again.rounds) c.in_ok-begun.begun.items in
+    comes_back c.args.state.now (record y { purpose = calls_block }) c.enter_rounds.new.self c.run_from-ran.new.state
+    (c.in_ok-caller.ensures.within c.in-Some.current.now c.in_ok-again.ensures.again.1) c.run_from-ran.ensures.keeps
+    (rounds_put_back c.args.state.now false c.in-Some.current.now (rounds_in c.in_ok-again.again.rounds) c.in_ok-begun.begun.items) c.leave_block.new.self
+    (c.leave_block.ensures ∙ ap (λ (k : Caller). put_back k c.run_from-ran.new.state) c.in_ok-caller.ensures.kept)
 
 -- by its name
 pub rounds::call_rounds-returns-in_err-over-clause-plan : goal.rounds::call_rounds-returns-in_err-over-clause-plan
@@ -1095,6 +1375,9 @@ pub rounds::call_rounds-returns-in_err-over-clause-failures : goal.rounds::call_
 rounds::call_rounds-returns-in_err-over-clause-failures g t c =
     tells_other c.from_residual.result _ (g.S.Sink.failures c.args.sink.now) c.from_residual.ensures.1 (other _ (InvalidOperation ∷ []) c.in_err-over.ensures.refused.0 tt)
 
+pub rounds::call_rounds-returns-in_err-over-clause-keeps : goal.rounds::call_rounds-returns-in_err-over-clause-keeps
+rounds::call_rounds-returns-in_err-over-clause-keeps g t c = world_stays c.args.state.now
+
 pub rounds::call_rounds-returns-in_default-clause-plan : goal.rounds::call_rounds-returns-in_default-clause-plan
 rounds::call_rounds-returns-in_default-clause-plan g t c =
     let s = programs_under (g.T.Templates.standing c.args.program.templates.now) (g.T.Templates.joins c.args.program.templates.now) (g.T.Callbacks.callables c.args.program.templates.now) (option_map standing_of c.args.program.root) c.args.program.rules in
@@ -1104,6 +1387,9 @@ rounds::call_rounds-returns-in_default-clause-plan g t c =
 pub rounds::call_rounds-returns-in_default-clause-failures : goal.rounds::call_rounds-returns-in_default-clause-failures
 rounds::call_rounds-returns-in_default-clause-failures g t c =
     inr (other c.new.result (InvalidOperation ∷ []) c.new.ensures tt, refl)
+
+pub rounds::call_rounds-returns-in_default-clause-keeps : goal.rounds::call_rounds-returns-in_default-clause-keeps
+rounds::call_rounds-returns-in_default-clause-keeps g t c = world_stays c.args.state.now
 
 pub rounds::call_rounds-returns-in_err-again-clause-plan : goal.rounds::call_rounds-returns-in_err-again-clause-plan
 rounds::call_rounds-returns-in_err-again-clause-plan g t c =
@@ -1115,6 +1401,9 @@ pub rounds::call_rounds-returns-in_err-again-clause-failures : goal.rounds::call
 rounds::call_rounds-returns-in_err-again-clause-failures g t c =
     tells_other c.from_residual-in_err-again.result _ (g.S.Sink.failures c.args.sink.now) c.from_residual-in_err-again.ensures.1 (other _ (InvalidOperation ∷ []) c.in_err-again.ensures.refused.1 tt)
 
+pub rounds::call_rounds-returns-in_err-again-clause-keeps : goal.rounds::call_rounds-returns-in_err-again-clause-keeps
+rounds::call_rounds-returns-in_err-again-clause-keeps g t c = world_stays c.args.state.now
+
 pub rounds::call_rounds-returns-in_err-begun-clause-plan : goal.rounds::call_rounds-returns-in_err-begun-clause-plan
 rounds::call_rounds-returns-in_err-begun-clause-plan g t c =
     let s = programs_under (g.T.Templates.standing c.args.program.templates.now) (g.T.Templates.joins c.args.program.templates.now) (g.T.Callbacks.callables c.args.program.templates.now) (option_map standing_of c.args.program.root) c.args.program.rules in
@@ -1124,6 +1413,9 @@ rounds::call_rounds-returns-in_err-begun-clause-plan g t c =
 pub rounds::call_rounds-returns-in_err-begun-clause-failures : goal.rounds::call_rounds-returns-in_err-begun-clause-failures
 rounds::call_rounds-returns-in_err-begun-clause-failures g t c =
     tells_other c.from_residual-in_err-begun.result _ (g.S.Sink.failures c.args.sink.now) c.from_residual-in_err-begun.ensures.1 c.in_err-begun.ensures.spares
+
+pub rounds::call_rounds-returns-in_err-begun-clause-keeps : goal.rounds::call_rounds-returns-in_err-begun-clause-keeps
+rounds::call_rounds-returns-in_err-begun-clause-keeps g t c = world_stays c.args.state.now
 
 pub rounds::call_rounds-enter_rounds-requires : goal.rounds::call_rounds-enter_rounds-requires
 rounds::call_rounds-enter_rounds-requires g t c =
@@ -1139,6 +1431,12 @@ rounds::call_rounds-returns-in_err-caller-clause-plan g t c =
 pub rounds::call_rounds-returns-in_err-caller-clause-failures : goal.rounds::call_rounds-returns-in_err-caller-clause-failures
 rounds::call_rounds-returns-in_err-caller-clause-failures g t c =
     tells_other c.from_residual-in_err-caller.result _ (g.S.Sink.failures c.args.sink.now) c.from_residual-in_err-caller.ensures.1 (other _ (OutOfMemory ∷ []) c.in_err-caller.ensures.refused tt)
+
+pub rounds::call_rounds-returns-in_err-caller-clause-keeps : goal.rounds::call_rounds-returns-in_err-caller-clause-keeps
+rounds::call_rounds-returns-in_err-caller-clause-keeps g t c = stays_same c.args.state.now c.enter_rounds.new.self c.in_err-caller.ensures.unchanged
+
+pub rounds::call_rounds-returns-in_err-caller-clause-frames : goal.rounds::call_rounds-returns-in_err-caller-clause-frames
+rounds::call_rounds-returns-in_err-caller-clause-frames g t c = ap (λ (w : World). w.frames) c.in_err-caller.ensures.unchanged
 
 pub rounds::call_rounds-run_from-ran-requires : goal.rounds::call_rounds-run_from-ran-requires
 rounds::call_rounds-run_from-ran-requires g t c κs within =
@@ -1171,19 +1469,53 @@ rounds::call_rounds-returns-clause-plan g t c =
     let s = programs_under (g.T.Templates.standing c.args.program.templates.now) (g.T.Templates.joins c.args.program.templates.now) (g.T.Callbacks.callables c.args.program.templates.now) (option_map standing_of c.args.program.root) c.args.program.rules in
     let found = (c.in_ok-begun.ensures.begun true c.in-Some.current.now c.in_ok-again.ensures.again.0) in
     let y = rounds_entered (g.T.Templates.standing c.args.program.templates.now) (g.T.Templates.joins c.args.program.templates.now) (g.T.Callbacks.callables c.args.program.templates.now) (option_map standing_of c.args.program.root) c.args.program.rules c.args.state.now true c.in-Some.current.now (rounds_in c.in_ok-again.again.rounds) c.in_ok-over.over c.in_ok-begun.begun found in
-    plan_as value s (again_plan s.around c.args.state.now c.args.args.items (loop_of c.args.state.now c.args.id c.args.number)) _ c.args.state.now c.args.left.now (g.S.Sink.taken c.args.sink.now) (Err c.in-Err.error) c.leave_named_rounds.new.self c.run_from-ran.new.left (g.S.Sink.taken c.run_from-ran.new.sink) (loop_known s c.args.state.now c.args.args.items c.in_ok-over.over c.in-Some.current.now (loop_of c.args.state.now c.args.id c.args.number) c.in_ok-over.ensures.only c.in-Some.ensures ∙ found.planned)
+    plan_as value s (again_plan s.around c.args.state.now c.args.args.items (loop_of c.args.state.now c.args.id c.args.number)) _ c.args.state.now c.args.left.now (g.S.Sink.taken c.args.sink.now) (Err c.in-Err.error) c.leave_block.new.self c.run_from-ran.new.left (g.S.Sink.taken c.run_from-ran.new.sink) (loop_known s c.args.state.now c.args.args.items c.in_ok-over.over c.in-Some.current.now (loop_of c.args.state.now c.args.id c.args.number) c.in_ok-over.ensures.only c.in-Some.ensures ∙ found.planned)
     (within_breaks (g.T.Templates.standing c.args.program.templates.now) (g.T.Templates.joins c.args.program.templates.now) (g.T.Callbacks.callables c.args.program.templates.now) (option_map standing_of c.args.program.root) c.args.program.rules 1 c.args.state.now y
     (rounds_keyed (g.T.Templates.standing c.args.program.templates.now) (g.T.Templates.joins c.args.program.templates.now) (g.T.Callbacks.callables c.args.program.templates.now) (option_map standing_of c.args.program.root) c.args.program.rules c.args.state.now true c.in-Some.current.now (rounds_in c.in_ok-again.again.rounds) c.in_ok-over.over c.in_ok-begun.begun found) refl found.room c.args.left.now c.run_from-ran.new.left (g.S.Sink.taken c.args.sink.now) (g.S.Sink.taken c.run_from-ran.new.sink) c.enter_rounds.new.self c.run_from-ran.new.state
-    (c.in_ok-caller.ensures.within c.in-Some.current.now c.in_ok-again.ensures.again.1) _ _ value c.in-Err.error c.in-Err.error c.run_from-ran.result c.leave_named_rounds.new.self c.in-Err.is
+    (c.in_ok-caller.ensures.within c.in-Some.current.now c.in_ok-again.ensures.again.1) _ _ value c.in-Err.error c.in-Err.error c.run_from-ran.result c.leave_block.new.self c.in-Err.is
     (rounds_runs (g.T.Templates.standing c.args.program.templates.now) (g.T.Templates.joins c.args.program.templates.now) (g.T.Callbacks.callables c.args.program.templates.now) (option_map standing_of c.args.program.root) c.args.program.rules c.args.state.now true c.in-Some.current.now (rounds_in c.in_ok-again.again.rounds) c.in_ok-over.over c.in_ok-begun.begun found c.enter_rounds.new.self c.args.left.now c.run_from-ran.new.left (g.S.Sink.taken c.args.sink.now) (g.S.Sink.taken c.run_from-ran.new.sink) (operands_in c.new-operands.result) c.run_from-ran.result c.run_from-ran.new.state c.new-operands.ensures c.run_from-ran.ensures.runs) refl)
 
 pub rounds::call_rounds-returns-in-Ok-clause-failures : goal.rounds::call_rounds-returns-in-Ok-clause-failures
 rounds::call_rounds-returns-in-Ok-clause-failures g t c =
     given_tells _ c.run_from-ran.result c.leave_rounds_text.result (g.S.Sink.failures c.args.sink.now) (g.S.Sink.failures c.run_from-ran.new.sink) c.in-Ok.is c.run_from-ran.ensures.failures c.leave_rounds_text.ensures.refused
 
+pub rounds::call_rounds-returns-in-Ok-clause-keeps : goal.rounds::call_rounds-returns-in-Ok-clause-keeps
+rounds::call_rounds-returns-in-Ok-clause-keeps g t c =
+    let y = rounds_within c.args.state.now true c.in-Some.current.now (rounds_in c.in_ok-again.again.rounds) c.in_ok-begun.begun.items in
+    comes_back c.args.state.now y c.enter_rounds.new.self c.run_from-ran.new.state
+    (c.in_ok-caller.ensures.within c.in-Some.current.now c.in_ok-again.ensures.again.1) c.run_from-ran.ensures.keeps
+    (rounds_begun c.args.state.now true c.in-Some.current.now (rounds_in c.in_ok-again.again.rounds) c.in_ok-begun.begun.items) c.leave_rounds_text.new.self
+    (c.leave_rounds_text.ensures.ended ∙ ap (λ (k : Caller). after_by (runs_rounds true) k c.run_from-ran.new.state) c.in_ok-caller.ensures.kept)
+
+pub rounds::call_rounds-returns-in-Ok-clause-frames : goal.rounds::call_rounds-returns-in-Ok-clause-frames
+rounds::call_rounds-returns-in-Ok-clause-frames g t c =
+    let y = rounds_within c.args.state.now true c.in-Some.current.now (rounds_in c.in_ok-again.again.rounds) c.in_ok-begun.begun.items in
+    frames_back c.args.state.now y c.enter_rounds.new.self c.run_from-ran.new.state
+    (c.in_ok-caller.ensures.within c.in-Some.current.now c.in_ok-again.ensures.again.1) c.run_from-ran.ensures.keeps
+    (loop_frame (loop_again c.args.state.now c.in-Some.current.now (rounds_in c.in_ok-again.again.rounds) c.in_ok-begun.begun.items)) refl refl c.leave_rounds_text.new.self
+    (ap (λ (w : World). w.frames)
+    (c.leave_rounds_text.ensures.ended ∙ ap (λ (k : Caller). after_by (runs_rounds true) k c.run_from-ran.new.state) c.in_ok-caller.ensures.kept))
+
 pub rounds::call_rounds-returns-clause-failures : goal.rounds::call_rounds-returns-clause-failures
 rounds::call_rounds-returns-clause-failures g t c =
     tells_as c.run_from-ran.result c.in-Err.error (g.S.Sink.failures c.args.sink.now) (g.S.Sink.failures c.run_from-ran.new.sink) c.in-Err.is c.run_from-ran.ensures.failures
+
+pub rounds::call_rounds-returns-clause-keeps : goal.rounds::call_rounds-returns-clause-keeps
+rounds::call_rounds-returns-clause-keeps g t c =
+    let y = rounds_within c.args.state.now true c.in-Some.current.now (rounds_in c.in_ok-again.again.rounds) c.in_ok-begun.begun.items in
+    comes_back c.args.state.now (record y { purpose = calls_block }) c.enter_rounds.new.self c.run_from-ran.new.state
+    (c.in_ok-caller.ensures.within c.in-Some.current.now c.in_ok-again.ensures.again.1) c.run_from-ran.ensures.keeps
+    (rounds_put_back c.args.state.now true c.in-Some.current.now (rounds_in c.in_ok-again.again.rounds) c.in_ok-begun.begun.items) c.leave_block.new.self
+    (c.leave_block.ensures ∙ ap (λ (k : Caller). put_back k c.run_from-ran.new.state) c.in_ok-caller.ensures.kept)
+
+pub rounds::call_rounds-returns-clause-frames : goal.rounds::call_rounds-returns-clause-frames
+rounds::call_rounds-returns-clause-frames g t c =
+    let y = rounds_within c.args.state.now true c.in-Some.current.now (rounds_in c.in_ok-again.again.rounds) c.in_ok-begun.begun.items in
+    frames_back c.args.state.now (record y { purpose = calls_block }) c.enter_rounds.new.self c.run_from-ran.new.state
+    (c.in_ok-caller.ensures.within c.in-Some.current.now c.in_ok-again.ensures.again.1) c.run_from-ran.ensures.keeps
+    (loop_frame (loop_again c.args.state.now c.in-Some.current.now (rounds_in c.in_ok-again.again.rounds) c.in_ok-begun.begun.items)) refl refl c.leave_block.new.self
+    (ap (λ (w : World). w.frames)
+    (c.leave_block.ensures ∙ ap (λ (k : Caller). put_back k c.run_from-ran.new.state) c.in_ok-caller.ensures.kept))
 
 -- what a call enters
 pub entries::run_entering-returns-in-Macro-clause-plan : goal.entries::run_entering-returns-in-Macro-clause-plan
@@ -1257,7 +1589,7 @@ entries::enter_call-run_entry-requires g t c κs within =
 pub entries::enter_call-returns-in_err-value-clause-does : goal.entries::enter_call-returns-in_err-value-clause-does
 entries::enter_call-returns-in_err-value-clause-does g t c code start w entered =
     let s = programs_under (g.T.Templates.standing c.args.program.templates.now) (g.T.Templates.joins c.args.program.templates.now) (g.T.Callbacks.callables c.args.program.templates.now) (option_map standing_of c.args.program.root) c.args.program.rules in
-    call_halts s (uniform (g.T.Templates.standing c.args.program.templates.now) (g.T.Templates.joins c.args.program.templates.now) (g.T.Callbacks.callables c.args.program.templates.now) (option_map standing_of c.args.program.root) c.args.program.rules) code start w c.args.state.now c.args.entry (operands_in c.args.operands.now) entered c.args.left.now c.run_entry.new.left (g.S.Sink.taken c.args.sink.now) (g.S.Sink.taken c.run_entry.new.sink) _ c.from_residual.result _ c.run_entry.new.state c.in_err-value.ensures.plan c.from_residual.ensures.1
+    call_halts s (uniform (g.T.Templates.standing c.args.program.templates.now) (g.T.Templates.joins c.args.program.templates.now) (g.T.Callbacks.callables c.args.program.templates.now) (option_map standing_of c.args.program.root) c.args.program.rules) code start w c.args.state.now c.args.entry (operands_in c.args.operands.now) entered c.args.left.now c.run_entry.new.left (g.S.Sink.taken c.args.sink.now) (g.S.Sink.taken c.run_entry.new.sink) _ c.from_residual.result _ c.run_entry.new.state c.in_err-value.ensures.keeps c.in_err-value.ensures.plan c.from_residual.ensures.1
 
 pub entries::enter_call-returns-in_err-value-clause-failures : goal.entries::enter_call-returns-in_err-value-clause-failures
 entries::enter_call-returns-in_err-value-clause-failures g t c =
@@ -1266,4 +1598,4 @@ entries::enter_call-returns-in_err-value-clause-failures g t c =
 pub entries::enter_call-returns-clause-does : goal.entries::enter_call-returns-clause-does
 entries::enter_call-returns-clause-does g t c code start w entered =
     let s = programs_under (g.T.Templates.standing c.args.program.templates.now) (g.T.Templates.joins c.args.program.templates.now) (g.T.Callbacks.callables c.args.program.templates.now) (option_map standing_of c.args.program.root) c.args.program.rules in
-    call_gives s (uniform (g.T.Templates.standing c.args.program.templates.now) (g.T.Templates.joins c.args.program.templates.now) (g.T.Callbacks.callables c.args.program.templates.now) (option_map standing_of c.args.program.root) c.args.program.rules) code start w c.args.state.now c.args.entry (operands_in c.args.operands.now) entered c.args.left.now c.run_entry.new.left (g.S.Sink.taken c.args.sink.now) (g.S.Sink.taken c.run_entry.new.sink) c.in_ok-value.value c.push.result _ c.run_entry.new.state c.in_ok-value.ensures.plan c.push.ensures.pushed c.push.ensures.refused
+    call_gives s (uniform (g.T.Templates.standing c.args.program.templates.now) (g.T.Templates.joins c.args.program.templates.now) (g.T.Callbacks.callables c.args.program.templates.now) (option_map standing_of c.args.program.root) c.args.program.rules) code start w c.args.state.now c.args.entry (operands_in c.args.operands.now) entered c.args.left.now c.run_entry.new.left (g.S.Sink.taken c.args.sink.now) (g.S.Sink.taken c.run_entry.new.sink) c.in_ok-value.value c.push.result _ c.run_entry.new.state c.in_ok-value.ensures.keeps c.in_ok-value.ensures.plan c.push.ensures.pushed c.push.ensures.refused

@@ -1,5 +1,6 @@
-use Rattle.std.proofs.Common.{◌≡◌, ◌+◌, ◌-◌, ◌*◌, ◌≤◌, length, Some, option_map}
+use Rattle.std.proofs.Common.{◌≡◌, ◌+◌, ◌-◌, ◌*◌, length, Some, option_map}
 use Rattle.template_code.specs.Listing.{code_in}
+use Rattle.template_machine_meaning.specs.Keeps.{KeepsWorld}
 use Rattle.template_machine_meaning.specs.Keys.{Stream, whole_of}
 use Rattle.template_machine_meaning.specs.Surroundings.{answer}
 use Rattle.template_machine_going.specs.Goings.{Goes}
@@ -81,7 +82,5 @@ invariant-whole::run_whole-loop g l =
     ((here : Stream) → code_at (g.T.Templates.standing templates) root here ≡ Some (code_in l.code)
     → HasEnded (g.T.Templates.standing templates) (g.T.Templates.joins templates) (g.T.Callbacks.callables templates) root l.program.rules
     (whole_of here) l.fn.state l.fn.left (g.S.Sink.taken l.fn.sink) l.state l.left (g.S.Sink.taken l.sink))
-    × (l.state.floor ≡ l.fn.state.floor)
-    × (l.state.outer ≡ l.fn.state.outer)
-    × (l.fn.state.floor ≤ length l.state.frames)
+    × KeepsWorld l.fn.state l.state
     × (g.S.Sink.failures l.sink ≡ g.S.Sink.failures l.fn.sink)

@@ -1,4 +1,4 @@
-use Rattle.std.proofs.Common.{Ok, Err, inl, sym, ap, ◌∙◌}
+use Rattle.std.proofs.Common.{Ok, Err, inl, refl, sym, ap, ◌∙◌}
 use Rattle.std.specs.Prelude.{string_bytes}
 use Rattle.template_callables.specs.Answers.{asked_by}
 use Rattle.template_process.specs.Process.{tells, value}
@@ -11,7 +11,7 @@ use Rattle.template_machine_meaning.specs.World.{looked_up, value_named}
 use Rattle.template_machine_calls.specs.Hosted.{around_under}
 use Rattle.template_machine_calls.specs.Left.{asked_plan, left_by, raw_plan}
 use Rattle.template_machine_calls.proofs.Beginning.{found_as, refused_planned, value_as}
-use Rattle.template_machine_calls.proofs.Chaining.{err_planned, planned_as}
+use Rattle.template_machine_calls.proofs.Chaining.{err_planned, keeps_any, planned_as}
 use Rattle.template_machine_calls.proofs.asking.ask.Goals as goal
 
 pub returns-in_err-called-in-Call-clause-comes : goal.returns-in_err-called-in-Call-clause-comes
@@ -43,6 +43,9 @@ returns-in-Filter-clause-comes g c a pending go =
     ∙ (λ i. raw_plan around go w (filter_named (sym c.as_str.ensures.value i)) (sym c.as_slice-in-Filter.ensures.value i)))
     (c.ask_filter.ensures.comes a pending go)
 
+pub returns-in-Filter-clause-kept : goal.returns-in-Filter-clause-kept
+returns-in-Filter-clause-kept g c = keeps_any c.ask_filter.result c.args.state.now c.ask_filter.new.state c.ask_filter.ensures.kept
+
 pub returns-in-Test-clause-comes : goal.returns-in-Test-clause-comes
 returns-in-Test-clause-comes g c a pending go =
     let around : Around = around_under c.args.rules (g.H.Callbacks.callables c.args.host.now) a in
@@ -51,6 +54,9 @@ returns-in-Test-clause-comes g c a pending go =
     (ap (λ f. asked_plan around pending go w (asked_by f)) c.in-Test.is
     ∙ (λ i. raw_plan around go w (test_named (sym c.as_str-in-Test.ensures.value i)) (sym c.as_slice-in-Test.ensures.value i)))
     (c.ask_test.ensures.comes a pending go)
+
+pub returns-in-Test-clause-kept : goal.returns-in-Test-clause-kept
+returns-in-Test-clause-kept g c = keeps_any c.ask_test.result c.args.state.now c.ask_test.new.state c.ask_test.ensures.kept
 
 pub returns-in_err-lookup-in-Lookup-clause-comes : goal.returns-in_err-lookup-in-Lookup-clause-comes
 returns-in_err-lookup-in-Lookup-clause-comes g c a pending go =
@@ -62,6 +68,9 @@ returns-in_ok-lookup-in-Lookup-clause-comes g c a pending go =
     let w = c.args.state.now in
     ap (λ f. asked_plan around pending go w (asked_by f)) c.in-Lookup.is
     ∙ (λ i. replies (told w (tells (value (value_named (sym c.as_str-in-Lookup.ensures.value i) w))))) ∙ ap (λ v. replies (told w (tells (value v)))) (sym c.in_ok-lookup-in-Lookup.ensures.found)
+
+pub returns-in_ok-lookup-in-Lookup-clause-kept : goal.returns-in_ok-lookup-in-Lookup-clause-kept
+returns-in_ok-lookup-in-Lookup-clause-kept g c = (refl, refl)
 
 pub returns-in_err-found-in-Macro-clause-comes : goal.returns-in_err-found-in-Macro-clause-comes
 returns-in_err-found-in-Macro-clause-comes g c a pending go =

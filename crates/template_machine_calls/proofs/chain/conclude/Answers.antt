@@ -26,6 +26,9 @@ returns-in-Enters-clause-comes g c a =
     let around : Around = around_under c.args.rules (g.H.Callbacks.callables c.args.host.now) a in
     ap (λ o. with_turnings (turnings_in c.args.turnings.items) (left_by around 0 (beyond around 0 c.args.levels) o c.args.state.now)) c.in-Enters.is
 
+pub returns-in-Value-clause-kept : goal.returns-in-Value-clause-kept
+returns-in-Value-clause-kept g c w before = subst (λ (o : Outcome). KeepsWorld (Ok o) w c.args.state.now) c.in-Value.is before
+
 pub returns-in-Further-clause-kept : goal.returns-in-Further-clause-kept
 returns-in-Further-clause-kept g c w before =
     kept_behind _ w c.args.state.now c.go_on.new.state (subst (λ (o : Outcome). KeepsWorld (Ok o) w c.args.state.now) c.in-Further.is before) c.go_on.ensures.kept

@@ -8,7 +8,7 @@ use Rattle.template_machine_calls.specs.Hosted.{around_under}
 use Rattle.template_machine_calls.specs.Left.{KeepsWorld, KeptUnlessValue, Planned, entering_plan, left_by, reached_by, turnings_in, value_left, with_turnings}
 use Rattle.template_machine_calls.specs.declared.outcome.Outcome.{Outcome}
 use Rattle.template_machine_calls.specs.declared.reached.Reached.{Reached}
-use Rattle.template_machine_calls.proofs.Chaining.{err_kept, err_planned, further_failed, none_further, one_further, only_temps_on}
+use Rattle.template_machine_calls.proofs.Chaining.{err_kept, err_planned, further_failed, none_further, one_further, only_temps_on, open_behind}
 use Rattle.template_machine_calls.proofs.chain.go_on.Goals as goal
 
 pub loop-pending-preserved : goal.loop-pending-preserved
@@ -60,6 +60,11 @@ returns-in-Value-clause-comes g c a =
     one_further around plan (value_left c.in-Value.value c.ask.new.state) (turnings_in c.loop-pending.turnings.items) (turnings_in c.note.new.turnings.items) c.loop-pending.pending onward left later c.loop-pending.state (asked_by c.loop-pending.next)
     (c.loop-pending.invariant.plan a) (omega arith) (omega arith) c.in_ok-note.ensures.noted
     (c.in_ok-outcome.ensures.comes a onward (beyond around onward later) ∙ ap (λ o. left_by around onward (beyond around onward later) o c.ask.new.state) c.in-Value.is)
+
+pub returns-in-Value-clause-kept : goal.returns-in-Value-clause-kept
+returns-in-Value-clause-kept g c =
+    open_behind c.args.state.now c.loop-pending.state c.ask.new.state c.loop-pending.invariant.kept
+    (subst (λ (o : Outcome). KeepsWorld (Ok o) c.loop-pending.state c.ask.new.state) c.in-Value.is c.in_ok-outcome.ensures.kept)
 
 pub returns-in-Enters-clause-comes : goal.returns-in-Enters-clause-comes
 returns-in-Enters-clause-comes g c a =

@@ -1,6 +1,7 @@
 use Rattle.std.proofs.Common.{suc, sym, ap, subst, ◌∙◌}
 use Rattle.template_code.specs.Code as codes
 use Rattle.template_machine_meaning.specs.Surroundings.{Programs, text_reply}
+use Rattle.template_machine_meaning.proofs.RunsKept.{world_stays}
 use Rattle.template_machine_operands.specs.Operands.{operands_in}
 use Rattle.template_machine_steps.specs.Performs.{StepsWriting}
 use Rattle.template_machine_steps.proofs.Sparing.{stray_spares}
@@ -14,7 +15,7 @@ pub returns-in_err-value-clause-steps : goal.returns-in_err-value-clause-steps
 returns-in_err-value-clause-steps g c program =
     let s : Programs = hosted c.args.rules (g.H.Callbacks.callables c.args.host.now) program in
     steps_write s codes.emit _ c.args.state.now _ _ _ _ _
-    (lost_one s codes.emit _ c.args.state.now _ _ _ _ _ tt c.in_err-value.ensures.none c.in_err-value.ensures.kind c.from_residual.ensures.1)
+    (lost_one s codes.emit _ c.args.state.now _ _ _ _ _ (world_stays c.args.state.now) tt c.in_err-value.ensures.none c.in_err-value.ensures.kind c.from_residual.ensures.1)
 
 pub returns-in_err-value-clause-failures : goal.returns-in_err-value-clause-failures
 returns-in_err-value-clause-failures g c = spared_failures _ _ _ (stray_spares _ c.in_err-value.ensures.kind) c.from_residual.ensures.1

@@ -6,16 +6,19 @@ use Rattle.template_machine_meaning.specs.Calls.{call_plan}
 use Rattle.template_machine_meaning.specs.Functions.{name_called}
 use Rattle.template_machine_meaning.specs.World.{looked_up}
 use Rattle.template_machine_meaning.specs.Surroundings.{Programs}
+use Rattle.template_machine_meaning.proofs.RunsKept.{world_stays}
 use Rattle.template_machine_operands.specs.Operands.{operands_in}
 use Rattle.template_machine_steps.proofs.Gathering.{handed_refused}
 use Rattle.template_machine_calls.specs.Hosted.{hosted}
 use Rattle.template_machine_calls.proofs.Giving.{called, err_out, failed, handed_as, put_out, refused_as}
+use Rattle.template_machine_calls.proofs.Temps.{temps_keep}
 use Rattle.template_machine_calls.proofs.instructions.call_function.Goals as goal
 
 pub returns-in_err-args : goal.returns-in_err-args
 returns-in_err-args g c program =
     err_out (hosted c.args.rules (g.H.Callbacks.callables c.args.host.now) program) _ _ _ _ _ _ _
     (handed_refused (hosted c.args.rules (g.H.Callbacks.callables c.args.host.now) program) (codes.call_function c.args.name.now c.args.count) _ c.args.state.now (Err _) _ _ _ _ c.args.count
+    (world_stays c.args.state.now)
     (λ lacks next before place. ap (λ t. on_taken t (λ vs rest. giving next place rest (events.call_function c.args.name.now vs))) lacks)
     (refused_as _ _ _ _ c.widened.ensures c.in_err-args.ensures.refused) refl)
     c.from_residual.ensures.1
@@ -28,7 +31,7 @@ returns-in_err-reached g c program =
     (λ next before place. ap (λ t. on_taken t (λ vs rest. giving next place rest (events.call_function c.args.name.now vs)))
     (handed_as _ _ _ _ c.widened.ensures c.in_ok-args.ensures.taken))
     (call_plan s.around c.args.state.now (name_called c.args.state.now.globals (looked_up c.args.name.now c.args.state.now) c.in_ok-args.args.items)) (called s _ c.args.state.now _ c.requires) (Err _) _ _ _
-    (c.in_err-reached.ensures.told program.around) refl)
+    (temps_keep c.args.state.now _ c.in_err-reached.ensures.kept) (c.in_err-reached.ensures.told program.around) refl)
     c.from_residual-in_err-reached.ensures.1
 
 pub returns : goal.returns

@@ -5,16 +5,19 @@ use Rattle.template_code.specs.Steps.{on_taken, giving}
 use Rattle.template_machine_meaning.specs.Calls.{call_plan}
 use Rattle.template_machine_meaning.specs.Functions.{first_called}
 use Rattle.template_machine_meaning.specs.Surroundings.{Programs}
+use Rattle.template_machine_meaning.proofs.RunsKept.{world_stays}
 use Rattle.template_machine_operands.specs.Operands.{operands_in}
 use Rattle.template_machine_steps.proofs.Gathering.{handed_refused}
 use Rattle.template_machine_calls.specs.Hosted.{hosted}
 use Rattle.template_machine_calls.proofs.Giving.{err_out, failed, handed_as, put_out, refused_as}
+use Rattle.template_machine_calls.proofs.Temps.{temps_keep}
 use Rattle.template_machine_calls.proofs.instructions.call_object.Goals as goal
 
 pub returns-in_err-taken : goal.returns-in_err-taken
 returns-in_err-taken g c program =
     err_out (hosted c.args.rules (g.H.Callbacks.callables c.args.host.now) program) _ _ _ _ _ _ _
     (handed_refused (hosted c.args.rules (g.H.Callbacks.callables c.args.host.now) program) (codes.call_object c.args.count) _ c.args.state.now (Err _) _ _ _ _ c.args.count
+    (world_stays c.args.state.now)
     (λ lacks next before place. ap (λ t. on_taken t (λ vs rest. giving next place rest (events.call_value vs))) lacks)
     (refused_as _ _ _ _ c.widened.ensures c.in_err-taken.ensures.refused) refl)
     c.from_residual.ensures.1
@@ -27,7 +30,7 @@ returns-in_err-reached g c program =
     (λ next before place. ap (λ t. on_taken t (λ vs rest. giving next place rest (events.call_value vs)))
     (handed_as _ _ _ _ c.widened.ensures c.in_ok-taken.ensures.taken))
     (call_plan s.around c.args.state.now (first_called c.args.state.now.globals c.in_ok-taken.taken.items)) refl (Err _) _ _ _
-    (c.in_err-reached.ensures.told program.around) refl)
+    (temps_keep c.args.state.now _ c.in_err-reached.ensures.kept) (c.in_err-reached.ensures.told program.around) refl)
     c.from_residual-in_err-reached.ensures.1
 
 pub returns : goal.returns

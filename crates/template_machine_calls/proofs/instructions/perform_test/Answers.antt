@@ -5,16 +5,19 @@ use Rattle.template_code.specs.Steps.{on_taken, giving}
 use Rattle.template_machine_meaning.specs.Calls.{call_plan}
 use Rattle.template_machine_meaning.specs.Functions.{invokes, test_named}
 use Rattle.template_machine_meaning.specs.Surroundings.{Programs}
+use Rattle.template_machine_meaning.proofs.RunsKept.{world_stays}
 use Rattle.template_machine_operands.specs.Operands.{operands_in}
 use Rattle.template_machine_steps.proofs.Gathering.{handed_refused}
 use Rattle.template_machine_calls.specs.Hosted.{hosted}
 use Rattle.template_machine_calls.proofs.Giving.{err_out, failed, handed_as, handed_with, put_out, refused_as}
+use Rattle.template_machine_calls.proofs.Temps.{temps_keep}
 use Rattle.template_machine_calls.proofs.instructions.perform_test.Goals as goal
 
 pub returns-in_err-values : goal.returns-in_err-values
 returns-in_err-values g c program number =
     err_out (hosted c.args.rules (g.H.Callbacks.callables c.args.host.now) program) _ _ _ _ _ _ _
     (handed_refused (hosted c.args.rules (g.H.Callbacks.callables c.args.host.now) program) (codes.perform_test c.args.name.now c.args.count number) _ c.args.state.now (Err _) _ _ _ _ c.args.count
+    (world_stays c.args.state.now)
     (λ lacks next before place. ap (λ t. on_taken t (λ vs rest. giving next place rest (events.perform_test c.args.name.now vs))) lacks)
     (refused_as _ _ _ _ c.widened.ensures c.in_err-values.ensures.refused) refl)
     c.from_residual.ensures.1
@@ -28,7 +31,7 @@ returns-in_err-reached g c program number =
     (handed_with c.args.count (operands_in c.args.operands.now) (operands_in c.take_handed.new.self) c.in_ok-values.values.items c.as_slice.result.now
     (handed_as _ _ _ _ c.widened.ensures c.in_ok-values.ensures.taken) c.as_slice.ensures.value))
     (call_plan s.around c.args.state.now (invokes (test_named c.args.name.now) c.as_slice.result.now)) refl (Err _) _ _ _
-    (c.in_err-reached.ensures.told program.around) refl)
+    (temps_keep c.args.state.now _ c.in_err-reached.ensures.kept) (c.in_err-reached.ensures.told program.around) refl)
     c.from_residual-in_err-reached.ensures.1
 
 pub returns : goal.returns

@@ -3,11 +3,14 @@ use Rattle.std.specs.Cow.{cow_str_bytes}
 use Rattle.template_values_errors.specs.declared.ErrorKind.TheVariants.{InvalidOperation, TemplateNotFound}
 use Rattle.template_process.specs.Process.{done}
 use Rattle.template_machine_meaning.specs.Blocks.{load_plan}
+use Rattle.template_machine_meaning.proofs.RunsKept.{world_stays}
 use Rattle.template_machine_loop.specs.Programs.{programs_under, standing_of}
 use Rattle.template_machine_loop.proofs.Choosing.{extends_already, extends_nothing, extends_stops, extends_again, extends_missing, extends_it, extends_spares}
 use Rattle.template_machine_loop.proofs.Within.{err_on, refused_as, stops_first}
 use Rattle.template_machine_loop.proofs.Doing.{refuses, does_at_once}
 use Rattle.template_machine_steps.specs.Performs.{SparesSink}
+use Rattle.template_machine_steps.proofs.Keeping.{stays}
+use Rattle.template_machine_loop.proofs.Loading.{loading_keeps}
 use Rattle.template_machine_loop.proofs.extending.extend.Goals as goal
 
 pub returns-then-is_some-clause-plan : goal.returns-then-is_some-clause-plan
@@ -54,3 +57,23 @@ returns-clause-plan g c left taken =
     does_at_once s (load_plan s.around c.args.state.now c.args.state.now.parent c.args.value.now) c.args.state.now left taken (λ (u : Unit {0}). done) c.load_blocks.result c.load_blocks.new.self _ done
     (extends_it (g.T.Templates.standing c.args.program.templates.now) (g.T.Templates.joins c.args.program.templates.now) (g.T.Callbacks.callables c.args.program.templates.now) (option_map standing_of c.args.program.root) c.args.program.rules c.args.state.now c.args.value.now c.parent.result c.parent.ensures (sym c.is_some.ensures ∙ c.if-is_some.false) c.in-Some.name.now (sym c.in-Some.ensures) c.here_name.result.now (c.here_name.ensures s.around) (cow_str_bytes c.in_ok-joined.joined) c.in_ok-joined.ensures.joined c.as_str-meant.result.now c.as_str-meant.ensures.value (standing_of c.in-Some-get.found) (sym c.is_loaded.ensures ∙ c.if-is_loaded.false) c.in-Some-get.ensures.found
     c.in-Some-get.ensures.named) (λ u. refl) c.load_blocks.ensures.loaded c.load_blocks.ensures.refused
+
+-- the state is as it was, but where blocks are loaded
+pub returns-then-is_some-clause-keeps : goal.returns-then-is_some-clause-keeps
+returns-then-is_some-clause-keeps g c = world_stays c.args.state.now
+
+pub returns-in_default-clause-keeps : goal.returns-in_default-clause-keeps
+returns-in_default-clause-keeps g c = world_stays c.args.state.now
+
+pub returns-in_err-joined-clause-keeps : goal.returns-in_err-joined-clause-keeps
+returns-in_err-joined-clause-keeps g c = stays c.from_residual.result c.args.state.now
+
+pub returns-then-is_loaded-clause-keeps : goal.returns-then-is_loaded-clause-keeps
+returns-then-is_loaded-clause-keeps g c = world_stays c.args.state.now
+
+pub returns-in_default-get-clause-keeps : goal.returns-in_default-get-clause-keeps
+returns-in_default-get-clause-keeps g c = world_stays c.args.state.now
+
+pub returns-clause-keeps : goal.returns-clause-keeps
+returns-clause-keeps g c =
+    loading_keeps c.load_blocks.result c.args.state.now c.load_blocks.new.self c.load_blocks.ensures.rest c.load_blocks.ensures.kept

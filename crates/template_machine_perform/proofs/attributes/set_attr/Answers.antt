@@ -1,5 +1,6 @@
 use Rattle.template_code.specs.Code as codes
 use Rattle.template_machine_meaning.specs.Namespaces.{with_attribute}
+use Rattle.template_machine_meaning.proofs.RunsKept.{world_stays}
 use Rattle.template_machine_operands.specs.Operands.{operands_in}
 use Rattle.template_machine_acts.proofs.Framing.{set_attribute_acts}
 use Rattle.template_machine_steps.specs.Performs.{spot}
@@ -9,7 +10,8 @@ use Rattle.template_machine_perform.proofs.attributes.set_attr.Goals as goal
 
 pub returns-in_err-value : goal.returns-in_err-value
 returns-in_err-value c s =
-    lost_two s (codes.set_attr c.args.name.now) _ c.args.state.now _ _ _ _ _ tt c.in_err-value.ensures.none c.in_err-value.ensures.kind c.from_residual.ensures.1
+    lost_two s (codes.set_attr c.args.name.now) _ c.args.state.now _ _ _ _ _ (world_stays c.args.state.now) tt
+    c.in_err-value.ensures.none c.in_err-value.ensures.kind c.from_residual.ensures.1
 
 pub returns : goal.returns
 returns c s =

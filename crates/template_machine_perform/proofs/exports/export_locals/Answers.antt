@@ -2,6 +2,7 @@ use Rattle.std.proofs.Common.{◌≡◌, Ok, subst}
 use Rattle.template_values_core.specs.Shape.{pairs_in}
 use Rattle.template_code.specs.Code as codes
 use Rattle.template_machine_meaning.specs.Replies.{kinded}
+use Rattle.template_machine_meaning.proofs.RunsKept.{world_stays}
 use Rattle.template_machine_operands.specs.Operands.{operands_in}
 use Rattle.template_machine_operations.specs.Modules.{module_with}
 use Rattle.template_machine_acts.specs.Comings.{ComesTo, with_value}
@@ -13,16 +14,18 @@ use Rattle.template_machine_perform.proofs.exports.export_locals.Goals as goal
 
 pub returns-in_err-written : goal.returns-in_err-written
 returns-in_err-written c s =
-    lost_one s codes.export_locals _ c.args.state.now _ _ _ _ _ tt c.in_err-written.ensures.none c.in_err-written.ensures.kind c.from_residual.ensures.1
+    lost_one s codes.export_locals _ c.args.state.now _ _ _ _ _ (world_stays c.args.state.now) tt
+    c.in_err-written.ensures.none c.in_err-written.ensures.kind c.from_residual.ensures.1
 
 pub returns-then-not-has_frame : goal.returns-then-not-has_frame
 returns-then-not-has_frame c s =
-    astray_out s codes.export_locals _ c.args.state.now _ _ _ _
+    astray_out s codes.export_locals _ c.args.state.now _ _ _ _ (world_stays c.args.state.now)
     (λ before place left taken. export_astray s before (spot place (operands_in c.args.operands.now) c.args.state.now left taken) _ _ c.in_ok-written.ensures.taken (none_there _ _ c.has_frame.ensures c.if-not-has_frame.true)) c.new.ensures
 
 pub returns-in_err-names : goal.returns-in_err-names
 returns-in_err-names c s =
-    want_out s codes.export_locals _ c.args.state.now _ _ _ _ _ c.in_err-names.ensures.refused c.from_residual-in_err-names.ensures.1
+    want_out s codes.export_locals _ c.args.state.now _ _ _ _ _ (world_stays c.args.state.now)
+    c.in_err-names.ensures.refused c.from_residual-in_err-names.ensures.1
 
 pub returns-in_err-module : goal.returns-in_err-module
 returns-in_err-module c s =

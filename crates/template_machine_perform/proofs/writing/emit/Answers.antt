@@ -1,6 +1,7 @@
 use Rattle.std.proofs.Common.{◌∷◌, suc, refl, sym, subst}
 use Rattle.template_code.specs.Code as codes
 use Rattle.template_code.specs.Code.{single}
+use Rattle.template_machine_meaning.proofs.RunsKept.{world_stays}
 use Rattle.template_machine_operands.specs.Operands.{operands_in}
 use Rattle.template_machine_steps.specs.Performs.{ruled}
 use Rattle.template_machine_perform.specs.Performs.{StepsWriting}
@@ -18,7 +19,8 @@ returns-in_err-value-clause-failures g c = stray_tells c.from_residual.result _ 
 pub returns-in_err-value-clause-steps : goal.returns-in_err-value-clause-steps
 returns-in_err-value-clause-steps g c program limit plain =
     steps_write _ codes.emit _ c.args.state.now _ _ _ _ _
-    (lost_one (ruled program limit c.args.mode) codes.emit _ c.args.state.now _ _ _ _ _ tt c.in_err-value.ensures.none c.in_err-value.ensures.kind c.from_residual.ensures.1)
+    (lost_one (ruled program limit c.args.mode) codes.emit _ c.args.state.now _ _ _ _ _ (world_stays c.args.state.now) tt
+    c.in_err-value.ensures.none c.in_err-value.ensures.kind c.from_residual.ensures.1)
 
 pub returns-then-has_capture-clause-failures : goal.returns-then-has_capture-clause-failures
 returns-then-has_capture-clause-failures g c =
