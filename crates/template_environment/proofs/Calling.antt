@@ -6,29 +6,30 @@ use Rattle.template_values_errors.specs.declared.modes.UndefinedBehavior.{Undefi
 use Rattle.template_process.specs.Approximants.{IsFinished}
 use Rattle.template_process.specs.Fuel.{under}
 use Rattle.template_process.specs.Process.{done}
-use Rattle.template_process.specs.Trace.{Run, price_of}
-use Rattle.template_machine_going.specs.Paying.{Paid}
+use Rattle.template_process.specs.Trace.{Run}
 use Rattle.template_machine_meaning.specs.Blocks.{block_plan}
 use Rattle.template_machine_meaning.specs.Surroundings.{Programs}
 use Rattle.template_machine_meaning.specs.World.{World}
 use Rattle.template_machine_renders.specs.Plans.{DoesPlan}
 use Rattle.template_machine_renders.specs.Programs as units
 use Rattle.template_machine_renders.specs.Programs.{programs_of}
-use Rattle.template_machine_renders.specs.Renders.{Renders, RendersTo, whole, leaves}
+use Rattle.template_machine_renders.specs.Renders.{LeavesFuel, Renders, RendersTo, whole}
 use Rattle.template_machine_renders.proofs.Blocks.{blocks_render}
 use Rattle.template_compiled.specs.Compiled.{standing_of}
 use Rattle.template_environment.specs.Extras.{UserAnswers, joins_by}
 use Rattle.template_environment.specs.Reading.{callables_of, extras_of, registry_of, setting_in}
+use Rattle.template_environment.specs.Renderings.{IsNoMore}
 use Rattle.template_environment.specs.Standing.{unit_of, units_of}
 use Rattle.template_environment.specs.States.{block_in, codes_in, environment_in, fuel_left_in, own_name_in, template_in, world_in}
 use Rattle.template_environment.specs.declared.environment.Environment.{Environment}
 use Rattle.template_environment.specs.declared.state.State.{State}
 use Rattle.template_environment.proofs.Rendering.{ruled_programs}
+use Rattle.template_environment.proofs.Told.{leaves_no_more, stopped_leaves}
 
 rendered_to : {X : Type 0} (fuel : Option ℕ) (r : Run World) (result : Result X (List ErrorKind)) (after : World) (left : Option ℕ) (before taken : Option (List ℕ))
     → RendersTo fuel r result after left before taken → Renders result before taken (under fuel r)
 rendered_to fuel r (Ok x) after left before taken ended = whole ended.over ended.text
-rendered_to fuel r (Err kinds) after left before taken stopped = stopped
+rendered_to fuel r (Err kinds) after left before taken stopped = stopped.0
 
 module _ {E C M F J R : Type 0} (says : UserAnswers C M F J) (s : State E C M F J R) where
   pub program_in : (there : Environment E C M F J R) (unit : Option units.Standing) (own : List ℕ) (limit : ℕ) (mode : UndefinedBehavior) → there ≡ environment_in s
@@ -58,12 +59,14 @@ module _ {E C M F J R : Type 0} (says : UserAnswers C M F J) (s : State E C M F 
 module _ {E C M F J R X : Type 0} (says : UserAnswers C M F J) (s : State E C M F J R) (block : List ℕ) (program : Programs) (left rest : Option ℕ)
     (taken written : Option (List ℕ)) (after : World) where
   pub block_leaves : (now : Option ℕ) (result : Result X (List ErrorKind)) → program ≡ codes_in says s → left ≡ fuel_left_in s
-      → Does says s block program left rest taken written after result → ((price : ℕ) → Paid price (fuel_left_in s) rest → now ≡ rest)
-      → OnOk result ((n : ℕ) → IsFinished (block_in says s block n).end → now ≡ leaves (fuel_left_in s) (block_in says s block n))
-  block_leaves now (Ok x) is same does spent = λ n finished.
-      spent (price_of does.items) (subst (λ (f : Option ℕ). Paid (price_of does.items) f rest) same does.pays)
-      ∙ (comes says s block program left rest taken written after (Ok x) is same does n finished).left_is
-  block_leaves now (Err kinds) is same does spent = tt
+      → Does says s block program left rest taken written after result → (IsNoMore (fuel_left_in s) rest → now ≡ rest)
+      → (n : ℕ) → IsFinished (block_in says s block n).end → LeavesFuel (fuel_left_in s) (block_in says s block n) result now
+  block_leaves now (Ok x) is same does spent n finished =
+      let left_so = (comes says s block program left rest taken written after (Ok x) is same does n finished).left_is in
+      spent (leaves_no_more (fuel_left_in s) rest (block_in says s block n) left_so) ∙ left_so
+  block_leaves now (Err kinds) is same does spent n finished =
+      stopped_leaves (fuel_left_in s) rest now (block_in says s block n) kinds spent
+      (comes says s {X = X} block program left rest taken written after (Err kinds) is same does n finished).1
 
   pub block_ends_in : (result : Result X (List ErrorKind)) → program ≡ codes_in says s → left ≡ fuel_left_in s
       → Does says s block program left rest taken written after result

@@ -1,5 +1,5 @@
 -- From what a call comes to in a state by code to what it means there.
-use Rattle.std.proofs.Common.{◌≡◌, ◌≢◌, ◌⊎◌, inl, inr, ℕ, ◌-◌, Bool, List, [], ◌∷◌, Option, None, Some, Result, Ok, Err, IfErr, IsErrAnd, OnOk, refl, sym, ap, subst, ◌∙◌, arith}
+use Rattle.std.proofs.Common.{◌≡◌, ◌≢◌, ◌⊎◌, inl, inr, ℕ, ◌-◌, ◌≤◌, nat_le, if◌then◌else◌, Bool, true, false, List, [], ◌∷◌, Option, None, Some, Result, Ok, Err, IfErr, IsErrAnd, OnErr, OnOk, length, refl, sym, ap, subst, ◌∙◌, arith}
 use Rattle.std.specs.Global.{Global}
 use Rattle.std.specs.Option.{option_map}
 use Rattle.std.specs.Prelude.{String, string_bytes}
@@ -15,35 +15,66 @@ use Rattle.template_process.specs.Approximants.{IsFinished}
 use Rattle.template_process.specs.Fuel.{under}
 use Rattle.template_process.specs.Process as processes
 use Rattle.template_process.specs.Process.{Answer, Told, tells, fails, breaks_off, done, value, item, no_item, items, closure}
-use Rattle.template_process.specs.Trace.{Reply, price_of}
+use Rattle.template_process.specs.Trace.{Reply, Run, price_of}
+use Rattle.template_machine_going.specs.Outcomes.{IsWanting}
 use Rattle.template_machine_going.specs.Paying.{Paid}
 use Rattle.template_machine_meaning.specs.Calls.{answered_by, beyond, call_plan, said, stated_plan, view_of}
 use Rattle.template_machine_meaning.specs.Captures.{captured}
 use Rattle.template_machine_meaning.specs.Functions.{Called, Invoked, invokes, test_named, found_called}
+use Rattle.template_machine_meaning.specs.Keeps.{KeepsBodies}
 use Rattle.template_machine_meaning.specs.Keys.{Around}
-use Rattle.template_machine_meaning.specs.Plans.{Plan, Runners, replies, settled, with_turning}
+use Rattle.template_machine_meaning.specs.Plans.{Caller, Plan, Runners, caller_of, outermost, put_back, replies, settled, with_turning}
 use Rattle.template_machine_meaning.specs.Records.{known_of}
 use Rattle.template_machine_meaning.specs.Replies.{kinded, told}
 use Rattle.template_machine_meaning.specs.Surroundings.{Programs, runners}
 use Rattle.template_machine_meaning.specs.Turnings.{Turning, to_text, to_truth, decided, turned_by}
-use Rattle.template_machine_meaning.specs.World.{World, keeps, looked_up, depth_of}
+use Rattle.template_machine_meaning.specs.World.{Capture, Frame, World, keeps, looked_up, depth_of}
 use Rattle.template_machine_meaning.proofs.Fair.{fair_found}
+use Rattle.template_machine_meaning.proofs.Outermost.{outermost_all}
+use Rattle.template_machine_meaning.proofs.Placed.{bodies_on, bodies_stay}
 use Rattle.template_machine_meaning.proofs.RunsKept.{KeepsReply, PlanKeeps, kept_call, kept_turning, world_stays}
+use Rattle.template_machine_state.specs.Changes.{OnlyTemps}
 use Rattle.template_machine_calls.specs.Hosted.{around_under}
 use Rattle.template_machine_calls.specs.Left.{Planned, KeptUnlessValue, entry_plan, reached_by, value_left, with_turnings}
 use Rattle.template_machine_calls.specs.declared.reached.Entry.{Entry}
 use Rattle.template_machine_calls.specs.declared.reached.Reached.{Reached}
+use Rattle.template_machine_calls.specs.declared.reached.Reached.TheVariants as reached
 use Rattle.template_machine_calls.specs.declared.rules.Rules.{Rules}
 use Rattle.template_machine_loop.proofs.Turned.{settled_turning, turned_does, turned_halts}
 use Rattle.template_machine_renders.specs.Outcomes.{TellsFailures}
-use Rattle.template_machine_renders.specs.Plans.{DoesPlan, replies_of, run_of}
-use Rattle.template_machine_renders.specs.Renders.{FaultsAs, broken, whole, leaves}
+use Rattle.template_machine_renders.specs.Plans.{DoesPlan, PutsBack, replies_of, run_of}
+use Rattle.template_machine_renders.specs.Renders.{FaultsAs, LeavesFuel, Renders, broken, whole, leaves}
 use Rattle.template_machine_renders.proofs.Calls.{TellsTo, calls_tell, codes_uniform, failed_does, planned_does, reached_does}
 use Rattle.template_compiled.specs.Compiled.{standing_of}
 use Rattle.template_environment.specs.Extras.{UserAnswers}
 use Rattle.template_environment.specs.Reading.{callables_of, registry_of, setting_in}
-use Rattle.template_environment.specs.States.{DoesThere, GivesTold, around_in, codes_in, environment_in, found_in, fuel_left_in, own_name_in, programs_in, template_in, worded_in, world_in}
+use Rattle.template_environment.specs.Renderings.{IsNoMore}
+use Rattle.template_environment.specs.States.{DoesThere, GivesTold, KeepsRest, KeepsState, around_in, codes_in, environment_in, found_in, fuel_left_in, fuel_set_in, id_in, own_name_in, programs_in, template_in, worded_in, world_in}
 use Rattle.template_environment.specs.declared.state.State.{State}
+
+-- a run leaves no more of a fuel than there was
+part_no_more : (n price : ℕ) (b : Bool) → IsNoMore (Some n) (Some (if b then n - price else 0))
+part_no_more n price true = omega arith
+part_no_more n price false = omega arith
+
+leaves_some : {S : Type 0} (fuel : Option ℕ) (r : Run S) → IsNoMore fuel (leaves fuel r)
+leaves_some None r = tt
+leaves_some (Some n) r = part_no_more n (price_of r.items) (nat_le (price_of r.items) (n - 1))
+
+pub leaves_no_more : {S : Type 0} (fuel left : Option ℕ) (r : Run S) → left ≡ leaves fuel r → IsNoMore fuel left
+leaves_no_more fuel left r is = subst (IsNoMore fuel) (sym is) (leaves_some fuel r)
+
+-- what is left behind an error, where it is what was left of the run
+pub stopped_leaves : {S : Type 0} (fuel rest now : Option ℕ) (r : Run S) (kinds : List ErrorKind) → (IsNoMore fuel rest → now ≡ rest)
+    → IsWanting kinds ⊎ (rest ≡ leaves fuel r) → IsWanting kinds ⊎ (now ≡ leaves fuel r)
+stopped_leaves fuel rest now r kinds spent (inl why) = inl why
+stopped_leaves fuel rest now r kinds spent (inr is) = inr (spent (leaves_no_more fuel rest r is) ∙ is)
+
+pub paid_no_more : (price : ℕ) (fuel left : Option ℕ) → Paid price fuel left → IsNoMore fuel left
+paid_no_more price None None pays = tt
+paid_no_more price (Some n) (Some k) pays = omega (arith, pays.0)
+paid_no_more price None (Some k) pays = absurd pays
+paid_no_more price (Some n) None pays = absurd pays
 
 -- want of memory is no failure of a sink
 pub want_quiet : (kinds : List ErrorKind) → NoMemory kinds → kinds ≢ WriteFailure ∷ []
@@ -77,13 +108,18 @@ sink_quiet failures (Ok v) told = tt
 sink_quiet failures (Err kinds) (inl failed) = absurd (omega (arith, failed.1))
 sink_quiet failures (Err kinds) (inr quiet) = quiet.0
 
+-- the fault that is told, where no sink fails
+gives_stopped : (fuel : Option ℕ) (r : Reply World) (kinds : List ErrorKind) → kinds ≢ WriteFailure ∷ []
+    → Renders {X = Val} (Err kinds) None None (under fuel (run_of r)) → FaultsAs (under fuel (run_of r)) kinds ⊎ NoMemory kinds
+gives_stopped fuel r kinds quiet (whole faulted text) = inl faulted
+gives_stopped fuel r kinds quiet (broken (inl want) begins) = inr want
+gives_stopped fuel r kinds quiet (broken (inr failed) begins) = absurd (quiet failed)
+
 -- the answer that is told, where no sink fails
 gives_told : (fuel : Option ℕ) (r : Reply World) (result : Result Val (List ErrorKind)) (after : World) (left : Option ℕ)
     → IfErr result (λ kinds. kinds ≢ WriteFailure ∷ []) → TellsTo fuel r result after left None None → GivesTold value fuel result r
 gives_told fuel r (Ok v) after left quiet h = (h.2.over, h.0)
-gives_told fuel r (Err kinds) after left quiet (whole faulted text) = inl faulted
-gives_told fuel r (Err kinds) after left quiet (broken (inl want) begins) = inr want
-gives_told fuel r (Err kinds) after left quiet (broken (inr failed) begins) = absurd (quiet failed)
+gives_told fuel r (Err kinds) after left quiet h = gives_stopped fuel r kinds quiet h.0
 
 -- a fault that is handed on
 err_told : {X : Type 0} (give : X → Answer) (fuel : Option ℕ) (r : Reply World) (result : Result X (List ErrorKind)) (kinds : List ErrorKind)
@@ -100,10 +136,68 @@ pub err_only : {X : Type 0} (P : Type 0) (result : Result X (List ErrorKind)) (k
 err_only P (Ok x) kinds is = absurd is
 err_only P (Err ks) kinds is = tt
 
+pub on_err : {X : Type 0} (P : Type 0) (result : Result X (List ErrorKind)) → P → OnErr result P
+on_err P (Ok x) h = tt
+on_err P (Err kinds) h = h
+
 -- no memory was left
 pub want_told : {X : Type 0} (give : X → Answer) (fuel : Option ℕ) (r : Reply World) (result : Result X (List ErrorKind)) (kinds : List ErrorKind)
     → NoMemory kinds → IsErrAnd result (λ ks. ks ≡ kinds) → GivesTold give fuel result r
 want_told give fuel r result kinds want is = err_told give fuel r result kinds (inr want) is
+
+-- what is left of the fuel behind an error that is handed on
+pub left_on : {X : Type 0} (fuel left : Option ℕ) (r : Reply World) (result : Result X (List ErrorKind)) (kinds : List ErrorKind)
+    → IsErrAnd result (λ ks. ks ≡ kinds) → LeavesFuel {X = Val} fuel (run_of r) (Err kinds) left → LeavesFuel fuel (run_of r) result left
+left_on fuel left r (Ok x) kinds is h = absurd is
+left_on fuel left r (Err ks) kinds is h = subst (λ (qs : List ErrorKind). IsWanting qs ⊎ (left ≡ leaves fuel (run_of r))) (sym is) h
+
+pub want_left : {X : Type 0} (fuel left : Option ℕ) (r : Reply World) (result : Result X (List ErrorKind)) (kinds : List ErrorKind)
+    → NoMemory kinds → IsErrAnd result (λ ks. ks ≡ kinds) → LeavesFuel fuel (run_of r) result left
+want_left fuel left r result kinds want is = left_on fuel left r result kinds is (inl (inl want))
+
+-- what was open is so where nothing but temps is other, and where it was put back
+pub temps_put_back : (w v : World) → OnlyTemps w v → PutsBack w v
+temps_put_back w v only = subst (PutsBack w) (sym only) (record {
+  within = record w { held = v.held; temps = v.temps };
+  is = ap (λ (fs : List Frame). record w { held = v.held; temps = v.temps; frames = fs }) (sym (outermost_all (length w.frames) w.frames refl))
+      ∙ ap (λ (cs : List Capture). record w { held = v.held; temps = v.temps; frames = outermost (length w.frames) w.frames; captures = cs })
+      (sym (outermost_all (length w.captures) w.captures refl));
+})
+
+-- so are the frames; and the blocks run the bodies that they ran
+pub temps_frames : (w v : World) → OnlyTemps w v → v.frames ≡ w.frames
+temps_frames w v only = ap (λ (x : World). x.frames) only
+
+pub temps_places : (w v : World) → OnlyTemps w v → KeepsBodies w.blocks v.blocks
+temps_places w v only = subst (KeepsBodies w.blocks) (sym (ap (λ (x : World). x.blocks) only)) (bodies_stay w.blocks)
+
+pub reached_frames : (came : Reached) (w v : World) → KeptUnlessValue (Ok came) w v → v.frames ≡ w.frames
+reached_frames (reached.Value u turnings) w v kept = kept.0
+reached_frames (reached.Enters entry) w v kept = temps_frames w v kept
+
+pub reached_places : (came : Reached) (w v : World) → KeptUnlessValue (Ok came) w v → KeepsBodies w.blocks v.blocks
+reached_places (reached.Value u turnings) w v kept = subst (KeepsBodies w.blocks) (sym kept.1) (bodies_stay w.blocks)
+reached_places (reached.Enters entry) w v kept = temps_places w v kept
+
+-- behind a call that goes on from there
+pub frames_behind : (came : Reached) (w v after : World) → KeptUnlessValue (Ok came) w v → after.frames ≡ v.frames → after.frames ≡ w.frames
+frames_behind came w v after kept same = same ∙ reached_frames came w v kept
+
+pub places_behind : (came : Reached) (w v after : World) → KeptUnlessValue (Ok came) w v → KeepsBodies v.blocks after.blocks → KeepsBodies w.blocks after.blocks
+places_behind came w v after kept places = bodies_on w.blocks v.blocks after.blocks (reached_places came w v kept) places
+
+-- and where all was put back behind it
+pub failed_frames : (w v after : World) (mark : Caller) → mark ≡ record (caller_of w) { blocks = [] } → after ≡ put_back mark v → v.frames ≡ w.frames
+    → after.frames ≡ w.frames
+failed_frames w v after mark is same kept =
+    ap (λ (x : World). x.frames) same ∙ ap (λ (c : Caller). outermost c.frames v.frames) is ∙ ap (outermost (length w.frames)) kept
+    ∙ outermost_all (length w.frames) w.frames refl
+
+pub failed_places : (w v after : World) (mark : Caller) → after ≡ put_back mark v → KeepsBodies w.blocks v.blocks → KeepsBodies w.blocks after.blocks
+failed_places w v after mark same kept = subst (KeepsBodies w.blocks) (sym (ap (λ (x : World). x.blocks) same)) kept
+
+pub mark_put_back : (w v after : World) (mark : Caller) → mark ≡ record (caller_of w) { blocks = [] } → after ≡ put_back mark v → PutsBack w after
+mark_put_back w v after mark is same = record { within = v; is = same ∙ ap (λ (c : Caller). put_back c v) is }
 
 module _ {E C M F J R : Type 0} (says : UserAnswers C M F J) (s : State E C M F J R) where
   -- what a plan means in the state, under a bound
@@ -128,17 +222,18 @@ module _ {E C M F J R : Type 0} (says : UserAnswers C M F J) (s : State E C M F 
     pub remains_there : (t : State E C M F J R) (v : Val) → DoesThere says p s t (Ok v) → (n : ℕ) → Finished p n
         → fuel_left_in t ≡ leaves (fuel_left_in s) (run_of (meant p n))
     remains_there t v there n finished =
-        there.spent (price_of there.does.items) there.does.pays ∙ (tells_there t (Ok v) there n finished).2.left_is
+        let is = (tells_there t (Ok v) there n finished).2.left_is in
+        there.spent (leaves_no_more (fuel_left_in s) there.left (run_of (meant p n)) is) ∙ is
+
+    pub stopped_remains : (t : State E C M F J R) (kinds : List ErrorKind) → DoesThere says p s t (Err kinds) → (n : ℕ) → Finished p n
+        → LeavesFuel {X = Val} (fuel_left_in s) (run_of (meant p n)) (Err kinds) (fuel_left_in t)
+    stopped_remains t kinds there n finished =
+        stopped_leaves (fuel_left_in s) there.left (fuel_left_in t) (run_of (meant p n)) kinds there.spent (tells_there t (Err kinds) there n finished).1
 
     pub world_there : (t : State E C M F J R) (v : Val) → DoesThere says p s t (Ok v) → (n : ℕ) → Finished p n → world_in t ≡ (meant p n).after
     world_there t v there n finished = sym (tells_there t (Ok v) there n finished).1
 
     -- so it is of a result
-    pub remains_so : (t : State E C M F J R) (result : Result Val (List ErrorKind)) → DoesThere says p s t result
-        → OnOk result ((n : ℕ) → Finished p n → fuel_left_in t ≡ leaves (fuel_left_in s) (run_of (meant p n)))
-    remains_so t (Ok v) there = remains_there t v there
-    remains_so t (Err kinds) there = tt
-
     pub world_so : (t : State E C M F J R) (result : Result Val (List ErrorKind)) → DoesThere says p s t result
         → OnOk result ((n : ℕ) → Finished p n → world_in t ≡ (meant p n).after)
     world_so t (Ok v) there = world_there t v there
@@ -161,7 +256,7 @@ module _ {E C M F J R : Type 0} (says : UserAnswers C M F J) (s : State E C M F 
   failed_there p after kinds failed = record {
     left = fuel_left_in s;
     does = failed_does (codes_in says s) p (world_in s) after (fuel_left_in s) None kinds failed;
-    spent = λ price paid. refl;
+    spent = λ less. refl;
   }
 
   -- so it is told, and it is no failure of a sink
@@ -171,6 +266,12 @@ module _ {E C M F J R : Type 0} (says : UserAnswers C M F J) (s : State E C M F 
     failing_told give result is n finished =
         err_told give (fuel_left_in s) (meant p n) result kinds
         (fault_told p kept (record s { machine = after }) kinds (failed_there p after kinds failed) (plan_quiet (world_in s) after p kinds kept failed) n finished) is
+
+    pub failing_left : {X : Type 0} (result : Result X (List ErrorKind)) → IsErrAnd result (λ ks. ks ≡ kinds) → (n : ℕ) → Finished p n
+        → LeavesFuel (fuel_left_in s) (run_of (meant p n)) result (fuel_left_in s)
+    failing_left result is n finished =
+        left_on (fuel_left_in s) (fuel_left_in s) (meant p n) result kinds is
+        (stopped_remains p kept (record s { machine = after }) kinds (failed_there p after kinds failed) n finished)
 
     pub failing_quiet : {X : Type 0} (result : Result X (List ErrorKind)) → IsErrAnd result (λ ks. ks ≡ kinds) → IfErr result (λ ks. ks ≢ WriteFailure ∷ [])
     failing_quiet result is = err_quiet result kinds (plan_quiet (world_in s) after p kinds kept failed) is
@@ -199,7 +300,7 @@ module _ {E C M F J R : Type 0} (says : UserAnswers C M F J) (s : State E C M F 
   turned_there ts v result planned = record {
     left = fuel_left_in s;
     does = planned_does (codes_in says s) (with_turnings ts (value_left v (world_in s))) (world_in s) (world_in s) (fuel_left_in s) None result planned;
-    spent = λ price paid. refl;
+    spent = λ less. refl;
   }
 
   -- what a call came to, from where it began
@@ -235,7 +336,7 @@ module _ {E C M F J R : Type 0} (says : UserAnswers C M F J) (s : State E C M F 
   -- what a call enters runs by code
   pub entered_there : (entry : Entry) (program : Programs) (left rest : Option ℕ) (t : State E C M F J R) (result : Result Val (List ErrorKind)) → program ≡ codes_in says s
       → left ≡ fuel_left_in s → DoesPlan value program (entry_plan program.around entry (world_in s)) (world_in s) left None result (world_in t) rest None
-      → ((price : ℕ) → Paid price (fuel_left_in s) rest → fuel_left_in t ≡ rest)
+      → (IsNoMore (fuel_left_in s) rest → fuel_left_in t ≡ rest)
       → DoesThere says (entry_plan (around_in says s) entry (world_in s)) s t result
   entered_there entry program left rest t result is same does spent = record {
     left = rest;
@@ -308,3 +409,23 @@ module _ {E C M F J R : Type 0} (says : UserAnswers C M F J) (s : State E C M F 
       let same : values.truth (is_true v) ≡ v =
       test_truth (runners (programs_in says s) n) (world_in s) a (beyond a 0 (a.limit - depth_of (world_in s))) name vs (said a.callables (test_named name)) v told.1 in
       (told.0, told.1 ∙ ap (λ x. tells (value x)) (sym same ∙ ap (λ x. values.truth x) (sym is)))
+
+-- a call that went on from another world was in the same state
+pub rest_from : {E C M F J R : Type 0} (s t : State E C M F J R) (w : World) → KeepsState (record s { machine = w }) t → KeepsState s t
+rest_from s t w h = record { environment = h.environment; template = h.template; id = h.id; fuel = h.fuel }
+
+-- a call that failed leaves what it came to, but for its world
+module _ {E C M F J R : Type 0} (s t u : State E C M F J R) (kept : KeepsRest t u) where
+  pub failed_rest : KeepsState s t → KeepsState s u
+  failed_rest h = record {
+    environment = ap environment_in kept ∙ h.environment;
+    template = ap template_in kept ∙ h.template;
+    id = ap id_in kept ∙ h.id;
+    fuel = ap fuel_set_in kept ∙ h.fuel;
+  }
+
+  pub failed_left : (X : Type 0) (fuel : Option ℕ) (r : Reply World) (kinds told : List ErrorKind) → told ≡ kinds
+      → LeavesFuel {X = Val} fuel (run_of r) (Err kinds) (fuel_left_in t) → LeavesFuel {X = X} fuel (run_of r) (Err told) (fuel_left_in u)
+  failed_left X fuel r kinds told is h =
+      subst (λ (left : Option ℕ). LeavesFuel {X = X} fuel (run_of r) (Err told) left) (ap fuel_left_in (sym kept))
+      (left_on {X = X} fuel (fuel_left_in t) r (Err told) kinds is h)

@@ -1,5 +1,5 @@
 -- What a render means, and what it leaves of its fuel.
-use Rattle.std.specs.Prelude.{◌≡◌, ◌≢◌, ℕ, ◌+◌, ◌-◌, ◌^◌, ◌⊎◌, List, [], ◌∷◌, Option, Result, Ok, Err, IfErr, IsErrAnd}
+use Rattle.std.specs.Prelude.{◌≡◌, ◌≢◌, ℕ, ◌+◌, ◌-◌, ◌^◌, ◌≤◌, ◌⊎◌, List, [], ◌∷◌, Option, None, Some, Result, Ok, Err, IfErr, IsErrAnd}
 use Rattle.std.specs.Option.{option_map}
 use Rattle.template_values_errors.specs.declared.ErrorKind.{ErrorKind}
 use Rattle.template_values_errors.specs.declared.ErrorKind.TheVariants.{InvalidOperation, WriteFailure}
@@ -37,6 +37,12 @@ set_of levels = option_map (λ (l : Levels). l.consumed + l.remaining) levels
 
 abbrev pub left_of : Option Levels → Option ℕ
 left_of levels = option_map (λ (l : Levels). l.remaining) levels
+
+-- no more is left of a fuel than was
+abbrev pub IsNoMore : Option ℕ → Option ℕ → Type 0
+IsNoMore None None = Unit {0}
+IsNoMore (Some was) (Some left) = left ≤ was
+IsNoMore _ _ = ⊥
 
 -- The call gives the text of the run, where that is over; else it answers with the run's fault, and gives no text. Or a
 -- growth was refused.

@@ -22,7 +22,6 @@ use Rattle.template_machine_meaning.specs.Plans.{Plan, with_turning}
 use Rattle.template_machine_meaning.specs.Surroundings.{Programs, text_reply, written_reply}
 use Rattle.template_machine_meaning.specs.Turnings.{to_text}
 use Rattle.template_machine_meaning.specs.World.{Globals, World, first_world, keeps, looked_up}
-use Rattle.template_machine_going.specs.Paying.{Paid}
 use Rattle.template_machine_calls.specs.Formatted.{outside}
 use Rattle.template_machine_codes.specs.Codes.{codes_of}
 use Rattle.template_machine_renders.specs.Laws.{block_run, named_so}
@@ -31,7 +30,7 @@ use Rattle.template_machine_renders.specs.Renders.{FaultsAs, IsOver}
 use Rattle.template_compiled.specs.Compiled.{Compiled, standing_of}
 use Rattle.template_environment.specs.Extras.{UserAnswers}
 use Rattle.template_environment.specs.Reading.{setting_in}
-use Rattle.template_environment.specs.Renderings.{left_of, set_of}
+use Rattle.template_environment.specs.Renderings.{IsNoMore, left_of, set_of}
 use Rattle.template_environment.specs.Standing.{source_at}
 use Rattle.template_environment.specs.declared.environment.Environment.{Environment}
 use Rattle.template_environment.specs.declared.registry.Registry.{Registry}
@@ -133,7 +132,7 @@ module _ {E C M F J R : Type 0} where
   pub record DoesThere (says : UserAnswers C M F J) (plan : Plan) (old new : State E C M F J R) (result : Result Val (List ErrorKind)) : Type 0 where
     pub left : Option ℕ
     pub does : DoesPlan value (codes_in says old) plan (world_in old) (fuel_left_in old) None result (world_in new) left None
-    pub spent : (price : ℕ) → Paid price (fuel_left_in old) left → fuel_left_in new ≡ left
+    pub spent : IsNoMore (fuel_left_in old) left → fuel_left_in new ≡ left
 
   -- what a block comes to in it, under a bound
   abbrev pub block_in : UserAnswers C M F J → State E C M F J R → List ℕ → ℕ → Run World

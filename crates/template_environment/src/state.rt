@@ -7,20 +7,21 @@ ghost use Rattle.template_process.specs.Approximants.{IsFinished};
 ghost use Rattle.template_process.specs.Fuel.{under};
 ghost use Rattle.template_process.specs.Process.{value};
 ghost use Rattle.template_values_model.specs.Val.{truth};
-ghost use Rattle.template_machine_going.specs.Paying.{Paid};
 ghost use Rattle.template_machine_meaning.specs.Calls.{with_temps};
 ghost use Rattle.template_machine_meaning.specs.Functions.{filter_named, test_named};
+ghost use Rattle.template_machine_meaning.specs.Keeps.{KeepsBodies};
+ghost use Rattle.template_machine_meaning.specs.Plans.{put_back};
 ghost use Rattle.template_machine_meaning.specs.World.{looked_up};
 ghost use Rattle.template_machine_calls.specs.Formatted.{outside};
 ghost use Rattle.template_machine_calls.specs.Left.{Replied, entry_plan, reached_by};
 ghost use Rattle.template_machine_renders.specs.Joining.{told_name};
 ghost use Rattle.template_machine_renders.specs.Outcomes.{TellsFailures};
 ghost use Rattle.template_machine_renders.specs.Plans.{PutsBack, run_of};
-ghost use Rattle.template_machine_renders.specs.Renders.{Renders, leaves};
+ghost use Rattle.template_machine_renders.specs.Renders.{LeavesFuel, Renders};
 ghost use Rattle.template_machine_state.specs.Names.{is_exported};
 ghost use Rattle.template_environment.specs.Extras.{user_answers};
 ghost use Rattle.template_environment.specs.Reading.{registry_of};
-ghost use Rattle.template_environment.specs.Renderings.{GivesText, left_of, set_of};
+ghost use Rattle.template_environment.specs.Renderings.{GivesText, IsNoMore, left_of, set_of};
 
 use crate::environment::Environment;
 use crate::levels::Levels;
@@ -34,7 +35,7 @@ use template_machine_calls::{
 };
 use template_machine_output::{NullWriter, Sink};
 use template_machine_renders::{Templates, run_block, run_entry};
-use template_machine_state::State as MachineState;
+use template_machine_state::{Caller, State as MachineState};
 use template_machine_surroundings::StateIds;
 use template_values_core::Value;
 use template_values_errors::{AutoEscape, Error, ErrorKind, UndefinedBehavior};
@@ -190,24 +191,35 @@ impl<'env, 'source, E: Extension> State<'env, 'source, E> {
     ///
     /// [`ErrorKind::UnknownFilter`] where the environment has none of this name; the fault that the filter answers with, or what
     /// it asks for; [`ErrorKind::InvalidOperation`] where more is asked for at once than there are levels left, and in the
-    /// place of a fault with one of the machine's own kinds; the fault of what runs; [`ErrorKind::OutOfMemory`]. Some temps may then
-    /// have been set.
+    /// place of a fault with one of the machine's own kinds; the fault of what runs; [`ErrorKind::OutOfMemory`]. What was open before is so
+    /// again; temps may have been set, and of a fuel that ran out nothing is left.
     pub fn apply_filter(&mut self, name: &str, args: &[Value]) -> Result<Value, Error>
         // Under each bound where it is finished, it is what the call comes to.
         ensures told { let called = call_in (user_answers E.Callable.answer E.Method.answer E.Formatter.answer E.Join.answer) self.old (filter_named name.now) args.now in
             (n : ℕ) → IsFinished (run_of (called n)).end → GivesTold value (fuel_left_in self.old) result (called n) }
         ensures remains { let called = call_in (user_answers E.Callable.answer E.Method.answer E.Formatter.answer E.Join.answer) self.old (filter_named name.now) args.now in
-            OnOk result ((n : ℕ) → IsFinished (run_of (called n)).end → fuel_left_in self.new ≡ leaves (fuel_left_in self.old) (run_of (called n))) }
+            (n : ℕ) → IsFinished (run_of (called n)).end → LeavesFuel (fuel_left_in self.old) (run_of (called n)) result (fuel_left_in self.new) }
         ensures world { let called = call_in (user_answers E.Callable.answer E.Method.answer E.Formatter.answer E.Join.answer) self.old (filter_named name.now) args.now in
             OnOk result ((n : ℕ) → IsFinished (run_of (called n)).end → world_in self.new ≡ (called n).after) }
+
+        // Whatever its end, the frames are as before, and the blocks run the bodies that they ran, with others behind them at most.
+        ensures frames { (world_in self.new).frames ≡ (world_in self.old).frames }
+        ensures places { KeepsBodies (world_in self.old).blocks (world_in self.new).blocks }
+
+        // Behind a fault what else was open is so again.
+        ensures put_back { OnErr result (PutsBack (world_in self.old) (world_in self.new)) }
         ensures no_write_failure { IfErr result (λ kinds. kinds ≢ ErrorKind.WriteFailure ∷ []) }
         ensures rest { KeepsState self.old self.new }
     {
         let environment = self.environment;
         let rules = environment.registry.rules(own_name(self.template));
         let alloc = environment.allocator();
+        let mark = self.machine.mark(alloc)?;
         let reached = call_filter(alloc, rules, environment, name, args, &mut self.machine)?;
-        self.come_to(reached)
+        match self.come_to(reached) {
+            Ok(value) => Ok(value),
+            Err(error) => Err(self.failed(mark, error)),
+        }
     }
 
     /// What a test comes to for these arguments, the first of which is what it tests; and what it asks the machine further.
@@ -221,18 +233,28 @@ impl<'env, 'source, E: Extension> State<'env, 'source, E> {
         ensures told { let called = call_in (user_answers E.Callable.answer E.Method.answer E.Formatter.answer E.Join.answer) self.old (test_named name.now) args.now in
             (n : ℕ) → IsFinished (run_of (called n)).end → GivesTold (λ is. value (truth is)) (fuel_left_in self.old) result (called n) }
         ensures remains { let called = call_in (user_answers E.Callable.answer E.Method.answer E.Formatter.answer E.Join.answer) self.old (test_named name.now) args.now in
-            OnOk result ((n : ℕ) → IsFinished (run_of (called n)).end → fuel_left_in self.new ≡ leaves (fuel_left_in self.old) (run_of (called n))) }
+            (n : ℕ) → IsFinished (run_of (called n)).end → LeavesFuel (fuel_left_in self.old) (run_of (called n)) result (fuel_left_in self.new) }
         ensures world { let called = call_in (user_answers E.Callable.answer E.Method.answer E.Formatter.answer E.Join.answer) self.old (test_named name.now) args.now in
             OnOk result ((n : ℕ) → IsFinished (run_of (called n)).end → world_in self.new ≡ (called n).after) }
+
+        // Whatever its end, the frames are as before, and the blocks run the bodies that they ran, with others behind them at most.
+        ensures frames { (world_in self.new).frames ≡ (world_in self.old).frames }
+        ensures places { KeepsBodies (world_in self.old).blocks (world_in self.new).blocks }
+
+        // Behind a fault what else was open is so again.
+        ensures put_back { OnErr result (PutsBack (world_in self.old) (world_in self.new)) }
         ensures no_write_failure { IfErr result (λ kinds. kinds ≢ ErrorKind.WriteFailure ∷ []) }
         ensures rest { KeepsState self.old self.new }
     {
         let environment = self.environment;
         let rules = environment.registry.rules(own_name(self.template));
         let alloc = environment.allocator();
+        let mark = self.machine.mark(alloc)?;
         let reached = call_test(alloc, rules, environment, name, args, &mut self.machine)?;
-        let value = self.come_to(reached)?;
-        Ok(value.is_true())
+        match self.come_to(reached) {
+            Ok(value) => Ok(value.is_true()),
+            Err(error) => Err(self.failed(mark, error)),
+        }
     }
 
     /// The text of what a call comes to of what stands under a name, with these arguments: of a macro that the template has made or
@@ -243,15 +265,22 @@ impl<'env, 'source, E: Extension> State<'env, 'source, E> {
     ///
     /// [`ErrorKind::UnknownFunction`] where nothing stands under the name; [`ErrorKind::InvalidOperation`] at what cannot be called, as
     /// a loop, where no level is left, and at a value that cannot be printed; [`ErrorKind::TooManyArguments`] at arguments that a macro
-    /// does not take; the fault of what runs, as [`ErrorKind::OutOfFuel`]; [`ErrorKind::OutOfMemory`]. Some temps may then have been set.
+    /// does not take; the fault of what runs, as [`ErrorKind::OutOfFuel`]; [`ErrorKind::OutOfMemory`]. Then as [`State::apply_filter`].
     pub fn call_macro(&mut self, name: &str, args: &[Value]) -> Result<String, Error>
         // Under each bound where it is finished, it is the text that the call comes to.
         ensures told { let called = macro_in (user_answers E.Callable.answer E.Method.answer E.Formatter.answer E.Join.answer) self.old name.now args.now in
             (n : ℕ) → IsFinished (run_of (called n)).end → GivesTold (worded_in self.new) (fuel_left_in self.old) result (called n) }
         ensures remains { let called = macro_in (user_answers E.Callable.answer E.Method.answer E.Formatter.answer E.Join.answer) self.old name.now args.now in
-            OnOk result ((n : ℕ) → IsFinished (run_of (called n)).end → fuel_left_in self.new ≡ leaves (fuel_left_in self.old) (run_of (called n))) }
+            (n : ℕ) → IsFinished (run_of (called n)).end → LeavesFuel (fuel_left_in self.old) (run_of (called n)) result (fuel_left_in self.new) }
         ensures world { let called = macro_in (user_answers E.Callable.answer E.Method.answer E.Formatter.answer E.Join.answer) self.old name.now args.now in
             OnOk result ((n : ℕ) → IsFinished (run_of (called n)).end → world_in self.new ≡ (called n).after) }
+
+        // Whatever its end, the frames are as before, and the blocks run the bodies that they ran, with others behind them at most.
+        ensures frames { (world_in self.new).frames ≡ (world_in self.old).frames }
+        ensures places { KeepsBodies (world_in self.old).blocks (world_in self.new).blocks }
+
+        // Behind a fault what else was open is so again.
+        ensures put_back { OnErr result (PutsBack (world_in self.old) (world_in self.new)) }
         ensures no_write_failure { IfErr result (λ kinds. kinds ≢ ErrorKind.WriteFailure ∷ []) }
         ensures rest { KeepsState self.old self.new }
     {
@@ -259,21 +288,39 @@ impl<'env, 'source, E: Extension> State<'env, 'source, E> {
         let rules = environment.registry.rules(own_name(self.template));
         let alloc = environment.allocator();
         let given = copies(alloc, args)?;
+        let mark = self.machine.mark(alloc)?;
         let reached = call_found(alloc, rules, environment, name, given, &mut self.machine)?;
-        let value = self.come_to(reached)?;
+        let value = match self.come_to(reached) {
+            Ok(value) => value,
+            Err(error) => return Err(self.failed(mark, error)),
+        };
         let mut text = String::new(alloc);
-        print_to(&value, &self.machine, &mut text)?;
-        Ok(text)
+        match print_to(&value, &self.machine, &mut text) {
+            Ok(()) => Ok(text),
+            Err(error) => Err(self.failed(mark, error)),
+        }
+    }
+
+    // The error of a call, behind which is open again what was open where it was marked.
+    fn failed(&mut self, mark: Caller<'env>, error: Error) -> Error
+        ensures same { result ≡ error }
+        ensures put_back { world_in self.new ≡ put_back mark.entry (world_in self.old) }
+        ensures rest { KeepsRest self.old self.new }
+    {
+        self.machine.leave_block(mark);
+        error
     }
 
     // What a call came to: a value, or that of what it enters, and what is made of it.
     //
     // # Errors
     //
-    // Those of `turn_all` and `run_entry`.
+    // Those of `turn_all` and `enter`.
     fn come_to(&mut self, reached: Reached) -> Result<Value, Error>
         ensures does { let says = user_answers E.Callable.answer E.Method.answer E.Formatter.answer E.Join.answer in
             DoesThere says (reached_by (around_in says self.old) reached (world_in self.old)) self.old self.new result }
+        ensures frames { (world_in self.new).frames ≡ (world_in self.old).frames }
+        ensures places { KeepsBodies (world_in self.old).blocks (world_in self.new).blocks }
         ensures no_write_failure { IfErr result (λ kinds. kinds ≢ ErrorKind.WriteFailure ∷ []) }
         ensures rest { KeepsState self.old self.new }
     {
@@ -294,6 +341,8 @@ impl<'env, 'source, E: Extension> State<'env, 'source, E> {
     fn enter(&mut self, entry: Entry) -> Result<Value, Error>
         ensures does { let says = user_answers E.Callable.answer E.Method.answer E.Formatter.answer E.Join.answer in
             DoesThere says (entry_plan (around_in says self.old) entry (world_in self.old)) self.old self.new result }
+        ensures frames { (world_in self.new).frames ≡ (world_in self.old).frames }
+        ensures places { KeepsBodies (world_in self.old).blocks (world_in self.new).blocks }
         ensures no_write_failure { IfErr result (λ kinds. kinds ≢ ErrorKind.WriteFailure ∷ []) }
         ensures rest { KeepsState self.old self.new }
     {
@@ -400,11 +449,15 @@ impl<'env, 'source, E: Extension> State<'env, 'source, E> {
         ensures text { let ran = block_in (user_answers E.Callable.answer E.Method.answer E.Formatter.answer E.Join.answer) self.old block.now in
             (n : ℕ) → IsFinished (ran n).end → GivesText (λ text. string_bytes text) result (under (fuel_left_in self.old) (ran n)) }
         ensures remains { let ran = block_in (user_answers E.Callable.answer E.Method.answer E.Formatter.answer E.Join.answer) self.old block.now in
-            OnOk result ((n : ℕ) → IsFinished (ran n).end → fuel_left_in self.new ≡ leaves (fuel_left_in self.old) (ran n)) }
+            (n : ℕ) → IsFinished (ran n).end → LeavesFuel (fuel_left_in self.old) (ran n) result (fuel_left_in self.new) }
         ensures world { let ran = block_in (user_answers E.Callable.answer E.Method.answer E.Formatter.answer E.Join.answer) self.old block.now in
             OnOk result ((n : ℕ) → IsFinished (ran n).end → world_in self.new ≡ (under (fuel_left_in self.old) (ran n)).after) }
 
-        // Whatever its end, what was open stays so.
+        // Whatever its end, the frames are as before, and the blocks run the bodies that they ran, with others behind them at most.
+        ensures frames { (world_in self.new).frames ≡ (world_in self.old).frames }
+        ensures places { KeepsBodies (world_in self.old).blocks (world_in self.new).blocks }
+
+        // What else was open is so again.
         ensures put_back { PutsBack (world_in self.old) (world_in self.new) }
         ensures no_write_failure { IfErr result (λ kinds. kinds ≢ ErrorKind.WriteFailure ∷ []) }
         ensures rest { KeepsState self.old self.new }
@@ -422,17 +475,21 @@ impl<'env, 'source, E: Extension> State<'env, 'source, E> {
     /// requires another, and where no level is left; the fault that the block ends with, as [`ErrorKind::OutOfFuel`]: the
     /// text before it is then in the sink. [`ErrorKind::OutOfMemory`] where a growth was refused, and
     /// [`ErrorKind::WriteFailure`] where the sink failed; it has then taken a beginning of the text. Frames, captures, the
-    /// escape and the block that runs are then as before; temps, and what the block loaded, stay.
+    /// escape and the block that runs are then as before; temps, and what the block loaded, stay; of a fuel that ran out nothing is left.
     pub fn render_block_to_write<S: Sink>(&mut self, block: &str, sink: &mut S) -> Result<(), Error>
         // Under each bound where its meaning is finished, its text is the one that goes into the sink.
         ensures renders { let ran = block_in (user_answers E.Callable.answer E.Method.answer E.Formatter.answer E.Join.answer) self.old block.now in
             (n : ℕ) → IsFinished (ran n).end → Renders result (S.taken sink.old) (S.taken sink.new) (under (fuel_left_in self.old) (ran n)) }
         ensures remains { let ran = block_in (user_answers E.Callable.answer E.Method.answer E.Formatter.answer E.Join.answer) self.old block.now in
-            OnOk result ((n : ℕ) → IsFinished (ran n).end → fuel_left_in self.new ≡ leaves (fuel_left_in self.old) (ran n)) }
+            (n : ℕ) → IsFinished (ran n).end → LeavesFuel (fuel_left_in self.old) (ran n) result (fuel_left_in self.new) }
         ensures world { let ran = block_in (user_answers E.Callable.answer E.Method.answer E.Formatter.answer E.Join.answer) self.old block.now in
             OnOk result ((n : ℕ) → IsFinished (ran n).end → world_in self.new ≡ (under (fuel_left_in self.old) (ran n)).after) }
 
-        // Whatever its end, what was open stays so.
+        // Whatever its end, the frames are as before, and the blocks run the bodies that they ran, with others behind them at most.
+        ensures frames { (world_in self.new).frames ≡ (world_in self.old).frames }
+        ensures places { KeepsBodies (world_in self.old).blocks (world_in self.new).blocks }
+
+        // What else was open is so again.
         ensures put_back { PutsBack (world_in self.old) (world_in self.new) }
         ensures failures { TellsFailures result (S.failures sink.old) (S.failures sink.new) }
         ensures rest { KeepsState self.old self.new }
@@ -493,7 +550,7 @@ fn remaining(levels: Option<Levels>) -> Option<u64>
 // The levels of a fuel of which so much is left now: no more than was.
 pub(crate) fn spend(levels: Option<Levels>, left: Option<u64>) -> Option<Levels>
     ensures set { set_of result ≡ set_of levels }
-    ensures left { (price : ℕ) → Paid price (left_of levels) left → left_of result ≡ left }
+    ensures left { IsNoMore (left_of levels) left → left_of result ≡ left }
 {
     match (levels, left) {
         (Some(levels), Some(left)) => {

@@ -32,9 +32,9 @@ use Rattle.template_machine_loop.specs.Plans.{DoesPlan, Tells, replies_of, run_o
 use Rattle.template_machine_loop.specs.Runs.{Breaks, faulting, wanting}
 use Rattle.template_machine_loop.proofs.Turned.{does_from}
 use Rattle.template_machine_renders.specs.Laws.{named_so}
-use Rattle.template_machine_renders.specs.Renders.{IsDone, Renders}
+use Rattle.template_machine_renders.specs.Renders.{IsDone, LeavesFuel, Renders}
 use Rattle.template_machine_renders.proofs.Blocks.{named_follow, plan_alike, replies_alike, tells_ends, told_meant}
-use Rattle.template_machine_renders.proofs.Coming.{breaks_meant, ends_meant, stops_there}
+use Rattle.template_machine_renders.proofs.Coming.{breaks_meant, ends_meant, stops_leave, stops_there}
 
 -- a key has a process under every bound, or under none
 abbrev Either : (ℕ → Option Process) → Type 0
@@ -87,8 +87,10 @@ failed_does s p w after left taken kinds (inl why) =
       items = [];
       least = 0;
       rest = λ n. run_of (replies_of s p w n);
+      remained = left;
       is = λ n le. refl;
       pays = paid_nothing left;
+      stays = inl refl;
       text = (0, Appends-nil taken);
     })
 failed_does s p w after left taken kinds (inr fault) =
@@ -134,7 +136,8 @@ reached_does s even (reached.Enters entry) w v left rest taken written result af
 -- the call tells what its meaning tells, and leaves its world, or it answers as it ends
 abbrev pub TellsTo : Option ℕ → Reply World → Result Val (List ErrorKind) → World → Option ℕ → Option (List ℕ) → Option (List ℕ) → Type 0
 TellsTo fuel r (Ok v) after left before taken = (r.told ≡ tells (value v)) × (r.after ≡ after) × IsDone fuel (run_of r) after left before taken
-TellsTo fuel r (Err kinds) after left before taken = Renders {X = Val} (Err kinds) before taken (under fuel (run_of r))
+TellsTo fuel r (Err kinds) after left before taken =
+    Renders {X = Val} (Err kinds) before taken (under fuel (run_of r)) × LeavesFuel {X = Val} fuel (run_of r) (Err kinds) left
 
 module _ (setting : Setting) (root : Option Standing) (name : List ℕ) (p : Plan) (w : World) (kept : PlanKeeps w p) (n : ℕ) where
   abbrev walks : Programs
@@ -164,6 +167,9 @@ module _ (setting : Setting) (root : Option Standing) (name : List ℕ) (p : Pla
             (tells_ends (replies_of codes p w) (value v) after fuel left before taken does),
       )
   calls_tell after fuel left before taken (Err kinds) does finished =
-      stops_there Val (run_of (replies_of walks p w n)) fuel left before taken kinds (faults_meant fuel) finished
-      (breaks_meant (λ m. run_of (replies_of codes p w m)) (run_of (replies_of walks p w n)) kinds fuel left before taken
-      (plan_alike walks codes (named_follow setting root name) n w p finished) does)
+      let broke =
+      breaks_meant (λ m. run_of (replies_of codes p w m)) (run_of (replies_of walks p w n)) kinds fuel left before taken
+      (plan_alike walks codes (named_follow setting root name) n w p finished) does in (
+        stops_there Val (run_of (replies_of walks p w n)) fuel left before taken kinds (faults_meant fuel) finished broke,
+        stops_leave Val (run_of (replies_of walks p w n)) fuel left before taken kinds finished broke,
+      )

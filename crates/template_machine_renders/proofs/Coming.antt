@@ -33,9 +33,9 @@ use Rattle.template_machine_going.specs.Outcomes.{Stops, faults, runs_out, wants
 use Rattle.template_machine_going.specs.Strays.{IsLost}
 use Rattle.template_machine_going.proofs.Paths.{behind-behind}
 use Rattle.template_machine_loop.specs.Runs.{Breaks, faulting, running_out, wanting, straying, EndsOver, EndsSo}
-use Rattle.template_machine_renders.specs.Renders.{at_start, GivesValue, IsOver, IsDone, Renders, whole, broken}
+use Rattle.template_machine_renders.specs.Renders.{at_start, GivesValue, IsOver, IsDone, LeavesFuel, Renders, leaves, whole, broken}
 use Rattle.template_machine_renders.specs.Laws.{EndsRender, ExpressionsEvaluate, StopsRender}
-use Rattle.template_machine_renders.proofs.Fuels.{lasts, rests, ends_spent, begins}
+use Rattle.template_machine_renders.proofs.Fuels.{lasts, rests, ends_spent, spent_leaves, begins}
 use Rattle.template_machine_renders.proofs.Meanings.{Means, ended_means, begun_means}
 
 -- nothing comes behind an end
@@ -82,18 +82,22 @@ breaks_meant runs meant kinds fuel left before taken come (running_out f) = runn
   least = 0;
   wraps = f.wraps;
   rest = λ n. f.rest (come.0 + f.least);
+  remained = f.remained;
   is = λ n le. sym (come.1 (come.0 + f.least) (omega arith)) ∙ f.is (come.0 + f.least) (omega arith);
   kinds_are = f.kinds_are;
   pays = f.pays;
   spent = f.spent;
+  nothing = f.nothing;
   text = f.text;
 })
 breaks_meant runs meant kinds fuel left before taken come (wanting why f) = wanting why (record {
   items = f.items;
   least = 0;
   rest = λ n. f.rest (come.0 + f.least);
+  remained = f.remained;
   is = λ n le. sym (come.1 (come.0 + f.least) (omega arith)) ∙ f.is (come.0 + f.least) (omega arith);
   pays = f.pays;
+  stays = f.stays;
   text = f.text;
 })
 breaks_meant runs meant kinds fuel left before taken come (straying bad f) = straying bad (record {
@@ -142,17 +146,34 @@ stops_there X meant fuel left before taken kinds fault finished (faulting f) =
 stops_there X meant fuel left before taken kinds fault finished (running_out o) =
     let rest = o.rest o.least in
     let r : Run World = record { items = o.items; end = drives.faults (o.wraps ++ OutOfFuel ∷ []); after = rest.after } in
-    let same = ap (under fuel) (o.is o.least (omega arith)) ∙ ends_spent fuel left o.items o.wraps rest o.pays o.spent
+    let same = ap (under fuel) (o.is o.least (omega arith)) ∙ ends_spent fuel o.remained o.items o.wraps rest o.pays o.spent
     ∙ ended_there o.items (drives.faults (o.wraps ++ OutOfFuel ∷ [])) rest.after in
     subst (Renders {X = X} (Err kinds) before taken) (sym same) (whole (
       ap (λ ks. drives.faults ks) (sym o.kinds_are),
       subst IsFault (sym o.kinds_are) (subst (λ (q : Run World). IsMeantEnd q.end) same fault),
     ) o.text)
 stops_there X meant fuel left before taken kinds fault finished (wanting why o) =
-    let cut = begins fuel left o.items (o.rest o.least) o.pays in
+    let cut = begins fuel o.remained o.items (o.rest o.least) o.pays in
     let same = ap (under fuel) (o.is o.least (omega arith)) ∙ cut.1 in
     subst (Renders {X = X} (Err kinds) before taken) (sym same) (broken why (text_behind o.items cut.0 before taken o.text))
 stops_there X meant fuel left before taken kinds fault finished (straying is o) =
+    let same : meant ≡ record { items = o.items; end = o.end; after = o.world } = o.is o.least (omega arith) ∙ ended_there o.items o.end o.world in
+    absurd (lost_unfinished o.end o.lost (subst (λ (q : Run World). IsFinished q.end) same finished))
+
+-- and what it leaves of the fuel
+pub stops_leave : (X : Type 0) (meant : Run World) (fuel left : Option ℕ) (before taken : Option (List ℕ)) (kinds : List ErrorKind)
+    → IsFinished meant.end → Breaks (λ n. meant) kinds fuel left before taken → LeavesFuel {X = X} fuel meant (Err kinds) left
+stops_leave X meant fuel left before taken kinds finished (faulting f) =
+    let r : Run World = record { items = f.items; end = drives.faults kinds; after = f.world } in
+    let is : meant ≡ r = f.is f.least (omega arith) ∙ ended_there f.items (drives.faults kinds) f.world in
+    inr (subst (λ (q : Run World). left ≡ leaves fuel q) (sym is) (rests fuel left r f.pays))
+stops_leave X meant fuel left before taken kinds finished (running_out o) =
+    let there : Run World = behind o.items (behind (paid o.wraps ∷ []) (o.rest o.least)) in
+    let is : meant ≡ there = o.is o.least (omega arith) in
+    inr (subst (λ (q : Run World). left ≡ leaves fuel q) (sym is)
+    (o.nothing ∙ sym (spent_leaves fuel o.remained o.items o.wraps (o.rest o.least) o.pays o.spent)))
+stops_leave X meant fuel left before taken kinds finished (wanting why o) = inl why
+stops_leave X meant fuel left before taken kinds finished (straying is o) =
     let same : meant ≡ record { items = o.items; end = o.end; after = o.world } = o.is o.least (omega arith) ∙ ended_there o.items o.end o.world in
     absurd (lost_unfinished o.end o.lost (subst (λ (q : Run World). IsFinished q.end) same finished))
 
@@ -219,16 +240,27 @@ stops_meant setting code meant w fuel before y kinds means (runs_out f) =
       least = 0;
       wraps = o.wraps;
       rest = λ n. is.0;
+      remained = o.remained;
       is = λ n le. is.1 ∙ sym (behind-behind o.items (paid o.wraps ∷ []) is.0);
       kinds_are = o.kinds_are;
       pays = o.pays;
       spent = o.spent;
+      nothing = o.nothing;
       text = o.text;
     })
 stops_meant setting code meant w fuel before y kinds means (wants why f) =
     let o = f.1 in
     let is = begun_means setting code meant (at_start w fuel before) o.least f.0 o.items o.rest refl refl means o.is in
-    wanting why (record { items = o.items; least = 0; rest = λ n. is.0; is = λ n le. is.1; pays = o.pays; text = o.text })
+    wanting why (record {
+      items = o.items;
+      least = 0;
+      rest = λ n. is.0;
+      remained = o.remained;
+      is = λ n le. is.1;
+      pays = o.pays;
+      stays = o.stays;
+      text = o.text;
+    })
 stops_meant setting code meant w fuel before y kinds means (strays bad f) =
     let o = f.1 in
     let r : Run World = record { items = o.items; end = o.end; after = o.world } in

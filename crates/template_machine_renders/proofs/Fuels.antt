@@ -5,7 +5,7 @@ use Rattle.template_values_errors.specs.declared.ErrorKind.TheVariants.{OutOfFue
 use Rattle.template_process.specs.Drive.{faults}
 use Rattle.template_process.specs.Fuel.{cut, under}
 use Rattle.template_process.specs.Trace.{Item, paid, Run, behind, price_of}
-use Rattle.template_process.proofs.Behind.{cut-behind, cut_first, cut_whole, remaining_whole}
+use Rattle.template_process.proofs.Behind.{cut-behind, cut_first, cut_whole, remaining-behind, remaining_first, remaining_whole}
 use Rattle.template_machine_going.specs.Paying.{Paid, IsSpent}
 use Rattle.template_machine_renders.specs.Renders.{leaves}
 
@@ -33,6 +33,15 @@ ends_spent (Some n) (Some k) items wraps q pays spent =
 ends_spent None None items wraps q pays spent = absurd spent
 ends_spent None (Some k) items wraps q pays spent = absurd pays
 ends_spent (Some n) None items wraps q pays spent = absurd pays
+
+-- and nothing of it is left
+pub spent_leaves : {S : Type 0} (fuel left : Option ℕ) (items : List Item) (wraps : List ErrorKind) (q : Run S) → Paid (price_of items) fuel left → IsSpent left
+    → leaves fuel (behind items (behind (paid wraps ∷ []) q)) ≡ Some 0
+spent_leaves (Some n) (Some k) items wraps q pays spent =
+    ap (λ (m : ℕ). Some m) (remaining-behind n items (behind (paid wraps ∷ []) q) pays.1 ∙ remaining_first (n - price_of items) wraps q (omega (arith, pays.0, spent)))
+spent_leaves None None items wraps q pays spent = absurd spent
+spent_leaves None (Some k) items wraps q pays spent = absurd pays
+spent_leaves (Some n) None items wraps q pays spent = absurd pays
 
 -- what is paid stays its beginning
 pub begins : {S : Type 0} (fuel left : Option ℕ) (items : List Item) (q : Run S) → Paid (price_of items) fuel left

@@ -49,10 +49,16 @@ pub record IsDone (fuel : Option ℕ) (r : Run World) (after : World) (left : Op
   pub world : (under fuel r).after ≡ after
   pub left_is : left ≡ leaves fuel r
 
+-- So much of the fuel is left as the run leaves, of one that is cut nothing; unless a growth was refused, or the sink failed.
+abbrev pub LeavesFuel : {X S : Type 0} → Option ℕ → Run S → Result X (List ErrorKind) → Option ℕ → Type 0
+LeavesFuel fuel r (Ok _) left = left ≡ leaves fuel r
+LeavesFuel fuel r (Err kinds) left = IsWanting kinds ⊎ (left ≡ leaves fuel r)
+
 -- The call comes to the end of the run, or answers as the run ends up to there.
 abbrev pub RendersTo : {X : Type 0} → Option ℕ → Run World → Result X (List ErrorKind) → World → Option ℕ → Option (List ℕ) → Option (List ℕ) → Type 0
 RendersTo fuel r (Ok _) after left before taken = IsDone fuel r after left before taken
-RendersTo {X = X} fuel r (Err kinds) after left before taken = Renders {X = X} (Err kinds) before taken (under fuel r)
+RendersTo {X = X} fuel r (Err kinds) after left before taken =
+    Renders {X = X} (Err kinds) before taken (under fuel r) × LeavesFuel {X = X} fuel r (Err kinds) left
 
 -- The call tells the one value that the run leaves, in the world that it leaves; or it answers with the run's fault. Or a growth
 -- was refused, or the sink failed.

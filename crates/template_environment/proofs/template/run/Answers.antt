@@ -6,7 +6,9 @@ use Rattle.template_machine_output.proofs.Beginnings.{beginning_none}
 use Rattle.template_machine_renders.specs.Renders.{broken, whole}
 use Rattle.template_environment.specs.Extras.{user_answers}
 use Rattle.template_environment.specs.Reading.{brought_of}
+use Rattle.template_environment.specs.Renderings.{left_of}
 use Rattle.template_environment.proofs.Rendering.{render_done, render_stopped, run_of}
+use Rattle.template_environment.proofs.Told.{paid_no_more}
 use Rattle.template_environment.proofs.template.run.Goals as goal
 
 pub returns-in_err-machine-clause-renders : goal.returns-in_err-machine-clause-renders
@@ -51,7 +53,8 @@ returns-clause-remains g c = λ n finished.
     let done = render_done (tt {0}) (brought_of says c.args.environment.now) registry c.args.id c.args.compiled.now c.args.context _ _ _ registry.fuel _ _ _ _ refl of
     c.in_ok-run_template.ensures.runs n finished in
     let runs = c.in_ok-run_template.ensures.runs in
-    c.spend.ensures.left (price_of runs.items) (subst (λ (f : Option ℕ). Paid (price_of runs.items) f c.run_template.new.left) (sym c.unspent.ensures.left) runs.pays) ∙ done.left_is
+    c.spend.ensures.left (paid_no_more (price_of runs.items) (left_of c.unspent.result) c.run_template.new.left
+    (subst (λ (f : Option ℕ). Paid (price_of runs.items) f c.run_template.new.left) (sym c.unspent.ensures.left) runs.pays)) ∙ done.left_is
 
 pub returns-clause-world : goal.returns-clause-world
 returns-clause-world g c = λ n finished.

@@ -1,14 +1,16 @@
-use Rattle.std.proofs.Common.{◌∙◌, [], ◌∷◌, Ok, Err, refl, string_bytes}
+use Rattle.std.proofs.Common.{◌∙◌, [], ◌∷◌, Ok, Err, refl, String, string_bytes}
+use Rattle.std.specs.declared.alloc.Global.{Global}
 use Rattle.template_machine_calls.specs.Hosted.{around_under}
 use Rattle.template_machine_calls.proofs.Turned.{text_refused, text_turned}
 use Rattle.template_machine_meaning.specs.Captures.{captured}
 use Rattle.template_machine_meaning.specs.Plans.{with_turning}
 use Rattle.template_machine_meaning.specs.Turnings.{to_text}
 use Rattle.template_machine_meaning.specs.World.{keeps}
+use Rattle.template_machine_meaning.proofs.Placed.{bodies_stay}
 use Rattle.template_environment.specs.Extras.{user_answers}
 use Rattle.template_environment.specs.Reading.{callables_of}
-use Rattle.template_environment.specs.States.{around_in, found_in, fuel_left_in}
-use Rattle.template_environment.proofs.Told.{around_there, err_only, err_quiet, failing_quiet, failing_told, found_there, handed_told, meant, printed_there, reached_there, remains_there, text_failed, text_kept, told_there, turned_quiet, unprinted_there, want_quiet, want_told, worded_told, world_there}
+use Rattle.template_environment.specs.States.{around_in, found_in, fuel_left_in, worded_in}
+use Rattle.template_environment.proofs.Told.{around_there, err_only, err_quiet, failed_left, failed_rest, failing_left, failing_quiet, failing_told, failed_frames, failed_places, found_there, frames_behind, handed_told, mark_put_back, meant, on_err, places_behind, printed_there, reached_there, remains_there, rest_from, stopped_remains, temps_frames, temps_places, temps_put_back, text_failed, text_kept, told_there, turned_quiet, unprinted_there, want_left, want_quiet, want_told, worded_told, world_there}
 use Rattle.template_environment.proofs.state.State.call_macro.Goals as goal
 
 -- no memory for the arguments
@@ -19,10 +21,53 @@ pub returns-in_err-given-clause-no_write_failure : goal.returns-in_err-given-cla
 returns-in_err-given-clause-no_write_failure g c = err_quiet _ _ (want_quiet _ c.in_err-given.ensures.refused) c.from_residual.ensures.1
 
 pub returns-in_err-given-clause-remains : goal.returns-in_err-given-clause-remains
-returns-in_err-given-clause-remains g c = err_only _ _ _ c.from_residual.ensures.1
+returns-in_err-given-clause-remains g c = λ n finished.
+    let self = c.args.self.now in
+    let says = (user_answers g.E.Callable.Callable.answer g.E.Method.UnknownMethod.answer g.E.Formatter.Formatter.answer g.E.Join.PathJoin.answer) in
+    let rules = c.rules-rules.ensures in
+    let same = around_there says self c.rules-rules.result (rules.name ∙ c.own_name.ensures) rules.limit rules.undefined in
+    let a = around_under c.rules-rules.result (callables_of says self.environment.now) (around_in says self) in
+    let name = c.args.name.now in
+    let p = found_in says self name c.args.args.now in
+    let kept = text_kept says self name c.args.args.now in
+    want_left (fuel_left_in self) (fuel_left_in self) (meant says self (with_turning to_text p) n) _ _ c.in_err-given.ensures.refused c.from_residual.ensures.1
 
 pub returns-in_err-given-clause-world : goal.returns-in_err-given-clause-world
 returns-in_err-given-clause-world g c = err_only _ _ _ c.from_residual.ensures.1
+
+pub returns-in_err-given-clause-put_back : goal.returns-in_err-given-clause-put_back
+returns-in_err-given-clause-put_back g c = on_err _ _ (temps_put_back c.args.self.now.machine c.args.self.now.machine refl)
+
+pub returns-in_err-given-clause-places : goal.returns-in_err-given-clause-places
+returns-in_err-given-clause-places g c = bodies_stay _
+
+-- no memory for the mark
+pub returns-in_err-mark-clause-told : goal.returns-in_err-mark-clause-told
+returns-in_err-mark-clause-told g c = λ n finished. want_told _ _ _ _ _ c.in_err-mark.ensures.refused c.from_residual-in_err-mark.ensures.1
+
+pub returns-in_err-mark-clause-no_write_failure : goal.returns-in_err-mark-clause-no_write_failure
+returns-in_err-mark-clause-no_write_failure g c = err_quiet _ _ (want_quiet _ c.in_err-mark.ensures.refused) c.from_residual-in_err-mark.ensures.1
+
+pub returns-in_err-mark-clause-remains : goal.returns-in_err-mark-clause-remains
+returns-in_err-mark-clause-remains g c = λ n finished.
+    let self = c.args.self.now in
+    let says = (user_answers g.E.Callable.Callable.answer g.E.Method.UnknownMethod.answer g.E.Formatter.Formatter.answer g.E.Join.PathJoin.answer) in
+    let rules = c.rules-rules.ensures in
+    let same = around_there says self c.rules-rules.result (rules.name ∙ c.own_name.ensures) rules.limit rules.undefined in
+    let a = around_under c.rules-rules.result (callables_of says self.environment.now) (around_in says self) in
+    let name = c.args.name.now in
+    let p = found_in says self name c.args.args.now in
+    let kept = text_kept says self name c.args.args.now in
+    want_left (fuel_left_in self) (fuel_left_in self) (meant says self (with_turning to_text p) n) _ _ c.in_err-mark.ensures.refused c.from_residual-in_err-mark.ensures.1
+
+pub returns-in_err-mark-clause-world : goal.returns-in_err-mark-clause-world
+returns-in_err-mark-clause-world g c = err_only _ _ _ c.from_residual-in_err-mark.ensures.1
+
+pub returns-in_err-mark-clause-put_back : goal.returns-in_err-mark-clause-put_back
+returns-in_err-mark-clause-put_back g c = on_err _ _ (temps_put_back c.args.self.now.machine c.args.self.now.machine refl)
+
+pub returns-in_err-mark-clause-places : goal.returns-in_err-mark-clause-places
+returns-in_err-mark-clause-places g c = bodies_stay _
 
 -- a call that is refused
 pub returns-in_err-reached-clause-told : goal.returns-in_err-reached-clause-told
@@ -54,16 +99,34 @@ returns-in_err-reached-clause-no_write_failure g c =
     failing_quiet says self (with_turning to_text p) kept c.call_found.new.state _ failed _ c.from_residual-in_err-reached.ensures.1
 
 pub returns-in_err-reached-clause-remains : goal.returns-in_err-reached-clause-remains
-returns-in_err-reached-clause-remains g c =
-    err_only _ _ _ c.from_residual-in_err-reached.ensures.1
+returns-in_err-reached-clause-remains g c = λ n finished.
+    let self = c.args.self.now in
+    let says = (user_answers g.E.Callable.Callable.answer g.E.Method.UnknownMethod.answer g.E.Formatter.Formatter.answer g.E.Join.PathJoin.answer) in
+    let rules = c.rules-rules.ensures in
+    let same = around_there says self c.rules-rules.result (rules.name ∙ c.own_name.ensures) rules.limit rules.undefined in
+    let a = around_under c.rules-rules.result (callables_of says self.environment.now) (around_in says self) in
+    let name = c.args.name.now in
+    let p = found_in says self name c.args.args.now in
+    let kept = text_kept says self name c.args.args.now in
+    let failed = text_failed c.call_found.new.state p _
+    (found_there says self a name c.in_ok-given.given.items c.args.args.now (Err _) c.call_found.new.state same c.in_ok-given.ensures.ok (c.in_err-reached.ensures.told (around_in says self))) in
+    failing_left says self (with_turning to_text p) kept c.call_found.new.state _ failed _ c.from_residual-in_err-reached.ensures.1 n finished
 
 pub returns-in_err-reached-clause-world : goal.returns-in_err-reached-clause-world
-returns-in_err-reached-clause-world g c =
-    err_only _ _ _ c.from_residual-in_err-reached.ensures.1
+returns-in_err-reached-clause-world g c = err_only _ _ _ c.from_residual-in_err-reached.ensures.1
+
+pub returns-in_err-reached-clause-put_back : goal.returns-in_err-reached-clause-put_back
+returns-in_err-reached-clause-put_back g c = on_err _ _ (temps_put_back c.args.self.now.machine c.call_found.new.state c.in_err-reached.ensures.kept)
+
+pub returns-in_err-reached-clause-frames : goal.returns-in_err-reached-clause-frames
+returns-in_err-reached-clause-frames g c = temps_frames c.args.self.now.machine c.call_found.new.state c.in_err-reached.ensures.kept
+
+pub returns-in_err-reached-clause-places : goal.returns-in_err-reached-clause-places
+returns-in_err-reached-clause-places g c = temps_places c.args.self.now.machine c.call_found.new.state c.in_err-reached.ensures.kept
 
 -- one that fails
-pub returns-in_err-value-clause-told : goal.returns-in_err-value-clause-told
-returns-in_err-value-clause-told g c = λ n finished.
+pub returns-in-Err-clause-told : goal.returns-in-Err-clause-told
+returns-in-Err-clause-told g c = λ n finished.
     let self = c.args.self.now in
     let says = (user_answers g.E.Callable.Callable.answer g.E.Method.UnknownMethod.answer g.E.Formatter.Formatter.answer g.E.Join.PathJoin.answer) in
     let rules = c.rules-rules.ensures in
@@ -74,25 +137,49 @@ returns-in_err-value-clause-told g c = λ n finished.
     let kept = text_kept says self name c.args.args.now in
     let planned = found_there says self a name c.in_ok-given.given.items c.args.args.now (Ok c.in_ok-reached.reached) c.call_found.new.state same c.in_ok-given.ensures.ok
     (c.in_ok-reached.ensures.told (around_in says self)) in
-    let there = reached_there says self c.in_ok-reached.reached c.call_found.new.state p c.come_to.new.self (Err _) c.in_ok-reached.ensures.kept planned c.in_err-value.ensures.does in
-    handed_told says self (with_turning to_text p) kept c.come_to.new.self _ (unprinted_there says self p c.come_to.new.self _ there) c.in_err-value.ensures.no_write_failure _ _
-    c.from_residual-in_err-value.ensures.1 n finished
+    let there = reached_there says self c.in_ok-reached.reached c.call_found.new.state p c.come_to.new.self (Err c.in-Err.error) c.in_ok-reached.ensures.kept planned c.in-Err.ensures.does in
+    let whole = unprinted_there says self p c.come_to.new.self c.in-Err.error there in
+    handed_told says self (with_turning to_text p) kept c.come_to.new.self c.in-Err.error whole c.in-Err.ensures.no_write_failure {X = String Global} (worded_in c.failed.new.self) (Err c.failed.result) c.failed.ensures.same n finished
 
-pub returns-in_err-value-clause-no_write_failure : goal.returns-in_err-value-clause-no_write_failure
-returns-in_err-value-clause-no_write_failure g c =
-    err_quiet _ _ c.in_err-value.ensures.no_write_failure c.from_residual-in_err-value.ensures.1
+pub returns-in-Err-clause-no_write_failure : goal.returns-in-Err-clause-no_write_failure
+returns-in-Err-clause-no_write_failure g c = err_quiet {X = String Global} (Err c.failed.result) c.in-Err.error c.in-Err.ensures.no_write_failure c.failed.ensures.same
 
-pub returns-in_err-value-clause-remains : goal.returns-in_err-value-clause-remains
-returns-in_err-value-clause-remains g c =
-    err_only _ _ _ c.from_residual-in_err-value.ensures.1
+pub returns-in-Err-clause-remains : goal.returns-in-Err-clause-remains
+returns-in-Err-clause-remains g c = λ n finished.
+    let self = c.args.self.now in
+    let says = (user_answers g.E.Callable.Callable.answer g.E.Method.UnknownMethod.answer g.E.Formatter.Formatter.answer g.E.Join.PathJoin.answer) in
+    let rules = c.rules-rules.ensures in
+    let same = around_there says self c.rules-rules.result (rules.name ∙ c.own_name.ensures) rules.limit rules.undefined in
+    let a = around_under c.rules-rules.result (callables_of says self.environment.now) (around_in says self) in
+    let name = c.args.name.now in
+    let p = found_in says self name c.args.args.now in
+    let kept = text_kept says self name c.args.args.now in
+    let planned = found_there says self a name c.in_ok-given.given.items c.args.args.now (Ok c.in_ok-reached.reached) c.call_found.new.state same c.in_ok-given.ensures.ok
+    (c.in_ok-reached.ensures.told (around_in says self)) in
+    let there = reached_there says self c.in_ok-reached.reached c.call_found.new.state p c.come_to.new.self (Err c.in-Err.error) c.in_ok-reached.ensures.kept planned c.in-Err.ensures.does in
+    let whole = unprinted_there says self p c.come_to.new.self c.in-Err.error there in
+    failed_left self c.come_to.new.self c.failed.new.self c.failed.ensures.rest (String Global) (fuel_left_in self) (meant says self (with_turning to_text p) n) c.in-Err.error c.failed.result c.failed.ensures.same
+    (stopped_remains says self (with_turning to_text p) kept c.come_to.new.self c.in-Err.error whole n finished)
 
-pub returns-in_err-value-clause-world : goal.returns-in_err-value-clause-world
-returns-in_err-value-clause-world g c =
-    err_only _ _ _ c.from_residual-in_err-value.ensures.1
+pub returns-in-Err-clause-put_back : goal.returns-in-Err-clause-put_back
+returns-in-Err-clause-put_back g c = mark_put_back c.args.self.now.machine c.come_to.new.self.machine c.failed.new.self.machine c.in_ok-mark.mark c.in_ok-mark.ensures.marked c.failed.ensures.put_back
+
+pub returns-in-Err-clause-rest : goal.returns-in-Err-clause-rest
+returns-in-Err-clause-rest g c = failed_rest c.args.self.now c.come_to.new.self c.failed.new.self c.failed.ensures.rest (rest_from c.args.self.now c.come_to.new.self c.call_found.new.state c.in-Err.ensures.rest)
+
+pub returns-in-Err-clause-frames : goal.returns-in-Err-clause-frames
+returns-in-Err-clause-frames g c =
+    failed_frames c.args.self.now.machine c.come_to.new.self.machine c.failed.new.self.machine c.in_ok-mark.mark c.in_ok-mark.ensures.marked c.failed.ensures.put_back
+    (frames_behind c.in_ok-reached.reached c.args.self.now.machine c.call_found.new.state c.come_to.new.self.machine c.in_ok-reached.ensures.kept c.in-Err.ensures.frames)
+
+pub returns-in-Err-clause-places : goal.returns-in-Err-clause-places
+returns-in-Err-clause-places g c =
+    failed_places c.args.self.now.machine c.come_to.new.self.machine c.failed.new.self.machine c.in_ok-mark.mark c.failed.ensures.put_back
+    (places_behind c.in_ok-reached.reached c.args.self.now.machine c.call_found.new.state c.come_to.new.self.machine c.in_ok-reached.ensures.kept c.in-Err.ensures.places)
 
 -- what it comes to is printed
-pub returns-in_err-print_to-clause-told : goal.returns-in_err-print_to-clause-told
-returns-in_err-print_to-clause-told g c = λ n finished.
+pub returns-in-Err-print_to-clause-told : goal.returns-in-Err-print_to-clause-told
+returns-in-Err-print_to-clause-told g c = λ n finished.
     let self = c.args.self.now in
     let says = (user_answers g.E.Callable.Callable.answer g.E.Method.UnknownMethod.answer g.E.Formatter.Formatter.answer g.E.Join.PathJoin.answer) in
     let rules = c.rules-rules.ensures in
@@ -103,26 +190,19 @@ returns-in_err-print_to-clause-told g c = λ n finished.
     let kept = text_kept says self name c.args.args.now in
     let planned = found_there says self a name c.in_ok-given.given.items c.args.args.now (Ok c.in_ok-reached.reached) c.call_found.new.state same c.in_ok-given.ensures.ok
     (c.in_ok-reached.ensures.told (around_in says self)) in
-    let there = reached_there says self c.in_ok-reached.reached c.call_found.new.state p c.come_to.new.self (Ok c.in_ok-value.value) c.in_ok-reached.ensures.kept planned c.in_ok-value.ensures.does in
-    let refused = text_refused c.come_to.new.self.machine c.in_ok-value.value _ _ _ c.new-text.ensures.bytes c.in_err-print_to.ensures in
-    handed_told says self (with_turning to_text p) kept c.come_to.new.self _ (printed_there says self p c.come_to.new.self c.in_ok-value.value (Err _) refused there)
-    (turned_quiet c.come_to.new.self.machine (to_text ∷ []) c.in_ok-value.value (Err _) refused) _ _ c.from_residual-in_err-print_to.ensures.1 n finished
+    let there = reached_there says self c.in_ok-reached.reached c.call_found.new.state p c.come_to.new.self (Ok c.in-Ok.value) c.in_ok-reached.ensures.kept planned c.in-Ok.ensures.does in
+    let refused = text_refused c.come_to.new.self.machine c.in-Ok.value _ _ _ c.new-text.ensures.bytes c.in-Err-print_to.ensures in
+    let whole = printed_there says self p c.come_to.new.self c.in-Ok.value (Err _) refused there in
+    handed_told says self (with_turning to_text p) kept c.come_to.new.self c.in-Err-print_to.error whole
+    (turned_quiet c.come_to.new.self.machine (to_text ∷ []) c.in-Ok.value (Err _) refused) {X = String Global} (worded_in c.failed-in-Err-print_to.new.self) (Err c.failed-in-Err-print_to.result) c.failed-in-Err-print_to.ensures.same n finished
 
-pub returns-in_err-print_to-clause-no_write_failure : goal.returns-in_err-print_to-clause-no_write_failure
-returns-in_err-print_to-clause-no_write_failure g c =
-    let refused = text_refused c.come_to.new.self.machine c.in_ok-value.value _ _ _ c.new-text.ensures.bytes c.in_err-print_to.ensures in
-    err_quiet _ _ (turned_quiet c.come_to.new.self.machine (to_text ∷ []) c.in_ok-value.value (Err _) refused) c.from_residual-in_err-print_to.ensures.1
+pub returns-in-Err-print_to-clause-no_write_failure : goal.returns-in-Err-print_to-clause-no_write_failure
+returns-in-Err-print_to-clause-no_write_failure g c =
+    let refused = text_refused c.come_to.new.self.machine c.in-Ok.value _ _ _ c.new-text.ensures.bytes c.in-Err-print_to.ensures in
+    err_quiet {X = String Global} (Err c.failed-in-Err-print_to.result) c.in-Err-print_to.error (turned_quiet c.come_to.new.self.machine (to_text ∷ []) c.in-Ok.value (Err _) refused) c.failed-in-Err-print_to.ensures.same
 
-pub returns-in_err-print_to-clause-remains : goal.returns-in_err-print_to-clause-remains
-returns-in_err-print_to-clause-remains g c =
-    err_only _ _ _ c.from_residual-in_err-print_to.ensures.1
-
-pub returns-in_err-print_to-clause-world : goal.returns-in_err-print_to-clause-world
-returns-in_err-print_to-clause-world g c =
-    err_only _ _ _ c.from_residual-in_err-print_to.ensures.1
-
-pub returns-clause-told : goal.returns-clause-told
-returns-clause-told g c = λ n finished.
+pub returns-in-Err-print_to-clause-remains : goal.returns-in-Err-print_to-clause-remains
+returns-in-Err-print_to-clause-remains g c = λ n finished.
     let self = c.args.self.now in
     let says = (user_answers g.E.Callable.Callable.answer g.E.Method.UnknownMethod.answer g.E.Formatter.Formatter.answer g.E.Join.PathJoin.answer) in
     let rules = c.rules-rules.ensures in
@@ -133,15 +213,39 @@ returns-clause-told g c = λ n finished.
     let kept = text_kept says self name c.args.args.now in
     let planned = found_there says self a name c.in_ok-given.given.items c.args.args.now (Ok c.in_ok-reached.reached) c.call_found.new.state same c.in_ok-given.ensures.ok
     (c.in_ok-reached.ensures.told (around_in says self)) in
-    let there = reached_there says self c.in_ok-reached.reached c.call_found.new.state p c.come_to.new.self (Ok c.in_ok-value.value) c.in_ok-reached.ensures.kept planned c.in_ok-value.ensures.does in
+    let there = reached_there says self c.in_ok-reached.reached c.call_found.new.state p c.come_to.new.self (Ok c.in-Ok.value) c.in_ok-reached.ensures.kept planned c.in-Ok.ensures.does in
+    let refused = text_refused c.come_to.new.self.machine c.in-Ok.value _ _ _ c.new-text.ensures.bytes c.in-Err-print_to.ensures in
+    let whole = printed_there says self p c.come_to.new.self c.in-Ok.value (Err _) refused there in
+    failed_left self c.come_to.new.self c.failed-in-Err-print_to.new.self c.failed-in-Err-print_to.ensures.rest (String Global) (fuel_left_in self) (meant says self (with_turning to_text p) n) c.in-Err-print_to.error c.failed-in-Err-print_to.result c.failed-in-Err-print_to.ensures.same
+    (stopped_remains says self (with_turning to_text p) kept c.come_to.new.self c.in-Err-print_to.error whole n finished)
+
+pub returns-in-Err-print_to-clause-put_back : goal.returns-in-Err-print_to-clause-put_back
+returns-in-Err-print_to-clause-put_back g c = mark_put_back c.args.self.now.machine c.come_to.new.self.machine c.failed-in-Err-print_to.new.self.machine c.in_ok-mark.mark c.in_ok-mark.ensures.marked c.failed-in-Err-print_to.ensures.put_back
+
+pub returns-in-Err-print_to-clause-rest : goal.returns-in-Err-print_to-clause-rest
+returns-in-Err-print_to-clause-rest g c = failed_rest c.args.self.now c.come_to.new.self c.failed-in-Err-print_to.new.self c.failed-in-Err-print_to.ensures.rest (rest_from c.args.self.now c.come_to.new.self c.call_found.new.state c.in-Ok.ensures.rest)
+
+pub returns-in-Ok-print_to-clause-told : goal.returns-in-Ok-print_to-clause-told
+returns-in-Ok-print_to-clause-told g c = λ n finished.
+    let self = c.args.self.now in
+    let says = (user_answers g.E.Callable.Callable.answer g.E.Method.UnknownMethod.answer g.E.Formatter.Formatter.answer g.E.Join.PathJoin.answer) in
+    let rules = c.rules-rules.ensures in
+    let same = around_there says self c.rules-rules.result (rules.name ∙ c.own_name.ensures) rules.limit rules.undefined in
+    let a = around_under c.rules-rules.result (callables_of says self.environment.now) (around_in says self) in
+    let name = c.args.name.now in
+    let p = found_in says self name c.args.args.now in
+    let kept = text_kept says self name c.args.args.now in
+    let planned = found_there says self a name c.in_ok-given.given.items c.args.args.now (Ok c.in_ok-reached.reached) c.call_found.new.state same c.in_ok-given.ensures.ok
+    (c.in_ok-reached.ensures.told (around_in says self)) in
+    let there = reached_there says self c.in_ok-reached.reached c.call_found.new.state p c.come_to.new.self (Ok c.in-Ok.value) c.in_ok-reached.ensures.kept planned c.in-Ok.ensures.does in
     let text = c.print_to.new.out in
     let u = captured c.come_to.new.self.machine.escape (keeps (string_bytes text)) in
-    let made = text_turned c.come_to.new.self.machine c.in_ok-value.value u _ (string_bytes text) c.new-text.ensures.bytes c.in_ok-print_to.ensures refl in
-    let whole = printed_there says self p c.come_to.new.self c.in_ok-value.value (Ok u) made there in
+    let made = text_turned c.come_to.new.self.machine c.in-Ok.value u _ (string_bytes text) c.new-text.ensures.bytes c.in-Ok-print_to.ensures refl in
+    let whole = printed_there says self p c.come_to.new.self c.in-Ok.value (Ok u) made there in
     worded_told (fuel_left_in self) (meant says self (with_turning to_text p) n) c.come_to.new.self text (told_there says self (with_turning to_text p) kept c.come_to.new.self (Ok u) whole tt n finished)
 
-pub returns-clause-remains : goal.returns-clause-remains
-returns-clause-remains g c = λ n finished.
+pub returns-in-Ok-print_to-clause-remains : goal.returns-in-Ok-print_to-clause-remains
+returns-in-Ok-print_to-clause-remains g c = λ n finished.
     let self = c.args.self.now in
     let says = (user_answers g.E.Callable.Callable.answer g.E.Method.UnknownMethod.answer g.E.Formatter.Formatter.answer g.E.Join.PathJoin.answer) in
     let rules = c.rules-rules.ensures in
@@ -152,15 +256,15 @@ returns-clause-remains g c = λ n finished.
     let kept = text_kept says self name c.args.args.now in
     let planned = found_there says self a name c.in_ok-given.given.items c.args.args.now (Ok c.in_ok-reached.reached) c.call_found.new.state same c.in_ok-given.ensures.ok
     (c.in_ok-reached.ensures.told (around_in says self)) in
-    let there = reached_there says self c.in_ok-reached.reached c.call_found.new.state p c.come_to.new.self (Ok c.in_ok-value.value) c.in_ok-reached.ensures.kept planned c.in_ok-value.ensures.does in
+    let there = reached_there says self c.in_ok-reached.reached c.call_found.new.state p c.come_to.new.self (Ok c.in-Ok.value) c.in_ok-reached.ensures.kept planned c.in-Ok.ensures.does in
     let text = c.print_to.new.out in
     let u = captured c.come_to.new.self.machine.escape (keeps (string_bytes text)) in
-    let made = text_turned c.come_to.new.self.machine c.in_ok-value.value u _ (string_bytes text) c.new-text.ensures.bytes c.in_ok-print_to.ensures refl in
-    let whole = printed_there says self p c.come_to.new.self c.in_ok-value.value (Ok u) made there in
+    let made = text_turned c.come_to.new.self.machine c.in-Ok.value u _ (string_bytes text) c.new-text.ensures.bytes c.in-Ok-print_to.ensures refl in
+    let whole = printed_there says self p c.come_to.new.self c.in-Ok.value (Ok u) made there in
     remains_there says self (with_turning to_text p) kept c.come_to.new.self u whole n finished
 
-pub returns-clause-world : goal.returns-clause-world
-returns-clause-world g c = λ n finished.
+pub returns-in-Ok-print_to-clause-world : goal.returns-in-Ok-print_to-clause-world
+returns-in-Ok-print_to-clause-world g c = λ n finished.
     let self = c.args.self.now in
     let says = (user_answers g.E.Callable.Callable.answer g.E.Method.UnknownMethod.answer g.E.Formatter.Formatter.answer g.E.Join.PathJoin.answer) in
     let rules = c.rules-rules.ensures in
@@ -171,9 +275,25 @@ returns-clause-world g c = λ n finished.
     let kept = text_kept says self name c.args.args.now in
     let planned = found_there says self a name c.in_ok-given.given.items c.args.args.now (Ok c.in_ok-reached.reached) c.call_found.new.state same c.in_ok-given.ensures.ok
     (c.in_ok-reached.ensures.told (around_in says self)) in
-    let there = reached_there says self c.in_ok-reached.reached c.call_found.new.state p c.come_to.new.self (Ok c.in_ok-value.value) c.in_ok-reached.ensures.kept planned c.in_ok-value.ensures.does in
+    let there = reached_there says self c.in_ok-reached.reached c.call_found.new.state p c.come_to.new.self (Ok c.in-Ok.value) c.in_ok-reached.ensures.kept planned c.in-Ok.ensures.does in
     let text = c.print_to.new.out in
     let u = captured c.come_to.new.self.machine.escape (keeps (string_bytes text)) in
-    let made = text_turned c.come_to.new.self.machine c.in_ok-value.value u _ (string_bytes text) c.new-text.ensures.bytes c.in_ok-print_to.ensures refl in
-    let whole = printed_there says self p c.come_to.new.self c.in_ok-value.value (Ok u) made there in
+    let made = text_turned c.come_to.new.self.machine c.in-Ok.value u _ (string_bytes text) c.new-text.ensures.bytes c.in-Ok-print_to.ensures refl in
+    let whole = printed_there says self p c.come_to.new.self c.in-Ok.value (Ok u) made there in
     world_there says self (with_turning to_text p) kept c.come_to.new.self u whole n finished
+
+pub returns-in-Err-print_to-clause-frames : goal.returns-in-Err-print_to-clause-frames
+returns-in-Err-print_to-clause-frames g c =
+    failed_frames c.args.self.now.machine c.come_to.new.self.machine c.failed-in-Err-print_to.new.self.machine c.in_ok-mark.mark c.in_ok-mark.ensures.marked c.failed-in-Err-print_to.ensures.put_back
+    (frames_behind c.in_ok-reached.reached c.args.self.now.machine c.call_found.new.state c.come_to.new.self.machine c.in_ok-reached.ensures.kept c.in-Ok.ensures.frames)
+
+pub returns-in-Err-print_to-clause-places : goal.returns-in-Err-print_to-clause-places
+returns-in-Err-print_to-clause-places g c =
+    failed_places c.args.self.now.machine c.come_to.new.self.machine c.failed-in-Err-print_to.new.self.machine c.in_ok-mark.mark c.failed-in-Err-print_to.ensures.put_back
+    (places_behind c.in_ok-reached.reached c.args.self.now.machine c.call_found.new.state c.come_to.new.self.machine c.in_ok-reached.ensures.kept c.in-Ok.ensures.places)
+
+pub returns-in-Ok-print_to-clause-frames : goal.returns-in-Ok-print_to-clause-frames
+returns-in-Ok-print_to-clause-frames g c = frames_behind c.in_ok-reached.reached c.args.self.now.machine c.call_found.new.state c.come_to.new.self.machine c.in_ok-reached.ensures.kept c.in-Ok.ensures.frames
+
+pub returns-in-Ok-print_to-clause-places : goal.returns-in-Ok-print_to-clause-places
+returns-in-Ok-print_to-clause-places g c = places_behind c.in_ok-reached.reached c.args.self.now.machine c.call_found.new.state c.come_to.new.self.machine c.in_ok-reached.ensures.kept c.in-Ok.ensures.places

@@ -1,3 +1,4 @@
+use Rattle.template_machine_meaning.proofs.Placed.{bodies_stay}
 use Rattle.template_machine_calls.specs.Left.{turnings_in}
 use Rattle.template_environment.specs.Extras.{user_answers}
 use Rattle.template_environment.proofs.Told.{reached_as, turned_quiet, turned_there}
@@ -18,3 +19,6 @@ returns-in-Enters-clause-does g c =
     let self = c.args.self.now in
     let says = (user_answers g.E.Callable.Callable.answer g.E.Method.UnknownMethod.answer g.E.Formatter.Formatter.answer g.E.Join.PathJoin.answer) in
     reached_as says self c.enter.new.self _ c.args.reached c.enter.result c.in-Enters.is c.enter.ensures.does
+
+pub returns-in-Value-clause-places : goal.returns-in-Value-clause-places
+returns-in-Value-clause-places g c = bodies_stay _

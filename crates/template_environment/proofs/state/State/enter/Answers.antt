@@ -18,3 +18,6 @@ returns-clause-no_write_failure g c = sink_quiet 0 c.run_entry-told.result c.run
 
 pub returns-clause-rest : goal.returns-clause-rest
 returns-clause-rest g c = record { environment = refl; template = refl; id = refl; fuel = c.spend-self.ensures.set }
+
+pub returns-clause-places : goal.returns-clause-places
+returns-clause-places g c = c.run_entry-told.ensures.keeps.blocks

@@ -15,3 +15,8 @@ pub returns-clause-text : goal.returns-clause-text
 returns-clause-text g c = λ n finished.
     text_done _ c.render_block_to_write.new.sink (λ text. string_bytes text) _ _ c.new-text.ensures.bytes
     (c.in_ok-render_block_to_write.ensures.renders n finished)
+
+pub returns-in_err-render_block_to_write-clause-remains : goal.returns-in_err-render_block_to_write-clause-remains
+returns-in_err-render_block_to_write-clause-remains g c = λ n finished.
+    let p = err_from_is_err_and c.from_residual.result c.from_residual.ensures.1 in
+    rw (p.1, p.2) (c.in_err-render_block_to_write.ensures.remains n finished)

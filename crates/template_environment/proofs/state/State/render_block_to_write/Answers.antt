@@ -32,3 +32,6 @@ returns-clause-world g c =
 
 pub returns-clause-rest : goal.returns-clause-rest
 returns-clause-rest g c = record { environment = refl; template = refl; id = refl; fuel = c.spend-self.ensures.set }
+
+pub returns-clause-places : goal.returns-clause-places
+returns-clause-places g c = c.run_block-done.ensures.keeps.blocks
