@@ -28,7 +28,7 @@ use Rattle.template_machine_meaning.specs.Records.{known_of}
 use Rattle.template_machine_meaning.specs.Replies.{kinded, told}
 use Rattle.template_machine_meaning.specs.Surroundings.{Programs, runners}
 use Rattle.template_machine_meaning.specs.Turnings.{Turning, to_text, to_truth, decided, turned_by}
-use Rattle.template_machine_meaning.specs.World.{Capture, Frame, World, keeps, looked_up, depth_of}
+use Rattle.template_machine_meaning.specs.World.{World, keeps, looked_up, depth_of}
 use Rattle.template_machine_meaning.proofs.Fair.{fair_found}
 use Rattle.template_machine_meaning.proofs.Outermost.{outermost_all}
 use Rattle.template_machine_meaning.proofs.Placed.{bodies_on, bodies_stay}
@@ -40,6 +40,7 @@ use Rattle.template_machine_calls.specs.declared.reached.Entry.{Entry}
 use Rattle.template_machine_calls.specs.declared.reached.Reached.{Reached}
 use Rattle.template_machine_calls.specs.declared.reached.Reached.TheVariants as reached
 use Rattle.template_machine_calls.specs.declared.rules.Rules.{Rules}
+use Rattle.template_machine_loop.proofs.Itself.{put_back_itself}
 use Rattle.template_machine_loop.proofs.Turned.{settled_turning, turned_does, turned_halts}
 use Rattle.template_machine_renders.specs.Outcomes.{TellsFailures}
 use Rattle.template_machine_renders.specs.Plans.{DoesPlan, PutsBack, replies_of, run_of}
@@ -157,12 +158,9 @@ want_left fuel left r result kinds want is = left_on fuel left r result kinds is
 
 -- what was open is so where nothing but temps is other, and where it was put back
 pub temps_put_back : (w v : World) → OnlyTemps w v → PutsBack w v
-temps_put_back w v only = subst (PutsBack w) (sym only) (record {
-  within = record w { held = v.held; temps = v.temps };
-  is = ap (λ (fs : List Frame). record w { held = v.held; temps = v.temps; frames = fs }) (sym (outermost_all (length w.frames) w.frames refl))
-      ∙ ap (λ (cs : List Capture). record w { held = v.held; temps = v.temps; frames = outermost (length w.frames) w.frames; captures = cs })
-      (sym (outermost_all (length w.captures) w.captures refl));
-})
+temps_put_back w v only =
+    subst (PutsBack w) (sym only)
+    (record { within = record w { temps = v.temps; held = v.held }; is = put_back_itself (record w { temps = v.temps; held = v.held }) })
 
 -- so are the frames; and the blocks run the bodies that they ran
 pub temps_frames : (w v : World) → OnlyTemps w v → v.frames ≡ w.frames

@@ -5,6 +5,7 @@ pub mod Restarts
 pub mod Wrapping
 pub mod Doing
 mod Finding
+pub mod Itself
 mod Within
 mod Lasting
 mod Parts

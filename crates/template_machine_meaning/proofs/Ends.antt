@@ -21,7 +21,7 @@ use Rattle.template_machine_meaning.specs.Keys as keys
 use Rattle.template_machine_meaning.specs.Keys.{Home, Stream, own, block_of, Part, whole, body_of, rounds_of, Key, whole_of, Head}
 use Rattle.template_machine_meaning.specs.Plans.{ran, restarted, with_beneath, parent_run, went_on, followed}
 use Rattle.template_machine_meaning.specs.Blocks.{is_among}
-use Rattle.template_machine_meaning.specs.Surroundings.{Programs, runners, gave_none, loop_left, answer}
+use Rattle.template_machine_meaning.specs.Surroundings.{Programs, runners, gave_none, answer}
 use Rattle.template_machine_meaning.specs.Meaning as meanings
 use Rattle.template_machine_meaning.specs.Meaning.{Standing, Setting, template_at, tree_in, tree_of, part_walk, head_of, walks_of, meaning}
 use Rattle.template_machine_meaning.specs.Laws.{AreAllRunnable, ListsAll, MayBegin, MayGoRound, MayStart, EveryKeyEnds, EveryRunEnds, OneMeaning}
@@ -29,7 +29,7 @@ use Rattle.template_machine_meaning.proofs.Bounds.{meanings_extend}
 use Rattle.template_machine_meaning.proofs.Settling.{Walk, Settles, Passes, Stops, settles_then, settles_now}
 use Rattle.template_machine_meaning.proofs.Keeping.{Keeps, Ran, keeps_itself, loops_of, met, unloaded, same_many, same_depth, top, IsFramed, behind_frame, on_loop_is}
 use Rattle.template_machine_meaning.proofs.Blocks.{Kept}
-use Rattle.template_machine_meaning.proofs.Loops.{Leave, goes, breaks_out, continues, loop_at, frame_at, InRound, AtEnd, asks_own, called_keeps, called_leaves}
+use Rattle.template_machine_meaning.proofs.Loops.{Leave, goes, breaks_out, continues, loop_at, frame_at, InRound, AtEnd, asks_own, called_leaves}
 use Rattle.template_machine_meaning.proofs.Statements.{LeavesTo, body_walk, round_of, settles_statements, settles_called_rounds, settles_macro}
 use Rattle.template_machine_meaning.proofs.Numbered.{MacroRuns, RoundsRun, IsIfFound, macro_runs, rounds_run}
 use Rattle.template_machine_meaning.proofs.Entering.{Finds, KeyEnds, KeyFaults, KeyComes, Starts, Rounded, Leaves, AllCome}
@@ -357,7 +357,7 @@ module _ (names : List (List ℕ)) (setting : Setting) (root : Option Standing) 
 
   -- the answer to the closing of its frame ends them
   rounds_end : (base w : World) (opened : Loop) (asked : ℕ) → opened.called ≡ true → InRound names base opened asked w → (otherwise : Statements) (n : ℕ)
-      → run (answer s n) (loop_end otherwise cut_short cut_short) w ≡ ended (ends []) (loop_left w (loop_at opened asked))
+      → run (answer s n) (loop_end otherwise cut_short cut_short) w ≡ ended (ends []) w
   rounds_end base w opened asked called inside no_statements n =
       ap (replied (λ a t. run (answer s n) (on_done cut_short a) t)) (called_leaves names s base w opened asked called inside n)
   rounds_end base w opened asked called inside (statements_more st ss) n =
@@ -403,24 +403,22 @@ module _ (names : List (List ℕ)) (setting : Setting) (root : Option Standing) 
       rounds_stop (inl p) =
           let asked : ℕ = p.shaped.0 in
           let l : Loop = loop_at g.loop asked in
-          let after : World = loop_left p.after l in
           inl (record {
             items = p.items;
             least = suc p.least;
             operands = [];
-            after = after;
+            after = p.after;
             kept = (
               l,
-              subst (λ (fs : List Frame). Keeps names (record w { frames = loop_frame l ∷ fs }) after) (sym (ap (λ (fs : List Frame). drop 1 fs) g.is))
-                  (called_keeps names under p.after g.loop asked p.shaped.1),
+              subst (λ (fs : List Frame). Keeps names (record w { frames = loop_frame l ∷ fs }) p.after) (sym (ap (λ (fs : List Frame). drop 1 fs) g.is)) p.shaped.1,
             );
             is = at_bound;
           })
         where
-          at_bound : (n : ℕ) → suc p.least ≤ n → Finds (runners s n (rounds_key stream number)) w (behind p.items (ended (ends []) (loop_left p.after (loop_at g.loop p.shaped.0))))
+          at_bound : (n : ℕ) → suc p.least ≤ n → Finds (runners s n (rounds_key stream number)) w (behind p.items (ended (ends []) p.after))
           at_bound zero le = absurd (omega arith)
           at_bound (suc n) le =
-              finds_part (rounds_of number) n w t (rounds_walk n r) (behind p.items (ended (ends []) (loop_left p.after (loop_at g.loop p.shaped.0)))) (found_walk n)
+              finds_part (rounds_of number) n w t (rounds_walk n r) (behind p.items (ended (ends []) p.after)) (found_walk n)
               (p.is n n (omega arith) (omega arith) (λ o. loop_end r.otherwise cut_short cut_short)
               ∙ ap (behind p.items) (rounds_end under p.after g.loop p.shaped.0 g.called p.shaped.1 r.otherwise n))
               (tree_of setting root stream) is

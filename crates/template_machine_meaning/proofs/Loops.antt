@@ -6,8 +6,9 @@ use Rattle.template_process.specs.Process.{next_item, close_loop, done, leaves, 
 use Rattle.template_process.specs.Trace.{paid, run, behind, replied}
 use Rattle.template_walk.specs.Statements.{Exits, rounds}
 use Rattle.template_machine_meaning.specs.World.{Loop, Frame, World, loop_frame, drop_given}
-use Rattle.template_machine_meaning.specs.Replies.{changed}
-use Rattle.template_machine_meaning.specs.Surroundings.{Programs, is_own, next_reply, is_held, loop_left, closed_reply, answer}
+use Rattle.template_machine_meaning.specs.Replies.{told, changed}
+use Rattle.template_machine_meaning.specs.Leaving.{is_held, loop_left}
+use Rattle.template_machine_meaning.specs.Surroundings.{Programs, is_own, next_reply, closed_reply, answer}
 use Rattle.template_machine_meaning.proofs.Settling.{Walk, Settles, settles_then, settles_now, settles_step, settles_before, settles_to}
 use Rattle.template_machine_meaning.proofs.Keeping.{Keeps, loops_of, Top, top, behind_frame, may_close, may_ask, on_loop_is}
 use Rattle.template_machine_meaning.proofs.Blocks.{Kept}
@@ -67,24 +68,17 @@ loop_closed names s base w own asked called floored inside shape Q next =
     let z : World = record (loop_left w l) { frames = t.rest } in
     settles_to s w z shape close_loop Q
     (λ n. on_loop_is w t.frame t.rest l t.frames (asks_own names base w own asked (inr floored) inside t) t.own (λ f k fs. closed_reply w k fs)
-    ∙ ap (λ b. if b then record { told = leaves; items = []; after = loop_left w l } else changed z done) called)
+    ∙ ap (λ b. if b then told w leaves else changed z done) called)
     (next z (left_keeps names base w own asked inside t l (is_held w l)))
 
 -- where its rounds were called its frame stays, and the run ends
-left_stays : (names : List (List ℕ)) (base w : World) (l : Loop) → Keeps names base w → (kept : Bool) → Keeps names base (left_by w l kept)
-left_stays names base w l k true = record { loops = k.loops; outer = k.outer; floor = k.floor; saved = k.saved; captures = k.captures; meets = k.meets; loads = k.loads; added = k.added }
-left_stays names base w l k false = record { loops = k.loops; outer = k.outer; floor = k.floor; saved = k.saved; captures = k.captures; meets = k.meets; loads = k.loads; added = k.added }
-
-pub called_keeps : (names : List (List ℕ)) (base w : World) (own : Loop) (asked : ℕ) → InRound names base own asked w → InRound names base own asked (loop_left w (loop_at own asked))
-called_keeps names base w own asked inside = left_stays names (behind_frame base (frame_at own asked)) w (loop_at own asked) inside (is_held w (loop_at own asked))
-
 pub called_leaves : (names : List (List ℕ)) (s : Programs) (base w : World) (own : Loop) (asked : ℕ) → own.called ≡ true → InRound names base own asked w
-    → (n : ℕ) → answer s n w close_loop ≡ record { told = leaves; items = []; after = loop_left w (loop_at own asked) }
+    → (n : ℕ) → answer s n w close_loop ≡ told w leaves
 called_leaves names s base w own asked called inside n =
     let t = top w (Some (loop_at own asked)) (loops_of base.frames) inside.loops in
     let l : Loop = loop_at own asked in
     on_loop_is w t.frame t.rest l t.frames (asks_own names base w own asked (inl called) inside t) t.own (λ f k fs. closed_reply w k fs)
-    ∙ ap (λ b. if b then record { told = leaves; items = []; after = loop_left w l } else changed (record (loop_left w l) { frames = t.rest }) done) called
+    ∙ ap (λ b. if b then told w leaves else changed (record (loop_left w l) { frames = t.rest }) done) called
 
 -- a round under a bound, over an item
 abbrev pub Round : Type 0

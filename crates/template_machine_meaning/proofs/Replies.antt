@@ -1,5 +1,5 @@
 -- The answers over one context are those over the other, where both agree on the names.
-use Rattle.std.proofs.Common.{◌≡◌, ℕ, inl, inr, zero, suc, ◌+◌, ◌-◌, Bool, true, false, nat_le, ◌==◌, ◌||◌, List, [], ◌∷◌, ◌++◌, length, Option, None, Some, Result, Ok, Err, map, refl, sym, ap, subst, ◌∙◌}
+use Rattle.std.proofs.Common.{◌≡◌, ℕ, inl, inr, zero, suc, ◌+◌, ◌-◌, Bool, true, false, nat_le, ◌==◌, ◌||◌, List, [], ◌∷◌, ◌++◌, length, take, Option, None, Some, Result, Ok, Err, map, refl, sym, ap, subst, ◌∙◌}
 use Rattle.std.specs.Prelude.{if◌then◌else◌, IsSome, is_some, nat_lt, slice_get, slice_set, unwrap_or}
 use Rattle.std.specs.Str.{bytes_eq}
 use Rattle.std.proofs.lemmas.Bool.{or_cases}
@@ -38,7 +38,7 @@ use Rattle.template_machine_meaning.specs.Modules.{module_of}
 use Rattle.template_machine_meaning.specs.Blocks.{block_within, lacks_body, body_plan, bodies_plan, block_plan, text_within, text_plan, block_called, super_within, behind_plan, super_in, super_from, super_called, is_among, loaded_head, loaded_as, loaded_named, load_plan}
 use Rattle.template_machine_meaning.specs.Macros.{handed_over, Bound, bound, macro_levels, macro_within, bound_plan, macro_plan, macro_made}
 use Rattle.template_machine_meaning.specs.Rounds.{loop_again, rounds_within, rounds_over, rounds_from, again_plan, innermost_loop, recursed, recurse_plan}
-use Rattle.template_machine_meaning.specs.Records.{loop_numbered, known_of, macro_of, loop_of}
+use Rattle.template_machine_meaning.specs.Records.{loops_of, loop_numbered, known_of, macro_of, loop_of}
 use Rattle.template_machine_meaning.specs.Undefined.{forbids_printing, forbids_iterating, forbids_truth, forbids_slicing, forbids_operator, forbids_link}
 use Rattle.template_machine_meaning.specs.Replies.{told, changed, refused, kinded, guarded, replied_with, changed_with}
 use Rattle.template_machine_meaning.specs.Keys as keys
@@ -50,11 +50,12 @@ use Rattle.template_machine_meaning.specs.Namespaces.{put_attribute, with_attrib
 use Rattle.template_machine_meaning.specs.Functions.{Invoked, filter_named, test_named, Called, gives, makes, compares, invokes, calls, runs_again, value_called, name_called, first_method, first_called}
 use Rattle.template_machine_meaning.specs.Calls.{are_as_before, view_of, with_temps, said, unknown, stated_plan, tested, answered_by, called_plan, further_plan, beyond, call_plan}
 use Rattle.template_machine_meaning.specs.Spreads.{items_of_each, merged_keywords}
-use Rattle.template_machine_meaning.specs.Surroundings.{printed_reply, escaped_reply, formatted_reply, format_reply, attribute_given, item_given, unpacked, unpacked_into, rounds_here, on_frames, on_own, on_loop, opened_loop, asked_once, next_reply, gave_none, is_held, loop_left, closed_reply, escape_named, escape_put_back, plan, respond}
+use Rattle.template_machine_meaning.specs.Leaving.{is_held, loop_left, loops_behind, held_among, given_behind}
+use Rattle.template_machine_meaning.specs.Surroundings.{printed_reply, escaped_reply, formatted_reply, format_reply, attribute_given, item_given, unpacked, unpacked_into, rounds_here, on_frames, on_own, on_loop, opened_loop, asked_once, next_reply, gave_none, closed_reply, escape_named, escape_put_back, plan, respond}
 use Rattle.template_machine_meaning.specs.Isolation.{IsNoLookup, AsksNoName, SaysNoName, AskNoNames}
 use Rattle.template_machine_meaning.proofs.Known as makings
 use Rattle.template_machine_meaning.proofs.Known.{Known, base, inner, Grows, with_name, stored, closed, cleared, opened, IsInner, learnt, Made, unmade, enclosed_of, made, Leaves, Encloses, IsSafe, May, Within}
-use Rattle.template_machine_meaning.proofs.Turned.{or_some, context_before, over_frames, over_context, Begun, grown_itself, grown_on, grown_appended, grown_taken, has_taken, IsHeld, is_called, FitsFrames, FitsIn, Fits, frames_grown, held_more, held_at, fits_less, fits_in, fits_grown, beneath_agrees, finds, same_all_loops, same_known, same_depth, same_innermost, pushes, many, frames_stored, frames_cleared, frames_closed, frames_writing, writing_over, outermost_over, frames_same, frames_own, frames_under}
+use Rattle.template_machine_meaning.proofs.Turned.{or_some, context_before, over_frames, over_context, Begun, grown_itself, grown_on, grown_appended, grown_taken, has_taken, IsHeld, is_called, FitsFrames, FitsIn, Fits, frames_grown, held_more, held_at, fits_less, fits_in, fits_grown, beneath_agrees, finds, same_loops, same_all_loops, same_known, same_depth, same_innermost, pushes, many, frames_stored, frames_cleared, frames_closed, frames_writing, writing_over, outermost_over, frames_same, frames_own, frames_under}
 
 -- the same over the context
 abbrev pub over_reply : Val → Reply World → Reply World
@@ -747,12 +748,6 @@ module _ (names : List ℕ → Type 0) (uses : Stream → ℕ → Among) (d : Va
     shut_so f gs is h = fits_in names uses d begun k (closed k) w gs fits (frames_closed names uses d w.closures begun.beneath k f gs is h)
 
     -- and a loop's: where its rounds were called the run ends
-    leaving_so : (x : Loop) → Grows start k → (b : Bool)
-        → Now (closed k) (record { told = leaves; items = []; after = if b then record w { closed = w.closed ++ x ∷ [] } else record w { given = drop_given x.number w.given } })
-        (record { told = leaves; items = []; after = if b then record other { closed = w.closed ++ x ∷ [] } else record other { given = drop_given x.number w.given } })
-    leaving_so x grows true = record { same = refl; left = λ t. fits_less names uses d begun start k w grows fits; fits = λ t. absurd t }
-    leaving_so x grows false = record { same = refl; left = λ t. fits_less names uses d begun start k w grows fits; fits = λ t. absurd t }
-
     ended_so : (x : Loop) (gs : List Frame) → Fits names uses d begun (closed k) (record w { frames = gs }) → (b : Bool)
         → Now (closed k) (changed (record (if b then record w { closed = w.closed ++ x ∷ [] } else record w { given = drop_given x.number w.given }) { frames = gs }) done)
         (changed (record (if b then record other { closed = w.closed ++ x ∷ [] } else record other { given = drop_given x.number w.given }) { frames = over_frames d gs }) done)
@@ -760,9 +755,9 @@ module _ (names : List ℕ → Type 0) (uses : Stream → ℕ → Among) (d : Va
     ended_so x gs h false = record { same = refl; left = λ t. absurd t; fits = λ t. h }
 
     closing_so : (f : Frame) (gs : List Frame) → IsInner k → Framed (f ∷ gs) → (x : Loop) → (x.called ≡ true → Grows start k) → (b : Bool) → x.called ≡ b
-        → Now (closed k) (if b then record { told = leaves; items = []; after = loop_left w x } else changed (record (loop_left w x) { frames = gs }) done)
-        (if b then record { told = leaves; items = []; after = loop_left other x } else changed (record (loop_left other x) { frames = over_frames d gs }) done)
-    closing_so f gs is h x grows true e = leaving_so x (grows e) (is_held w x)
+        → Now (closed k) (if b then told w leaves else changed (record (loop_left w x) { frames = gs }) done)
+        (if b then told other leaves else changed (record (loop_left other x) { frames = over_frames d gs }) done)
+    closing_so f gs is h x grows true e = record { same = refl; left = λ t. fits_less names uses d begun start k w (grows e) fits; fits = λ t. absurd t }
     closing_so f gs is h x grows false e = ended_so x gs (shut_so f gs is h) (is_held w x)
 
     -- what opens a frame, in a state of which so many loops were opened
@@ -868,13 +863,34 @@ module _ (names : List ℕ → Type 0) (uses : Stream → ℕ → Among) (d : Va
     include_back v = ap (λ (n : Option ℕ). with_writes n (outermost (length (over_frames d w.frames)) (over_frames d v.frames))) (same_writes d w.frames)
         ∙ ap (with_writes (writes_of w.frames)) (frames_back v) ∙ sym (writing_over names uses d (writes_of w.frames) (outermost (length w.frames) v.frames))
 
+    -- the same loops go
+    loops_back : (v : World) → loops_behind (length (over_frames d w.frames)) (over_context d v) ≡ loops_behind (length w.frames) v
+    loops_back v = ap (λ n. take (length (over_frames d v.frames) - n) (loops_of (over_frames d v.frames))) (many names uses d w.frames)
+        ∙ ap (λ n. take (n - length w.frames) (loops_of (over_frames d v.frames))) (many names uses d v.frames)
+        ∙ ap (λ (loops : List (Option Loop)). take (length v.frames - length w.frames) loops) (same_loops names uses d v.frames)
+
+    -- a world with these frames, where these loops went
+    abbrev back_with : World → World → List (Option Loop) → List Frame → World
+    back_with v after loops fs = record after { frames = fs; given = given_behind v.held loops v.given; closed = v.closed ++ held_among v.held loops }
+
+    back_over : (v after : World) (fs gs : List Frame) → fs ≡ over_frames d gs
+        → back_with v after (loops_behind (length (over_frames d w.frames)) (over_context d v)) fs ≡ back_with v after (loops_behind (length w.frames) v) (over_frames d gs)
+    back_over v after fs gs same = ap (λ (loops : List (Option Loop)). back_with v after loops fs) (loops_back v)
+        ∙ ap (λ (hs : List Frame). back_with v after (loops_behind (length w.frames) v) hs) same
+
+    kept_over : (v after : World) → back_with v after (loops_behind (length (over_frames d w.frames)) (over_context d v)) (outermost (length (over_frames d w.frames)) (over_frames d v.frames))
+        ≡ back_with v after (loops_behind (length w.frames) v) (over_frames d (outermost (length w.frames) v.frames))
+    kept_over v after = back_over v after (outermost (length (over_frames d w.frames)) (over_frames d v.frames)) (outermost (length w.frames) v.frames) (frames_back v)
+
     after_over : (p : Purpose) (v : World) → after_by p (caller_of other) (over_context d v) ≡ over_context d (after_by p (caller_of w) v)
-    after_over includes v = ap (λ (fs : List Frame). record (after_by includes (caller_of w) v) { frames = fs }) (include_back v)
-    after_over calls_block v = ap (λ (fs : List Frame). record (after_by calls_block (caller_of w) v) { frames = fs }) (frames_back v)
-    after_over takes_block v = ap (λ (fs : List Frame). record (after_by takes_block (caller_of w) v) { frames = fs }) (frames_back v)
-    after_over (calls_super named name place) v = ap (λ (fs : List Frame). record (after_by (calls_super named name place) (caller_of w) v) { frames = fs }) (frames_back v)
-    after_over calls_macro v = ap (λ (fs : List Frame). record (after_by calls_macro (caller_of w) v) { frames = fs }) (frames_back v)
-    after_over (runs_rounds named) v = ap (λ (fs : List Frame). record (after_by (runs_rounds named) (caller_of w) v) { frames = fs }) (frames_back v)
+    after_over includes v =
+        back_over v (after_by includes (caller_of w) v) (with_writes (writes_of (over_frames d w.frames)) (outermost (length (over_frames d w.frames)) (over_frames d v.frames)))
+        (with_writes (writes_of w.frames) (outermost (length w.frames) v.frames)) (include_back v)
+    after_over calls_block v = kept_over v (after_by calls_block (caller_of w) v)
+    after_over takes_block v = kept_over v (after_by takes_block (caller_of w) v)
+    after_over (calls_super named name place) v = kept_over v (after_by (calls_super named name place) (caller_of w) v)
+    after_over calls_macro v = kept_over v (after_by calls_macro (caller_of w) v)
+    after_over (runs_rounds named) v = kept_over v (after_by (runs_rounds named) (caller_of w) v)
 
     -- what comes of the same run over the context
     abbrev came_with : plans.Within → Run World → World → Answer → Reply World

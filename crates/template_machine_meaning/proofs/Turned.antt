@@ -360,7 +360,7 @@ module _ (names : List ℕ → Type 0) (uses : Stream → ℕ → Among) (d : Va
   pushes cs beneath k f (g ∷ fs) fits = refl
 
   -- the loops are the same, and what is known of records
-  same_loops : (fs : List Frame) → loops_of (over_frames d fs) ≡ loops_of fs
+  pub same_loops : (fs : List Frame) → loops_of (over_frames d fs) ≡ loops_of fs
   same_loops [] = refl
   same_loops (f ∷ fs) = ap (λ (loops : List (Option Loop)). f.loop ∷ loops) (same_loops fs)
 

@@ -9,6 +9,7 @@ pub mod Names
 pub mod Namespaces
 pub mod Closures
 pub mod Turnings
+pub mod Leaving
 pub mod Plans
 pub mod Includes
 pub mod Blocks

@@ -11,6 +11,7 @@ use Rattle.template_machine_meaning.specs.World.{Frame, World, has_room}
 use Rattle.template_machine_meaning.specs.Captures.{captured, innermost, around_innermost}
 use Rattle.template_machine_meaning.specs.Bodies.{Bodies, with_place}
 use Rattle.template_machine_meaning.specs.Closures.{writes_of}
+use Rattle.template_machine_meaning.specs.Leaving.{loops_behind, held_among, given_behind}
 use Rattle.template_machine_meaning.specs.Turnings.{Turning, turned_by, turned}
 use Rattle.template_machine_meaning.specs.Replies.{refused}
 use Rattle.template_machine_meaning.specs.Keys.{standing, Stream, own, Part, whole, Key, whole_of}
@@ -88,7 +89,8 @@ caller_of w = record {
 abbrev pub outermost : {X : Type 0} → ℕ → List X → List X
 outermost n xs = drop (length xs - n) xs
 
--- all else stays as the run within left it: what stands under the names of blocks, and the names of what was loaded, too
+-- all else stays as the run within left it: what stands under the names of blocks, and the names of what was loaded, too; and
+-- loops whose frames go stay known where their values may be held
 abbrev pub put_back : Caller → World → World
 put_back c v = record v {
   here = c.here;
@@ -102,6 +104,8 @@ put_back c v = record v {
   saved = c.saved;
   first = c.first;
   captures = outermost c.captures v.captures;
+  given = given_behind v.held (loops_behind c.frames v) v.given;
+  closed = v.closed ++ held_among v.held (loops_behind c.frames v);
 }
 
 -- the innermost frame writes this closure

@@ -26,8 +26,7 @@ pub use escapes::{pop_auto_escape, push_auto_escape};
 pub use exports::export_locals;
 pub use frames::{pop_frame, push_with};
 pub use loops::{
-    end_rounds, is_recursive, iterate, iterate_at_once, pop_loop_frame, push_did_not_iterate,
-    push_loop,
+    is_recursive, iterate, iterate_at_once, pop_loop_frame, push_did_not_iterate, push_loop,
 };
 pub use macros::{build_macro, enclose, get_closure};
 pub use names::{

@@ -1,29 +1,59 @@
 -- A loop that is closed stays known or is forgotten, as its value may be held or not.
-use Rattle.std.proofs.Common.{◌≡◌, ℕ, ◌==◌, Bool, true, false, List, [], ◌∷◌, ◌++◌, Result, Ok, Err, Option, None, Some, OnOk, IfSome, if◌then◌else◌, refl, sym, ap, ◌∙◌}
+use Rattle.std.proofs.Common.{◌≡◌, ℕ, ◌==◌, Bool, true, false, List, [], ◌∷◌, ◌++◌, reverse, Option, None, Some, IfSome, if◌then◌else◌, refl, sym, ap, ◌∙◌}
+use Rattle.std.proofs.lemmas.List.{append-nil}
+use Rattle.std.specs.Global.{Vec}
 use Rattle.std.specs.Option.{option_or}
 use Rattle.template_machine_meaning.specs.World.{Loop, World, drop_given}
 use Rattle.template_machine_meaning.specs.Records.{loop_numbered}
-use Rattle.template_machine_meaning.specs.Surroundings.{is_held, loop_left}
-use Rattle.template_machine_frames.specs.Frames.{around_innermost}
-use Rattle.template_machine_state.specs.Changes.{loop_closed, loop_forgotten, loop_kept}
+use Rattle.template_machine_meaning.specs.Leaving.{given_behind, held_among, is_held}
+use Rattle.template_machine_frames.specs.Frames.{Scopes, around_innermost, innermost_loop}
+use Rattle.template_machine_state.specs.Changes.{loop_closed}
+use Rattle.template_machine_state.specs.Cuts.{Calls, CutOne}
+use Rattle.template_machine_state.specs.declared.state.State.TheInside.{Inside}
+use Rattle.template_machine_state.proofs.Worlds.{capturing}
 
--- nothing but the frame is other than where the loop is left
-abbrev left_as : World → Loop → Bool → World
-left_as w l held =
-    record (if held then record w { closed = w.closed ++ l ∷ [] } else record w { given = drop_given l.number w.given }) {
-      frames = around_innermost w.frames;
-    }
+-- such are what `changed` was called with, and the loops that were closed
+left_as : (w : World) (l : Loop) (given : Calls) (closed : List Loop) (b : Bool) → given ≡ (if b then w.given else drop_given l.number w.given)
+    → closed ≡ w.closed ++ (if b then l ∷ [] else [])
+    → record w { frames = around_innermost w.frames; given = given; closed = closed }
+    ≡ record (if b then record w { closed = w.closed ++ l ∷ [] } else record w { given = drop_given l.number w.given }) { frames = around_innermost w.frames }
+left_as w l given closed true left kept =
+    ap (λ (gs : Calls). record w { frames = around_innermost w.frames; given = gs; closed = closed }) left
+    ∙ ap (λ (ls : List Loop). record w { frames = around_innermost w.frames; closed = ls }) kept
+left_as w l given closed false left kept =
+    ap (λ (gs : Calls). record w { frames = around_innermost w.frames; given = gs; closed = closed }) left
+    ∙ ap (λ (ls : List Loop). record w { frames = around_innermost w.frames; given = drop_given l.number w.given; closed = ls }) (kept ∙ append-nil w.closed)
 
-pub closed_kept : {X E : Type 0} (result : Result X E) (o : Option Loop) (w after : World) (b : Bool) → b ≡ true → IfSome o (λ l. b ≡ is_held w l)
-    → OnOk result (IfSome o (λ l. after ≡ loop_kept l w)) → OnOk result (IfSome o (λ l. after ≡ loop_closed l w))
-closed_kept (Ok x) (Some l) w after b held is kept = kept ∙ ap (left_as w l) (sym held ∙ is)
-closed_kept (Ok x) None w after b held is kept = tt
-closed_kept (Err e) o w after b held is kept = tt
+left_so : (w : World) (o : Option Loop) (given : Calls) (closed : List Loop) → given ≡ given_behind w.held (o ∷ []) w.given
+    → closed ≡ w.closed ++ held_among w.held (o ∷ [])
+    → IfSome o (λ l. record w { frames = around_innermost w.frames; given = given; closed = closed } ≡ loop_closed l w)
+left_so w (Some l) given closed left kept = left_as w l given closed (is_held w l) left kept
+left_so w None given closed left kept = tt
 
-pub closed_forgotten : (o : Option Loop) (w after : World) (b : Bool) → b ≡ false → IfSome o (λ l. b ≡ is_held w l)
-    → IfSome o (λ l. after ≡ loop_forgotten l w) → IfSome o (λ l. after ≡ loop_closed l w)
-closed_forgotten (Some l) w after b held is forgotten = forgotten ∙ ap (left_as w l) (sym held ∙ is)
-closed_forgotten None w after b held is forgotten = tt
+-- of the fields of a state that a loop's end changes there are such worlds
+abbrev pub scoping : Inside → Scopes → Calls → List Loop → World
+scoping i s given closed = record (capturing i (reverse i.captures.items)) {
+  frames = s.frames;
+  base = s.base;
+  floor = s.floor;
+  outer = s.outer;
+  closures = s.closures;
+  given = given;
+  closed = closed;
+}
+
+if_some : {X : Type 0} (o : Option X) (P Q : X → Type 0) → ((x : X) → P x → Q x) → IfSome o P → IfSome o Q
+if_some (Some x) P Q so is = so x is
+if_some None P Q so is = tt
+
+pub closed_so : (i : Inside) (s : Scopes) (given : Calls) (closed : Vec Loop) → CutOne i.held i.ctx i.given i.closed s given closed
+    → IfSome (innermost_loop i.ctx.frames) (λ l. scoping i s given closed.items ≡ loop_closed l (scoping i i.ctx i.given i.closed.items))
+closed_so i s given closed cut =
+    let w : World = scoping i i.ctx i.given i.closed.items in
+    if_some (innermost_loop i.ctx.frames) (λ l. record w { frames = around_innermost w.frames; given = given; closed = closed.items } ≡ loop_closed l w)
+    (λ l. scoping i s given closed.items ≡ loop_closed l w)
+    (λ l is. ap (λ (t : Scopes). scoping i t given closed.items) cut.rest ∙ is)
+    (left_so w (innermost_loop i.ctx.frames) given closed.items cut.forgotten cut.kept)
 
 found_here : (l : Loop) (number : ℕ) (b : Bool) (o p : Option Loop)
     → (if b then Some l else option_or o p) ≡ option_or (if b then Some l else o) p
@@ -44,17 +74,3 @@ loop_in_front l number xs ys is = ap (λ o. option_or o (loop_numbered number ys
 pub loop_behind : (o : Option Loop) (number : ℕ) (xs ys : List (Option Loop)) → None ≡ loop_numbered number xs → o ≡ loop_numbered number ys
     → o ≡ loop_numbered number (xs ++ ys)
 loop_behind o number xs ys none is = is ∙ ap (λ p. option_or p (loop_numbered number ys)) none ∙ sym (numbered_of_two number xs ys)
-
--- what becomes of one whose rounds were called
-pub ended_kept : {X E : Type 0} (result : Result X E) (o : Option Loop) (w after : World) (b : Bool) → b ≡ true → IfSome o (λ l. b ≡ is_held w l)
-    → OnOk result (IfSome o (λ l. after ≡ record w { closed = w.closed ++ l ∷ [] })) → OnOk result (IfSome o (λ l. after ≡ loop_left w l))
-ended_kept (Ok x) (Some l) w after b held is kept =
-    kept ∙ ap (λ h. if h then record w { closed = w.closed ++ l ∷ [] } else record w { given = drop_given l.number w.given }) (sym held ∙ is)
-ended_kept (Ok x) None w after b held is kept = tt
-ended_kept (Err e) o w after b held is kept = tt
-
-pub ended_forgotten : (o : Option Loop) (w after : World) (b : Bool) → b ≡ false → IfSome o (λ l. b ≡ is_held w l)
-    → IfSome o (λ l. after ≡ record w { given = drop_given l.number w.given }) → IfSome o (λ l. after ≡ loop_left w l)
-ended_forgotten (Some l) w after b held is forgotten =
-    forgotten ∙ ap (λ h. if h then record w { closed = w.closed ++ l ∷ [] } else record w { given = drop_given l.number w.given }) (sym held ∙ is)
-ended_forgotten None w after b held is forgotten = tt

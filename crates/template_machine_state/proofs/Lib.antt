@@ -1,7 +1,9 @@
 mod Innermost
 mod Named
-mod Closing
+mod Room
+mod Cutting
 mod Worlds
+mod Closing
 mod Stacks
 mod Enclosing
 pub mod Keeping

@@ -4,9 +4,13 @@
 
 mod caller;
 mod capture;
+mod entering;
+mod leaving;
 mod names;
 mod records;
+mod scopes;
 mod state;
+mod texts;
 mod written;
 
 pub use caller::Caller;
