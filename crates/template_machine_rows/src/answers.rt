@@ -1,5 +1,4 @@
 //! What comes of a case.
-use crate::brought::Brought;
 use crate::calls::ask;
 use crate::case::{Brings, Case, Escapes, Setting};
 use crate::described::{brought_of, joined_of};
@@ -11,6 +10,7 @@ use std::borrow::CowStr;
 use template_callables::Extension;
 use template_compiler_syntax::{SyntaxConfig, SyntaxConfigBuilder};
 use template_environment::Environment;
+use template_machine_rows_brought::Brought;
 use template_machine_surroundings::StateIds;
 use template_rows::unreadable;
 use template_values_core::{Entry, Value};

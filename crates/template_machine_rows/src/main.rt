@@ -96,20 +96,16 @@
 #![tactic(auto)]
 
 mod answers;
-mod brought;
 mod calls;
 mod case;
 mod described;
-mod formatted;
 mod invoked;
-mod joined;
 mod own;
 mod renders;
 mod report;
 mod steps;
 mod tellings;
 mod times;
-mod what;
 
 use crate::answers::answer;
 use crate::case::Case;

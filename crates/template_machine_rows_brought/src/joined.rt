@@ -1,7 +1,7 @@
 //! What a case says of the names that stand in templates.
 ghost use Rattle.std.specs.Prelude.{◌≡◌, ◌++◌, IfErr, IfOk, string_bytes};
 ghost use Rattle.template_values_errors.specs.Memory.{NoMemory};
-ghost use Rattle.template_machine_rows.specs.Joins.{joined_says, prefix_at, prefixes_in};
+ghost use Rattle.template_machine_rows_brought.specs.Joins.{joined_says, prefix_at, prefixes_in};
 
 use crate::what::fault;
 use std::alloc::Global;
@@ -10,14 +10,16 @@ use template_values_errors::{Error, ErrorKind};
 
 /// What a name means in a template.
 #[derive(Drop)]
-pub(crate) struct Joined {
-    pub(crate) alloc: Global,
-    pub(crate) means: Means,
+pub struct Joined {
+    /// What joined names are made with.
+    pub alloc: Global,
+    /// What all names mean.
+    pub means: Means,
 }
 
 /// What all names mean.
 #[derive(Drop)]
-pub(crate) enum Means {
+pub enum Means {
     /// The name behind the text that stands for the template; where none does, the name itself.
     Behind(Vec<(String, String)>),
     /// Nothing: a fault of a kind, and of the kind of its cause, if it has one.

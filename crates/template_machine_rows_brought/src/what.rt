@@ -10,8 +10,8 @@ ghost use Rattle.template_callables.specs.Answers.{Answers};
 ghost use Rattle.template_callables.specs.Callables as callables;
 ghost use Rattle.template_callables.specs.Callables.{finishes, goes_on};
 ghost use Rattle.template_callables.specs.Views.{seen_in};
-ghost use Rattle.template_machine_rows.specs.Says as says;
-ghost use Rattle.template_machine_rows.specs.Says.{behavior_name, escape_name, first_says, keyword_at, keyword_of, name_says, seen_says, what_says};
+ghost use Rattle.template_machine_rows_brought.specs.Says as says;
+ghost use Rattle.template_machine_rows_brought.specs.Says.{behavior_name, escape_name, first_says, keyword_at, keyword_of, name_says, seen_says, what_says};
 
 use std::alloc::Global;
 use template_callables::{Answer, CallView, Further, copy_all};
@@ -24,7 +24,7 @@ use template_values_operators::mul;
 
 /// What is answered.
 #[derive(Drop)]
-pub(crate) enum What {
+pub enum What {
     /// The list of the arguments.
     Arguments,
     /// The argument at a place, counted from 0; undefined, if there is none.
@@ -55,7 +55,7 @@ pub(crate) enum What {
 
 /// What is seen of the run.
 #[derive(Clone, Copy)]
-pub(crate) enum Seen {
+pub enum Seen {
     /// The name of the template that runs.
     Template,
     /// The escape in force.
@@ -68,7 +68,7 @@ pub(crate) enum Seen {
 
 /// What is made of the first argument.
 #[derive(Drop)]
-pub(crate) enum First {
+pub enum First {
     /// Itself.
     Itself,
     /// Its text, as one that is written without escapes.
@@ -89,7 +89,7 @@ pub(crate) enum First {
 
 /// What is done by a name, with the other arguments.
 #[derive(Clone, Copy)]
-pub(crate) enum Named {
+pub enum Named {
     /// The filter of the name is applied to them.
     Filter,
     /// The test of the name is asked of them.
@@ -106,7 +106,7 @@ pub(crate) enum Named {
 
 impl What {
     /// The answer to arguments.
-    pub(crate) fn answer(
+    pub fn answer(
         &self,
         alloc: Global,
         view: &CallView<'_>,

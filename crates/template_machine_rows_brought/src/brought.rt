@@ -6,7 +6,7 @@ ghost use Rattle.template_values_model.specs.Val as values;
 ghost use Rattle.template_values_named.specs.Named.{local_at, pairs_named};
 ghost use Rattle.template_callables.specs.Answers.{Answers, stated_by, temps_in};
 ghost use Rattle.template_callables.specs.Views.{seen_in};
-ghost use Rattle.template_machine_rows.specs.Brings.{SetsFirst, before, brought_says, first_set, methods_say, one_more};
+ghost use Rattle.template_machine_rows_brought.specs.Brings.{SetsFirst, before, brought_says, first_set, methods_say, one_more};
 
 use crate::what::What;
 use std::alloc::Global;
@@ -17,13 +17,15 @@ use template_values_operators::add;
 
 /// What a case brings under a name.
 #[derive(Drop)]
-pub(crate) struct Brought {
-    pub(crate) alloc: Global,
+pub struct Brought {
+    /// What its answers are made with.
+    pub alloc: Global,
     /// What is set among the temps first, in turn.
-    pub(crate) sets: Vec<(String, Value)>,
+    pub sets: Vec<(String, Value)>,
     /// The name under which the temps have the number of the calls, if these are counted.
-    pub(crate) counts: Option<String>,
-    pub(crate) what: What,
+    pub counts: Option<String>,
+    /// What it answers.
+    pub what: What,
 }
 
 impl Callable for Brought {
