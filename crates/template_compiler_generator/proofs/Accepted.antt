@@ -1,11 +1,12 @@
 -- What is generated onto no code is the piece alone; and what is accepted of it.
-use Rattle.std.proofs.Common.{◌≡◌, List, [], ◌++◌, length, Result, Ok, Err, IfOk, inl, inr, ap, ◌∙◌}
+use Rattle.std.proofs.Common.{◌≡◌, List, [], ◌++◌, length, Result, Ok, Err, IfOk, inl, inr, ap, sym, subst, ◌∙◌}
 use Rattle.template_values_errors.specs.declared.ErrorKind.{ErrorKind}
 use Rattle.template_tree.specs.Tree.{Statement, template}
 use Rattle.template_walk.specs.Runnable.{IsRunnableTemplate}
 use Rattle.template_code.specs.Code.{Code}
 use Rattle.template_code.specs.Listing.{TakesNoMore}
-use Rattle.template_code_checked.specs.Checked.{kind_in}
+use Rattle.template_code.specs.declared.listing.Instructions.{Instructions}
+use Rattle.template_code_checked.specs.Checked.{kind_in, stream_in}
 use Rattle.template_code_shapes.specs.Streams.{IsGood}
 use Rattle.template_code_shapes.specs.declared.StreamKind.TheVariants.{Template}
 use Rattle.template_code_checked.specs.declared.checked.Checked.{Checked}
@@ -27,6 +28,12 @@ pub told_template : (result : Result Checked (List ErrorKind)) (code : List Code
     → IfOk result (λ checked. IsGood Template code → kind_in checked ≡ Template) → IfOk result (λ checked. kind_in checked ≡ Template)
 told_template (Ok checked) code good first = first good
 told_template (Err kinds) code good first = tt
+
+-- what is so of the instructions is so of the stream that was accepted
+pub told_stream : (P : Instructions → Type 0) (result : Result Checked (List ErrorKind)) (i : Instructions) → P i
+    → IfOk result (λ checked. stream_in checked ≡ i) → IfOk result (λ checked. P (stream_in checked))
+told_stream P (Ok checked) i holds is = subst P (sym is) holds
+told_stream P (Err kinds) i holds is = tt
 
 -- code that takes no further instruction has no room
 pub no_room : (code : List Code) {kinds : List ErrorKind} → TakesNoMore code kinds → NoRoom kinds

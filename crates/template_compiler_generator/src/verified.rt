@@ -1,7 +1,7 @@
 //! What is generated for a tree is accepted by the check of streams.
 
 ghost use Rattle.std.specs.Prelude.{◌≡◌, IfOk, IfErr};
-ghost use Rattle.template_code.specs.Listing.{code_in};
+ghost use Rattle.template_code.specs.Listing.{code_in, name_in, source_in};
 ghost use Rattle.template_code_checked.specs.Checked.{kind_in, stream_in};
 ghost use Rattle.template_code_shapes.specs.Streams.{IsGood};
 ghost use Rattle.template_code_shapes.specs.declared.StreamKind.{StreamKind};
@@ -74,6 +74,8 @@ pub fn verified_template<'source>(
     requires { IsRunnableTree (statement_of tree.now) }
     ensures code { IfOk result (λ checked. code_in (stream_in checked) ≡ numbered_in (template_code (body_in (statement_of tree.now)))) }
     ensures kind { IfOk result (λ checked. kind_in checked ≡ StreamKind.Template) }
+    ensures file { IfOk result (λ checked. name_in (stream_in checked) ≡ file.now) }
+    ensures source { IfOk result (λ checked. source_in (stream_in checked) ≡ source.now) }
     ensures refused { IfErr result NoRoom }
 {
     templates_are_accepted();
@@ -97,6 +99,8 @@ pub fn verified_expression<'source>(
 ) -> Result<Checked<'source>, Error>
     requires { IsRunnable (expression_of expr.now) }
     ensures code { IfOk result (λ checked. code_in (stream_in checked) ≡ numbered_in (standalone_code (expression_of expr.now))) }
+    ensures file { IfOk result (λ checked. name_in (stream_in checked) ≡ file.now) }
+    ensures source { IfOk result (λ checked. source_in (stream_in checked) ≡ source.now) }
     ensures refused { IfErr result NoRoom }
 {
     expressions_are_accepted();

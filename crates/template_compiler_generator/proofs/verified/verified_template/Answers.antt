@@ -1,13 +1,13 @@
-use Rattle.std.proofs.Common.{List, ap, sym, subst, rules}
+use Rattle.std.proofs.Common.{List, ◌≡◌, ap, sym, subst, ◌∙◌, rules}
 use Rattle.template_code.specs.Code.{Code}
-use Rattle.template_code.specs.Listing.{code_in}
+use Rattle.template_code.specs.Listing.{code_in, name_in, source_in}
 use Rattle.template_code_shapes.specs.Streams.{IsGood}
 use Rattle.template_code_shapes.specs.declared.StreamKind.TheVariants.{Template}
 use Rattle.template_compiler_generator.specs.Drafts.{Draft}
 use Rattle.template_compiler_generator.specs.View.{draft_of}
 use Rattle.template_compiler_statement_codegen.specs.Listed.{body_in}
 use Rattle.template_tree_statements.specs.View.{statement_of}
-use Rattle.template_compiler_generator.proofs.Accepted.{no_room, runnable_body, told_template}
+use Rattle.template_compiler_generator.proofs.Accepted.{no_room, runnable_body, told_stream, told_template}
 use Rattle.template_compiler_generator.proofs.verified.verified_template.Goals as goal
 
 pub accepted-requires : goal.accepted-requires
@@ -25,6 +25,16 @@ returns-clause-kind c =
     (ap (λ (d : Draft). d.code) c.new-generator.ensures.draft) c.in_ok-compile_stmt.ensures.added in
     let P : List Code → Type 0 = λ code. IsGood Template code in
     told_template c.accepted.result (code_in c.in_ok-instructions.instructions) (subst P (sym c.in_ok-instructions.ensures.code) good) c.accepted.ensures.first
+
+pub returns-clause-file : goal.returns-clause-file
+returns-clause-file c =
+    told_stream (λ i. name_in i ≡ c.args.file.now) c.accepted.result c.in_ok-instructions.instructions
+    (c.in_ok-instructions.ensures.name ∙ c.in_ok-compile_stmt.ensures.added.name ∙ ap (λ (d : Draft). d.name) c.new-generator.ensures.draft) c.accepted.ensures.stream
+
+pub returns-clause-source : goal.returns-clause-source
+returns-clause-source c =
+    told_stream (λ i. source_in i ≡ c.args.source.now) c.accepted.result c.in_ok-instructions.instructions
+    (c.in_ok-instructions.ensures.source ∙ c.in_ok-compile_stmt.ensures.added.source ∙ ap (λ (d : Draft). d.source) c.new-generator.ensures.draft) c.accepted.ensures.stream
 
 pub returns-in_err-compile_stmt-clause-refused : goal.returns-in_err-compile_stmt-clause-refused
 returns-in_err-compile_stmt-clause-refused c =
