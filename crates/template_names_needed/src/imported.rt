@@ -11,7 +11,7 @@ use std::alloc::{AllocError, Global};
 use template_tree::Expr;
 use template_tree_statements::Stmt;
 
-/// The names that statements import from others, in order. Linear.
+/// The names that statements import from others; one that is imported again may stand there again. Linear.
 ///
 /// # Errors
 ///
