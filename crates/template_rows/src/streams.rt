@@ -1,8 +1,9 @@
 //! Inputs and outputs that fail.
-ghost use Rattle.std.specs.Prelude.{◌≡◌, ◌-◌, [], None, Some, IfErr, IfOk, OnOk, min, length};
+ghost use Rattle.std.specs.Prelude.{◌≡◌, ◌⊎◌, ◌-◌, [], None, Some, IfErr, IfOk, OnErr, OnOk, min, length};
 ghost use Rattle.std.specs.Io.{WritesAtMost, ReadsAtMost};
 ghost use Rattle.std.specs.IoError.{error_kind};
 ghost use Rattle.std.specs.Io.KnownBytes.{Keeps, ReadConsumes, WriteAppends};
+ghost use Rattle.std.specs.declared.io.ErrorKind.{ErrorKind as Failure};
 
 use std::alloc::{AllocError, Global};
 use std::io::{self, Read, Write};
@@ -29,8 +30,10 @@ impl Read for Input<'_> {
         ensures bound { ReadsAtMost result buf.new }
         ensures bytes { ReadConsumes (Some self.old.bytes.now) (Some self.new.bytes.now) result buf.new }
         ensures pieces { IfOk result (λ n. n ≡ min (min (length buf.old) 3) (length self.old.bytes.now)) }
-        ensures fails { IfErr result (λ e. self.old.fails ≡ Some (error_kind e)) }
+        ensures fails { IfErr result (λ e. (self.old.bytes.now ≡ []) × (self.old.fails ≡ Some (error_kind e))) }
         ensures once { IfErr result (λ _. self.new.fails ≡ None) }
+        ensures kept { OnOk result (self.new.fails ≡ self.old.fails) }
+        ensures ends { OnOk result (self.old.bytes.now ≡ [] → self.old.fails ≡ None) }
     {
         if self.bytes.is_empty() {
             return match self.fails.take() {
@@ -82,6 +85,11 @@ impl Write for Output {
         ensures bytes { WriteAppends (Some self.old.bytes.items) (Some self.new.bytes.items) result buf.now }
         ensures pieces { IfOk result (λ n. n ≡ min (min (length buf.now) self.old.room) 3) }
         ensures room { IfOk result (λ n. self.new.room ≡ self.old.room - n) }
+        ensures fails { IfErr result (λ e. ((self.old.room ≡ 0) × (self.old.write_fails ≡ Some (error_kind e)))
+            ⊎ (error_kind e ≡ Failure.OutOfMemory)) }
+        ensures full { OnOk result (self.old.room ≡ 0 → self.old.write_fails ≡ None) }
+        ensures left { OnErr result (self.new.room ≡ self.old.room) }
+        ensures same { (self.new.write_fails ≡ self.old.write_fails) × (self.new.flush_fails ≡ self.old.flush_fails) }
     {
         if let (0, Some(kind)) = (self.room, self.write_fails) {
             return Err(io::Error::from(kind));
