@@ -1,5 +1,5 @@
 //! Values under names that all runs know.
-ghost use Rattle.std.specs.Prelude.{◌≡◌, ◌||◌, ℕ, List, [], None, Some, IfOk, IfErr, OnOk, OnErr, bytes_eq, false, if◌then◌else◌, is_some, map, option_copied};
+ghost use Rattle.std.specs.Prelude.{◌≡◌, ◌||◌, ℕ, List, [], None, Some, IsTrue, IfOk, IfErr, OnOk, OnErr, bytes_eq, false, if◌then◌else◌, is_some, map, option_copied};
 ghost use Rattle.std.specs.BTreeSet.{contains_text};
 ghost use Rattle.std.specs.Cmp.Lexicographic.{slice_cmp};
 ghost use Rattle.std.specs.List.Sorted.{IsStrictlySortedBy};
@@ -138,10 +138,14 @@ impl Globals {
     ///
     /// # Errors
     ///
-    /// [`ErrorKind::OutOfMemory`](template_values_errors::ErrorKind::OutOfMemory); some of the names may then have been added.
+    /// [`ErrorKind::OutOfMemory`](template_values_errors::ErrorKind::OutOfMemory); some of the names may then have been added,
+    /// and no others.
     pub fn add_names(&self, alloc: Global, names: &mut BTreeSet<String>) -> Result<(), Error>
         ensures added { OnOk result ((q : List ℕ) → contains_text names.new q
             ≡ (contains_text names.old q || is_some (local_at q self.now.named))) }
+        ensures kept { OnErr result ((q : List ℕ) → IsTrue (contains_text names.old q) → IsTrue (contains_text names.new q)) }
+        ensures others { OnErr result ((q : List ℕ) → IsTrue (contains_text names.new q)
+            → IsTrue (contains_text names.old q || is_some (local_at q self.now.named))) }
         ensures refused { IfErr result NoMemory }
     {
         self.named.add_names(alloc, names)

@@ -1,5 +1,5 @@
 -- The entries of a map of names, one after another.
-use Rattle.std.proofs.Common.{◌≡◌, ◌∙◌, ap, sym, subst, refl, Bool, true, false, ◌||◌, cond, ℕ, List, [], ◌∷◌, ◌++◌, map, Option, Some, bytes_eq, string_bytes, Less}
+use Rattle.std.proofs.Common.{◌≡◌, ◌∙◌, ap, sym, subst, refl, Bool, true, false, ◌||◌, cond, ℕ, List, [], ◌∷◌, ◌++◌, map, Option, Some, IsTrue, bytes_eq, string_bytes, Less}
 use Rattle.std.specs.Prelude.{is_some, String}
 use Rattle.std.specs.Borrow.{Bor}
 use Rattle.std.specs.BTreeMap.{BTreeMap, IsOrdered}
@@ -54,6 +54,26 @@ pub more_named : (q : List ℕ) (xs : List (Bor (String Global) × Bor Val)) (x 
 more_named q xs x old before new so_far step =
     step ∙ ap (λ b. b || bytes_eq (string_bytes x.0.now) q) so_far ∙ or_assoc old (has_name q (shown xs)) (bytes_eq (string_bytes x.0.now) q)
     ∙ ap (λ b. old || b) (sym (any_push q (shown xs) (string_bytes x.0.now, x.1.now)) ∙ ap (has_name q) (sym (shown_push xs x)))
+
+or_more : (a b c : Bool) → (IsTrue b → IsTrue c) → IsTrue (a || b) → IsTrue (a || c)
+or_more true b c more h = refl
+or_more false b c more h = more h
+
+-- a name of the first is one of all
+named_first : (q : List ℕ) (es rest : List (String Global × Val)) → IsTrue (has_name q (pairs_named es)) → IsTrue (has_name q (pairs_named (es ++ rest)))
+named_first q [] rest h = cc
+named_first q (e ∷ es) rest h =
+    or_more (bytes_eq (string_bytes e.0) q) (has_name q (pairs_named es)) (has_name q (pairs_named (es ++ rest))) (named_first q es rest) h
+
+-- those so far came to the others, and no more
+pub some_kept : (old so_far new : Bool) → new ≡ (old || so_far) → IsTrue old → IsTrue new
+some_kept old so_far new is h = is ∙ ap (λ b. b || so_far) h
+
+pub some_named : (q : List ℕ) (xs : List (Bor (String Global) × Bor Val)) (all rest : List (String Global × Val)) (old new : Bool)
+    → all ≡ map deref_pair xs ++ rest → new ≡ (old || has_name q (shown xs)) → IsTrue new → IsTrue (old || is_some (local_at q (pairs_named all)))
+some_named q xs all rest old new whole is h =
+    or_more old (has_name q (shown xs)) (is_some (local_at q (pairs_named all))) (λ some. sym (name_found q (pairs_named all))
+    ∙ ap (λ es. has_name q (pairs_named es)) whole ∙ named_first q (map deref_pair xs) rest some) (sym is ∙ h)
 
 -- the names ascend as the keys do
 all_below : (k : String Global) (es : List (String Global × Val)) → AllByRecursion (λ y. string_cmp k y ≡ Less) (keys_of es)

@@ -1,18 +1,22 @@
 -- What a name has in a map of names, and in the list that a contract sees of it.
-use Rattle.std.proofs.Common.{◌≡◌, ◌∙◌, ap, sym, refl, Bool, true, false, cond, ℕ, List, [], ◌∷◌, ◌++◌, Option, Some, bytes_eq, string_bytes, Less, Equal, Greater}
+use Rattle.std.proofs.Common.{◌≡◌, ◌∙◌, ap, sym, refl, Bool, true, false, cond, ℕ, List, [], ◌∷◌, ◌++◌, Option, Some, Result, Ok, Err, OnErr, bytes_eq, string_bytes, Less, Equal, Greater}
 use Rattle.std.specs.BTreeMap as tree
 use Rattle.std.specs.BTreeMap.{BTreeMap, get_by_text, insert_entry, is_at}
 use Rattle.std.specs.Cmp.Lexicographic.{slice_cmp}
+use Rattle.std.specs.Iterator.{Yields}
 use Rattle.std.specs.Map.{lookup, remove_entry}
 use Rattle.std.specs.Ordering.{nat_cmp, is_eq, match_ordering}
 use Rattle.std.specs.declared.cmp.Ordering.{Ordering}
 use Rattle.std.specs.Prelude.{String}
 use Rattle.std.specs.String.{string_cmp}
+use Rattle.std.specs.Vec.Iter.{into_iter_items, into_iter_steps}
 use Rattle.std.specs.declared.alloc.Global.{Global}
+use Rattle.std.specs.declared.vec.IntoIter.{IntoIter}
+use Rattle.std.proofs.lemmas.List.{map-append}
 use Rattle.std.proofs.lemmas.Map.Text.{btree_map_updates_text, is_eq-slice_cmp}
 use Rattle.std.proofs.lemmas.Slice.Eq.{bytes_eq-Decides}
 use Rattle.template_values_model.specs.Val.{Val}
-use Rattle.template_values_named.specs.Named.{local_at, named_in, pairs_named, with_named, with_all_named}
+use Rattle.template_values_named.specs.Named.{PutsSome, local_at, named_in, pairs_named, with_named, with_all_named}
 
 bytes_eq-turned : (xs ys : List ℕ) → bytes_eq xs ys ≡ bytes_eq ys xs
 bytes_eq-turned xs ys = by (bytes_eq xs ys) (bytes_eq ys xs) refl refl
@@ -75,3 +79,23 @@ pub all_next : (ys : List (String Global × Val)) (k : String Global) (v : Val) 
     → with_all_named (pairs_named (ys ++ (k, v) ∷ [])) named ≡ with_named (string_bytes k) v (with_all_named (pairs_named ys) named)
 all_next [] k v named = refl
 all_next (y ∷ ys) k v named = all_next ys k v (with_named (string_bytes y.0) y.1 named)
+
+-- what an iterator over the names has given comes first of what it had
+given_first : (ys : List (String Global × Val)) (s t : IntoIter (String Global × Val) Global) → Yields into_iter_steps s ys t
+    → into_iter_items s ≡ ys ++ into_iter_items t
+given_first [] s t is = ap into_iter_items is
+given_first (y ∷ ys) s t turns = turns.1.0 ∙ ap (λ es. y ∷ es) (given_first ys turns.0 t turns.2)
+
+-- those that it has given have their values
+pub some_put : (all ys : List (String Global × Val)) (s t : IntoIter (String Global × Val) Global) (before after : List (List ℕ × Val))
+    → into_iter_items s ≡ all → Yields into_iter_steps s ys t → after ≡ with_all_named (pairs_named ys) before → PutsSome (pairs_named all) before after
+some_put all ys s t before after start turns put = record {
+  some = pairs_named ys;
+  rest = pairs_named (into_iter_items t);
+  all = ap pairs_named (sym start ∙ given_first ys s t turns) ∙ map-append (λ e. (string_bytes e.0, e.1)) ys (into_iter_items t);
+  put = put;
+}
+
+pub on_err : {T E : Type 0} (P : Type 0) (r : Result T E) → P → OnErr r P
+on_err P (Ok value) holds = tt
+on_err P (Err error) holds = holds

@@ -1,5 +1,5 @@
 -- Names with their values.
-use Rattle.std.specs.Prelude.{ℕ, List, [], ◌∷◌, Option, None, Some, String, map, string_bytes, if◌then◌else◌}
+use Rattle.std.specs.Prelude.{◌≡◌, ℕ, List, [], ◌∷◌, ◌++◌, Option, None, Some, String, map, string_bytes, if◌then◌else◌}
 use Rattle.std.specs.BTreeMap.{BTreeMap, insert_entry}
 use Rattle.std.specs.Cmp.Lexicographic.{slice_cmp}
 use Rattle.std.specs.Ordering.{nat_cmp}
@@ -20,6 +20,13 @@ with_named name v named = insert_entry (slice_cmp nat_cmp) named name v
 abbrev pub with_all_named : List (List ℕ × Val) → List (List ℕ × Val) → List (List ℕ × Val)
 with_all_named [] named = named
 with_all_named (g ∷ given) named = with_all_named given (with_named g.0 g.1 named)
+
+-- some of the first of the names have their values, in turn, and nothing else changed
+pub record PutsSome (given before after : List (List ℕ × Val)) : Type 0 where
+  pub some : List (List ℕ × Val)
+  pub rest : List (List ℕ × Val)
+  pub all : given ≡ some ++ rest
+  pub put : after ≡ with_all_named some before
 
 -- what contracts see of names with values
 abbrev pub pairs_named : List (String Global × Val) → List (List ℕ × Val)

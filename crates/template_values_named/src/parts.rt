@@ -1,5 +1,5 @@
 //! What a map of names has.
-ghost use Rattle.std.specs.Prelude.{◌≡◌, ◌||◌, ℕ, List, IfOk, IfErr, OnOk, bytes_eq, is_some, map};
+ghost use Rattle.std.specs.Prelude.{◌≡◌, ◌||◌, ℕ, List, IsTrue, IfOk, IfErr, OnErr, OnOk, bytes_eq, is_some, map};
 ghost use Rattle.std.specs.BTreeSet.{contains_text};
 ghost use Rattle.std.specs.Cmp.Lexicographic.{slice_cmp};
 ghost use Rattle.std.specs.List.Sorted.{IsStrictlySortedBy};
@@ -29,7 +29,7 @@ pub(crate) fn entries_of(
     Ok(entries)
 }
 
-// Adds the names.
+// Adds the names. At an error some of them may have been added, and no others.
 pub(crate) fn add_names(
     alloc: Global,
     names: &mut BTreeSet<String>,
@@ -37,6 +37,9 @@ pub(crate) fn add_names(
 ) -> Result<(), Error>
     ensures added { OnOk result ((q : List ℕ) → contains_text names.new q
         ≡ (contains_text names.old q || is_some (local_at q (named_in named.now)))) }
+    ensures kept { OnErr result ((q : List ℕ) → IsTrue (contains_text names.old q) → IsTrue (contains_text names.new q)) }
+    ensures others { OnErr result ((q : List ℕ) → IsTrue (contains_text names.new q)
+        → IsTrue (contains_text names.old q || is_some (local_at q (named_in named.now)))) }
     ensures refused { IfErr result NoMemory }
 {
     for (name, _value) in named {
@@ -45,9 +48,10 @@ pub(crate) fn add_names(
     Ok(())
 }
 
-// Adds a name.
+// Adds a name. At an error the names are as they were.
 fn add_name(alloc: Global, names: &mut BTreeSet<String>, name: &str) -> Result<(), Error>
     ensures added { OnOk result ((q : List ℕ) → contains_text names.new q ≡ (contains_text names.old q || bytes_eq name.now q)) }
+    ensures unchanged { OnErr result ((q : List ℕ) → contains_text names.new q ≡ contains_text names.old q) }
     ensures refused { IfErr result NoMemory }
 {
     names.insert(String::from_str(alloc, name)?)?;

@@ -1,5 +1,5 @@
 //! Values under names, in the order of the names.
-ghost use Rattle.std.specs.Prelude.{◌≡◌, ◌||◌, ℕ, List, [], None, Some, IfOk, IfErr, OnOk, OnErr, bytes_eq, if◌then◌else◌, is_some, map, option_copied, string_bytes};
+ghost use Rattle.std.specs.Prelude.{◌≡◌, ◌||◌, ℕ, List, [], None, Some, IsTrue, IfOk, IfErr, OnOk, OnErr, bytes_eq, if◌then◌else◌, is_some, map, option_copied, string_bytes};
 ghost use Rattle.std.specs.BTreeSet.{contains_text};
 ghost use Rattle.std.specs.Cmp.Lexicographic.{slice_cmp};
 ghost use Rattle.std.specs.List.Sorted.{IsStrictlySortedBy};
@@ -7,7 +7,7 @@ ghost use Rattle.std.specs.Map.{remove_entry};
 ghost use Rattle.std.specs.Map.Iter.{deref_pair};
 ghost use Rattle.std.specs.Ordering.{nat_cmp};
 ghost use Rattle.template_values_errors.specs.Memory.{NoMemory};
-ghost use Rattle.template_values_named.specs.Named.{local_at, pairs_named, with_named, with_all_named};
+ghost use Rattle.template_values_named.specs.Named.{PutsSome, local_at, pairs_named, with_named, with_all_named};
 
 use crate::parts::{add_names, entries_of};
 use std::alloc::Global;
@@ -96,9 +96,11 @@ impl NamedValues {
     ///
     /// # Errors
     ///
-    /// [`ErrorKind::OutOfMemory`](template_values_errors::ErrorKind::OutOfMemory); some of the first may then have their values.
+    /// [`ErrorKind::OutOfMemory`](template_values_errors::ErrorKind::OutOfMemory); some of the first may then have their values,
+    /// and no others.
     pub fn insert_all(&mut self, values: Vec<(String, Value)>) -> Result<(), Error>
         ensures put { OnOk result (self.new ≡ with_all_named (pairs_named values.items) self.old) }
+        ensures partial { OnErr result (PutsSome (pairs_named values.items) self.old self.new) }
         ensures refused { IfErr result NoMemory }
     {
         for (name, value) in values {
@@ -134,10 +136,14 @@ impl NamedValues {
     ///
     /// # Errors
     ///
-    /// [`ErrorKind::OutOfMemory`](template_values_errors::ErrorKind::OutOfMemory); some of the names may then have been added.
+    /// [`ErrorKind::OutOfMemory`](template_values_errors::ErrorKind::OutOfMemory); some of the names may then have been added,
+    /// and no others.
     pub fn add_names(&self, alloc: Global, names: &mut BTreeSet<String>) -> Result<(), Error>
         ensures added { OnOk result ((q : List ℕ)
             → contains_text names.new q ≡ (contains_text names.old q || is_some (local_at q self.now))) }
+        ensures kept { OnErr result ((q : List ℕ) → IsTrue (contains_text names.old q) → IsTrue (contains_text names.new q)) }
+        ensures others { OnErr result ((q : List ℕ) → IsTrue (contains_text names.new q)
+            → IsTrue (contains_text names.old q || is_some (local_at q self.now))) }
         ensures refused { IfErr result NoMemory }
     {
         add_names(alloc, names, &self.values)
@@ -147,6 +153,7 @@ impl NamedValues {
     fn put(&mut self, name: String, value: Value) -> Result<(), Error>
         ensures put { OnOk result (self.new ≡ with_named (string_bytes name) value self.old) }
         ensures refused { IfErr result NoMemory }
+        ensures unchanged { OnErr result (self.new ≡ self.old) }
     {
         let _replaced = self.insert_owned(name, value)?;
         Ok(())
