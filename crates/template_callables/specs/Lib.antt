@@ -2,7 +2,6 @@ pub mod Callables
 pub mod Answers
 pub mod Callbacks
 pub mod Eithers
-pub mod Faults
 pub mod Formats
 pub mod Joins
 pub mod Views

@@ -8,9 +8,8 @@ use template_values_errors::Error;
 pub enum Answer {
     /// The call's value.
     Done(Option<Vec<(String, Value)>>, Value),
-    /// The call's fault. Its kinds are any that a template may end with: where one of them is the machine's own (`OutOfMemory`,
-    /// `WriteFailure`, `BadStream`) the call is refused with `InvalidOperation` in its place; `OutOfMemory` alone says that
-    /// memory was refused.
+    /// The call's fault. Its kinds are those that the call fails with, whatever they are; `OutOfMemory` alone says that memory was
+    /// refused.
     Fault(Error),
     /// The call comes to what this comes to, which the machine does next. As long as it has not, it counts as one level of depth.
     More(Option<Vec<(String, Value)>>, Further),

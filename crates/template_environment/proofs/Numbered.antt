@@ -1,6 +1,5 @@
 -- A run of an expression's code whose filters and tests have their numbers is one of the code without them.
 use Rattle.std.proofs.Common.{◌≡◌, ◌≤◌, ℕ, List, Option, Result, Ok, Err, inl, inr, subst}
-use Rattle.template_values_errors.specs.declared.ErrorKind.{ErrorKind}
 use Rattle.template_values_model.specs.Val.{Val}
 use Rattle.template_process.specs.Drive.{ends}
 use Rattle.template_process.specs.Trace.{Run, behind, ended, run}
@@ -10,10 +9,12 @@ use Rattle.template_compiler_numbers.specs.Numbers.{numbered_in}
 use Rattle.template_compiler_numbers.proofs.Alike.{numbers_run_alike}
 use Rattle.template_machine_meaning.specs.Surroundings.{Programs, answer}
 use Rattle.template_machine_meaning.specs.World.{World}
-use Rattle.template_machine_going.specs.Outcomes.{Stops, faults, runs_out, wants, strays}
+use Rattle.template_machine_going.specs.Outcomes.{Stops, faults, runs_out, strays}
 use Rattle.template_machine_going.specs.Spots.{Answering, Spot, run_at}
 use Rattle.template_machine_going.specs.Stops.{Faults, RunsOut, Wants}
 use Rattle.template_machine_going.specs.Strays.{Strays}
+use Rattle.template_machine_going.specs.declared.stop.Stop.{Stop}
+use Rattle.template_machine_going.specs.declared.stop.Stop.TheVariants.{Fault, Want}
 use Rattle.template_machine_renders.specs.Runs.{EndsOver, Evaluates}
 
 module _ {S : Type 0} (answers : Answering S) (code : List Code) where
@@ -33,21 +34,22 @@ module _ {S : Type 0} (answers : Answering S) (code : List Code) where
     text = h.text;
   }
 
-  stops_alike : (x y : Spot S) (kinds : List ErrorKind) → Stops answers (numbered_in code) x y kinds → Stops answers code x y kinds
-  stops_alike x y kinds (faults (bound, is)) =
+  stops_alike : (x y : Spot S) (stop : Stop) → Stops answers (numbered_in code) x y stop → Stops answers code x y stop
+  stops_alike x y (Fault kinds) (faults (bound, is)) =
       faults (bound, subst (λ (runs : ℕ → Run S). Faults runs kinds x.left y.left x.taken y.taken) (runs_alike bound x) is)
-  stops_alike x y kinds (runs_out (bound, is)) =
+  stops_alike x y (Fault kinds) (runs_out (bound, is)) =
       runs_out (bound, subst (λ (runs : ℕ → Run S). RunsOut runs kinds x.left y.left x.taken y.taken) (runs_alike bound x) is)
-  stops_alike x y kinds (wants why (bound, is)) =
-      wants why (bound, subst (λ (runs : ℕ → Run S). Wants runs x.left y.left x.taken y.taken) (runs_alike bound x) is)
-  stops_alike x y kinds (strays why (bound, is)) = strays why (bound, subst Strays (runs_alike bound x) is)
+  stops_alike x y (Fault kinds) (strays why (bound, is)) = strays why (bound, subst Strays (runs_alike bound x) is)
+  stops_alike x y (Want kinds) (why, inl (bound, is)) =
+      (why, inl (bound, subst (λ (runs : ℕ → Run S). Wants runs x.left y.left x.taken y.taken) (runs_alike bound x) is))
+  stops_alike x y (Want kinds) (why, inr (bound, is)) = (why, inr (bound, subst Strays (runs_alike bound x) is))
 
 -- and so with what a call tells of an expression's value
-pub evaluates_alike : (s : Programs) (code : List Code) (w : World) (left : Option ℕ) (taken : Option (List ℕ)) (result : Result Val (List ErrorKind))
+pub evaluates_alike : (s : Programs) (code : List Code) (w : World) (left : Option ℕ) (taken : Option (List ℕ)) (result : Result Val Stop)
     (after : World) (rest : Option ℕ) (written : Option (List ℕ)) → Evaluates s (numbered_in code) w left taken result after rest written
     → Evaluates s code w left taken result after rest written
 evaluates_alike s code w left taken (Ok v) after rest written (below, over) =
     (below, ends_over_alike (answer s) code _ _ after rest written over)
-evaluates_alike s code w left taken (Err kinds) after rest written (inl stopped) = inl (stops_alike (answer s) code _ _ kinds stopped)
-evaluates_alike s code w left taken (Err kinds) after rest written (inr (stray, over)) =
+evaluates_alike s code w left taken (Err stop) after rest written (inl stopped) = inl (stops_alike (answer s) code _ _ stop stopped)
+evaluates_alike s code w left taken (Err stop) after rest written (inr (stray, over)) =
     inr (stray, ends_over_alike (answer s) code _ _ after rest written over)

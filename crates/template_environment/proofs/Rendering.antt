@@ -1,7 +1,6 @@
 -- From the run of a template's code to what its render means.
 use Rattle.std.proofs.Common.{◌≡◌, ℕ, Bool, false, true, cond, bytes_eq, List, [], ◌∷◌, map, Option, None, Some, Ok, Err, refl, sym, ap, subst, ◌∙◌, arith}
 use Rattle.std.specs.Option.{option_map, option_and_then}
-use Rattle.template_values_errors.specs.declared.ErrorKind.{ErrorKind}
 use Rattle.template_values_errors.specs.declared.modes.UndefinedBehavior.{UndefinedBehavior}
 use Rattle.template_values_model.specs.Val.{Val}
 use Rattle.template_tree.specs.Tree.{Statements}
@@ -10,6 +9,7 @@ use Rattle.template_process.specs.Fuel.{under}
 use Rattle.template_walk.specs.Blocks.{Block, blocks_in, block_among, block_named}
 use Rattle.template_walk.specs.Runnable.{IsRunnableTemplate}
 use Rattle.template_code_blocks.specs.Streams.{BlockStream, heads_of, stream_among}
+use Rattle.template_machine_going.specs.declared.stop.Stop.{Stop}
 use Rattle.template_machine_meaning.specs.World.{World, first_world}
 use Rattle.template_machine_meaning.specs.Surroundings.{Programs}
 use Rattle.template_machine_meaning.specs.Keys as keys
@@ -156,13 +156,13 @@ render_done {X = X} v k e id c context s w after set fuel left before taken same
     n finished)
 
 pub render_stopped : (X : Type 0) (k : Brought) (e : Registry) (id : ℕ) (c : Compiled) (context : Val) (s : Programs) (w after : World) (set fuel left : Option ℕ)
-    (before taken : Option (List ℕ)) (kinds : List ErrorKind) → fuel ≡ set → IsRunOf k e id c context s w → KeyRuns {X = X} s top w fuel before (Err kinds) after left taken
-    → (n : ℕ) → IsFinished (rendering k e id c n context).end → Renders {X = X} (Err kinds) before taken (under set (rendering k e id c n context))
-render_stopped X k e id c context s w after set fuel left before taken kinds same of runs n finished =
-    subst (λ (f : Option ℕ). Renders {X = X} (Err kinds) before taken (under f (rendering k e id c n context))) same
-    (stops_render X (setting_of k e) (standing_of c) (first_world id e.globals (head_of (standing_of c)) context) fuel left before taken kinds
-    (subst (λ (x : World). KeyRuns {X = X} (codes_of (setting_of k e) (Some (standing_of c))) top x fuel before (Err kinds) after left taken) of.start
-    (subst (λ (p : Programs). KeyRuns {X = X} p top w fuel before (Err kinds) after left taken) of.programs runs))
+    (before taken : Option (List ℕ)) (stop : Stop) → fuel ≡ set → IsRunOf k e id c context s w → KeyRuns {X = X} s top w fuel before (Err stop) after left taken
+    → (n : ℕ) → IsFinished (rendering k e id c n context).end → Renders {X = X} (Err stop) before taken (under set (rendering k e id c n context))
+render_stopped X k e id c context s w after set fuel left before taken stop same of runs n finished =
+    subst (λ (f : Option ℕ). Renders {X = X} (Err stop) before taken (under f (rendering k e id c n context))) same
+    (stops_render X (setting_of k e) (standing_of c) (first_world id e.globals (head_of (standing_of c)) context) fuel left before taken stop
+    (subst (λ (x : World). KeyRuns {X = X} (codes_of (setting_of k e) (Some (standing_of c))) top x fuel before (Err stop) after left taken) of.start
+    (subst (λ (p : Programs). KeyRuns {X = X} p top w fuel before (Err stop) after left taken) of.programs runs))
     n finished)
 
 never : {t : Standing} → None ≡ Some t → ⊥

@@ -1,10 +1,10 @@
 -- From what a call comes to in a state by code to what it means there.
-use Rattle.std.proofs.Common.{◌≡◌, ◌≢◌, ◌⊎◌, inl, inr, ℕ, ◌-◌, ◌≤◌, nat_le, if◌then◌else◌, Bool, true, false, List, [], ◌∷◌, Option, None, Some, Result, Ok, Err, IfErr, IsErrAnd, OnErr, OnOk, length, refl, sym, ap, subst, ◌∙◌, arith}
+use Rattle.std.proofs.Common.{◌≡◌, ◌⊎◌, inl, inr, ℕ, ◌-◌, nat_le, if◌then◌else◌, Bool, true, false, List, [], ◌∷◌, Option, None, Some, Result, Ok, Err, IfErr, IsErrAnd, OnErr, OnOk, length, refl, sym, ap, subst, ◌∙◌, arith}
 use Rattle.std.specs.Global.{Global}
 use Rattle.std.specs.Option.{option_map}
 use Rattle.std.specs.Prelude.{String, string_bytes}
 use Rattle.template_values_errors.specs.declared.ErrorKind.{ErrorKind}
-use Rattle.template_values_errors.specs.declared.ErrorKind.TheVariants.{WriteFailure}
+use Rattle.template_values_errors.specs.declared.ErrorKind.TheVariants.{OutOfMemory}
 use Rattle.template_values_errors.specs.Memory.{NoMemory}
 use Rattle.template_values_model.specs.Val.{Val}
 use Rattle.template_values_model.specs.Val as values
@@ -16,11 +16,13 @@ use Rattle.template_process.specs.Fuel.{under}
 use Rattle.template_process.specs.Process as processes
 use Rattle.template_process.specs.Process.{Answer, Told, tells, fails, breaks_off, done, value, item, no_item, items, closure}
 use Rattle.template_process.specs.Trace.{Reply, Run, price_of}
-use Rattle.template_machine_going.specs.Outcomes.{IsWanting}
 use Rattle.template_machine_going.specs.Paying.{Paid}
+use Rattle.template_machine_going.specs.Told.{CountsFailures, FaultsSo, SparesSink, kinds_in, stop_of}
+use Rattle.template_machine_going.specs.declared.stop.Stop.{Stop}
+use Rattle.template_machine_going.specs.declared.stop.Stop.TheVariants.{Fault, Want}
 use Rattle.template_machine_meaning.specs.Calls.{answered_by, beyond, call_plan, said, stated_plan, view_of}
 use Rattle.template_machine_meaning.specs.Captures.{captured}
-use Rattle.template_machine_meaning.specs.Functions.{Called, Invoked, invokes, test_named, found_called}
+use Rattle.template_machine_meaning.specs.Functions.{Called, invokes, test_named, found_called}
 use Rattle.template_machine_meaning.specs.Keeps.{KeepsBodies}
 use Rattle.template_machine_meaning.specs.Keys.{Around}
 use Rattle.template_machine_meaning.specs.Plans.{Caller, Plan, Runners, caller_of, outermost, put_back, replies, settled, with_turning}
@@ -29,10 +31,8 @@ use Rattle.template_machine_meaning.specs.Replies.{kinded, told}
 use Rattle.template_machine_meaning.specs.Surroundings.{Programs, runners}
 use Rattle.template_machine_meaning.specs.Turnings.{Turning, to_text, to_truth, decided, turned_by}
 use Rattle.template_machine_meaning.specs.World.{World, keeps, looked_up, depth_of}
-use Rattle.template_machine_meaning.proofs.Fair.{fair_found}
 use Rattle.template_machine_meaning.proofs.Outermost.{outermost_all}
 use Rattle.template_machine_meaning.proofs.Placed.{bodies_on, bodies_stay}
-use Rattle.template_machine_meaning.proofs.RunsKept.{KeepsReply, PlanKeeps, kept_call, kept_turning, world_stays}
 use Rattle.template_machine_state.specs.Changes.{OnlyTemps}
 use Rattle.template_machine_calls.specs.Hosted.{around_under}
 use Rattle.template_machine_calls.specs.Left.{Planned, KeptUnlessValue, entry_plan, reached_by, value_left, with_turnings}
@@ -42,15 +42,16 @@ use Rattle.template_machine_calls.specs.declared.reached.Reached.TheVariants as 
 use Rattle.template_machine_calls.specs.declared.rules.Rules.{Rules}
 use Rattle.template_machine_loop.proofs.Itself.{put_back_itself}
 use Rattle.template_machine_loop.proofs.Turned.{settled_turning, turned_does, turned_halts}
-use Rattle.template_machine_renders.specs.Outcomes.{TellsFailures}
 use Rattle.template_machine_renders.specs.Plans.{DoesPlan, PutsBack, replies_of, run_of}
-use Rattle.template_machine_renders.specs.Renders.{FaultsAs, LeavesFuel, Renders, broken, whole, leaves}
+use Rattle.template_machine_renders.specs.Renders as renders
+use Rattle.template_machine_renders.specs.Renders.{FaultsAs, leaves}
 use Rattle.template_machine_renders.proofs.Calls.{TellsTo, calls_tell, codes_uniform, failed_does, planned_does, reached_does}
 use Rattle.template_compiled.specs.Compiled.{standing_of}
 use Rattle.template_environment.specs.Extras.{UserAnswers}
 use Rattle.template_environment.specs.Reading.{callables_of, registry_of, setting_in}
-use Rattle.template_environment.specs.Renderings.{IsNoMore}
-use Rattle.template_environment.specs.States.{DoesThere, GivesTold, KeepsRest, KeepsState, around_in, codes_in, environment_in, found_in, fuel_left_in, fuel_set_in, id_in, own_name_in, programs_in, template_in, worded_in, world_in}
+use Rattle.template_environment.specs.Renderings.{IsNoMore, LeavesFuel}
+use Rattle.template_environment.specs.States.{DoesThere, GivesTold, IsMissing, KeepsRest, KeepsState, around_in, codes_in, environment_in, found_in, fuel_left_in, fuel_set_in, id_in, own_name_in, programs_in, template_in, worded_in, world_in}
+use Rattle.template_environment.specs.declared.registry.Registry.{Registry}
 use Rattle.template_environment.specs.declared.state.State.{State}
 
 -- a run leaves no more of a fuel than there was
@@ -65,11 +66,13 @@ leaves_some (Some n) r = part_no_more n (price_of r.items) (nat_le (price_of r.i
 pub leaves_no_more : {S : Type 0} (fuel left : Option ℕ) (r : Run S) → left ≡ leaves fuel r → IsNoMore fuel left
 leaves_no_more fuel left r is = subst (IsNoMore fuel) (sym is) (leaves_some fuel r)
 
--- what is left behind an error, where it is what was left of the run
-pub stopped_leaves : {S : Type 0} (fuel rest now : Option ℕ) (r : Run S) (kinds : List ErrorKind) → (IsNoMore fuel rest → now ≡ rest)
-    → IsWanting kinds ⊎ (rest ≡ leaves fuel r) → IsWanting kinds ⊎ (now ≡ leaves fuel r)
-stopped_leaves fuel rest now r kinds spent (inl why) = inl why
-stopped_leaves fuel rest now r kinds spent (inr is) = inr (spent (leaves_no_more fuel rest r is) ∙ is)
+-- where no sink failed, what is left behind a stop is what was left of the run
+pub stopped_leaves : (X : Type 0) {S : Type 0} (fuel rest now : Option ℕ) (before taken : Option (List ℕ)) (r : Run S) (stop : Stop) → SparesSink stop
+    → (IsNoMore fuel rest → now ≡ rest) → renders.Renders {X = X} (Err stop) before taken (under fuel r) → renders.LeavesFuel {X = X} fuel r (Err stop) rest
+    → NoMemory (kinds_in stop) ⊎ (now ≡ leaves fuel r)
+stopped_leaves X fuel rest now before taken r (Fault kinds) spares spent stopped is = inr (spent (leaves_no_more fuel rest r is) ∙ is)
+stopped_leaves X fuel rest now before taken r (Want kinds) spares spent (inl want, text) is = inl want
+stopped_leaves X fuel rest now before taken r (Want kinds) spares spent (inr failed, text) is = absurd (spares (ap (λ ks. Want ks) failed))
 
 pub paid_no_more : (price : ℕ) (fuel left : Option ℕ) → Paid price fuel left → IsNoMore fuel left
 paid_no_more price None None pays = tt
@@ -77,61 +80,46 @@ paid_no_more price (Some n) (Some k) pays = omega (arith, pays.0)
 paid_no_more price None (Some k) pays = absurd pays
 paid_no_more price (Some n) None pays = absurd pays
 
--- want of memory is no failure of a sink
-pub want_quiet : (kinds : List ErrorKind) → NoMemory kinds → kinds ≢ WriteFailure ∷ []
-want_quiet kinds want = λ failed. cc
-
--- nor is what a plan fails with
-pub plan_quiet : (w after : World) (p : Plan) (kinds : List ErrorKind) → PlanKeeps w p → NoMemory kinds ⊎ (p ≡ replies (told after (fails kinds)))
-    → kinds ≢ WriteFailure ∷ []
-plan_quiet w after p kinds kept (inl want) = want_quiet kinds want
-plan_quiet w after p kinds kept (inr fault) = λ failed.
-    let keeps : KeepsReply w (told after (fails (WriteFailure ∷ []))) =
-    subst (λ (ks : List ErrorKind). KeepsReply w (told after (fails ks))) failed (subst (PlanKeeps w) fault kept) in
-    absurd (keeps.told.0)
+-- want of memory, and what a plan fails with, are no failure of a sink
+pub so_spares : (is : List ErrorKind → Type 0) (stop : Stop) → FaultsSo is stop → SparesSink stop
+so_spares is (Fault kinds) fault = λ failed. cc
+so_spares is (Want kinds) want = λ failed. cc
 
 -- nor is what refuses to turn a value
-turnings_kept : (w : World) (ts : List Turning) (p : Plan) → PlanKeeps w p → PlanKeeps w (with_turnings ts p)
-turnings_kept w [] p kept = kept
-turnings_kept w (t ∷ ts) p kept = kept_turning w t (with_turnings ts p) (turnings_kept w ts p kept)
+pub turned_spares : (w : World) (ts : List Turning) (v : Val) (result : Result Val Stop) → Planned value_left (with_turnings ts (value_left v w)) result w
+    → IfErr result SparesSink
+turned_spares w ts v (Ok u) planned = tt
+turned_spares w ts v (Err stop) planned = so_spares (λ kinds. with_turnings ts (value_left v w) ≡ replies (told w (fails kinds))) stop planned
 
-value_kept : (w : World) (v : Val) → PlanKeeps w (value_left v w)
-value_kept w v = record { world = world_stays w; told = tt; wraps = tt }
+-- a sink that counts no failure has none
+pub stop_spares : (X : Type 0) (stop : Stop) (first last : ℕ) → last ≡ first → CountsFailures {X = X} (Err stop) first last → SparesSink stop
+stop_spares X (Fault kinds) first last same counts = λ failure. cc
+stop_spares X (Want kinds) first last same (inl rose) = absurd (omega (arith, rose.1, same))
+stop_spares X (Want kinds) first last same (inr quiet) = λ failure. quiet.0 (cc)
 
-pub turned_quiet : (w : World) (ts : List Turning) (v : Val) (result : Result Val (List ErrorKind)) → Planned value_left (with_turnings ts (value_left v w)) result w
-    → IfErr result (λ kinds. kinds ≢ WriteFailure ∷ [])
-turned_quiet w ts v (Ok u) planned = tt
-turned_quiet w ts v (Err kinds) planned = plan_quiet w w (with_turnings ts (value_left v w)) kinds (turnings_kept w ts (value_left v w) (value_kept w v)) planned
+pub sink_spares : (failures : ℕ) (result : Result Val Stop) → CountsFailures result failures failures → IfErr result SparesSink
+sink_spares failures (Ok v) counts = tt
+sink_spares failures (Err stop) counts = stop_spares Val stop failures failures refl counts
 
--- a sink that counts no failures has none
-pub sink_quiet : (failures : ℕ) (result : Result Val (List ErrorKind)) → TellsFailures result failures failures → IfErr result (λ kinds. kinds ≢ WriteFailure ∷ [])
-sink_quiet failures (Ok v) told = tt
-sink_quiet failures (Err kinds) (inl failed) = absurd (omega (arith, failed.1))
-sink_quiet failures (Err kinds) (inr quiet) = quiet.0
+-- what a call stopped with that tells its kinds alone
+pub same_kinds : (kinds : List ErrorKind) → kinds_in (stop_of kinds) ≡ kinds
+same_kinds [] = refl
+same_kinds (OutOfMemory ∷ []) = refl
+same_kinds (_ ∷ []) = refl
+same_kinds (kind ∷ other ∷ kinds) = refl
 
 -- the fault that is told, where no sink fails
-gives_stopped : (fuel : Option ℕ) (r : Reply World) (kinds : List ErrorKind) → kinds ≢ WriteFailure ∷ []
-    → Renders {X = Val} (Err kinds) None None (under fuel (run_of r)) → FaultsAs (under fuel (run_of r)) kinds ⊎ NoMemory kinds
-gives_stopped fuel r kinds quiet (whole faulted text) = inl faulted
-gives_stopped fuel r kinds quiet (broken (inl want) begins) = inr want
-gives_stopped fuel r kinds quiet (broken (inr failed) begins) = absurd (quiet failed)
-
--- the answer that is told, where no sink fails
-gives_told : (fuel : Option ℕ) (r : Reply World) (result : Result Val (List ErrorKind)) (after : World) (left : Option ℕ)
-    → IfErr result (λ kinds. kinds ≢ WriteFailure ∷ []) → TellsTo fuel r result after left None None → GivesTold value fuel result r
-gives_told fuel r (Ok v) after left quiet h = (h.2.over, h.0)
-gives_told fuel r (Err kinds) after left quiet h = gives_stopped fuel r kinds quiet h.0
+gives_stopped : (fuel : Option ℕ) (r : Reply World) (stop : Stop) → SparesSink stop → renders.Renders {X = Val} (Err stop) None None (under fuel (run_of r))
+    → FaultsAs (under fuel (run_of r)) (kinds_in stop) ⊎ NoMemory (kinds_in stop)
+gives_stopped fuel r (Fault kinds) spares stopped = inl stopped.0
+gives_stopped fuel r (Want kinds) spares (inl want, text) = inr want
+gives_stopped fuel r (Want kinds) spares (inr failed, text) = absurd (spares (ap (λ ks. Want ks) failed))
 
 -- a fault that is handed on
 err_told : {X : Type 0} (give : X → Answer) (fuel : Option ℕ) (r : Reply World) (result : Result X (List ErrorKind)) (kinds : List ErrorKind)
     → FaultsAs (under fuel (run_of r)) kinds ⊎ NoMemory kinds → IsErrAnd result (λ ks. ks ≡ kinds) → GivesTold give fuel result r
 err_told give fuel r (Ok x) kinds why is = absurd is
 err_told give fuel r (Err ks) kinds why is = subst (λ qs. FaultsAs (under fuel (run_of r)) qs ⊎ NoMemory qs) (sym is) why
-
-pub err_quiet : {X : Type 0} (result : Result X (List ErrorKind)) (kinds : List ErrorKind) → kinds ≢ WriteFailure ∷ [] → IsErrAnd result (λ ks. ks ≡ kinds)
-    → IfErr result (λ ks. ks ≢ WriteFailure ∷ [])
-err_quiet (Ok x) kinds quiet is = absurd is
-err_quiet (Err ks) kinds quiet is = subst (λ qs. qs ≢ WriteFailure ∷ []) (sym is) quiet
 
 pub err_only : {X : Type 0} (P : Type 0) (result : Result X (List ErrorKind)) (kinds : List ErrorKind) → IsErrAnd result (λ ks. ks ≡ kinds) → OnOk result P
 err_only P (Ok x) kinds is = absurd is
@@ -150,11 +138,11 @@ want_told give fuel r result kinds want is = err_told give fuel r result kinds (
 pub left_on : {X : Type 0} (fuel left : Option ℕ) (r : Reply World) (result : Result X (List ErrorKind)) (kinds : List ErrorKind)
     → IsErrAnd result (λ ks. ks ≡ kinds) → LeavesFuel {X = Val} fuel (run_of r) (Err kinds) left → LeavesFuel fuel (run_of r) result left
 left_on fuel left r (Ok x) kinds is h = absurd is
-left_on fuel left r (Err ks) kinds is h = subst (λ (qs : List ErrorKind). IsWanting qs ⊎ (left ≡ leaves fuel (run_of r))) (sym is) h
+left_on fuel left r (Err ks) kinds is h = subst (λ (qs : List ErrorKind). NoMemory qs ⊎ (left ≡ leaves fuel (run_of r))) (sym is) h
 
 pub want_left : {X : Type 0} (fuel left : Option ℕ) (r : Reply World) (result : Result X (List ErrorKind)) (kinds : List ErrorKind)
     → NoMemory kinds → IsErrAnd result (λ ks. ks ≡ kinds) → LeavesFuel fuel (run_of r) result left
-want_left fuel left r result kinds want is = left_on fuel left r result kinds is (inl (inl want))
+want_left fuel left r result kinds want is = left_on fuel left r result kinds is (inl want)
 
 -- what was open is so where nothing but temps is other, and where it was put back
 pub temps_put_back : (w v : World) → OnlyTemps w v → PutsBack w v
@@ -205,17 +193,15 @@ module _ {E C M F J R : Type 0} (says : UserAnswers C M F J) (s : State E C M F 
   abbrev Finished : Plan → ℕ → Type 0
   Finished p n = IsFinished (run_of (meant p n)).end
 
-  module _ (p : Plan) (kept : PlanKeeps (world_in s) p) where
-    tells_there : (t : State E C M F J R) (result : Result Val (List ErrorKind)) (there : DoesThere says p s t result) (n : ℕ) → Finished p n
+  module _ (p : Plan) where
+    tells_there : (t : State E C M F J R) (result : Result Val Stop) (there : DoesThere says p s t result) (n : ℕ) → Finished p n
         → TellsTo (fuel_left_in s) (meant p n) result (world_in t) there.left None None
     tells_there t result there n finished =
-        calls_tell (setting_in says (environment_in s)) (option_map standing_of (template_in s)) (own_name_in s) p (world_in s) kept n
+        calls_tell (setting_in says (environment_in s)) (option_map standing_of (template_in s)) (own_name_in s) p (world_in s) n
         (world_in t) (fuel_left_in s) there.left None None result there.does finished
 
-    pub told_there : (t : State E C M F J R) (result : Result Val (List ErrorKind)) → DoesThere says p s t result
-        → IfErr result (λ kinds. kinds ≢ WriteFailure ∷ []) → (n : ℕ) → Finished p n → GivesTold value (fuel_left_in s) result (meant p n)
-    told_there t result there quiet n finished =
-        gives_told (fuel_left_in s) (meant p n) result (world_in t) there.left quiet (tells_there t result there n finished)
+    pub told_there : (t : State E C M F J R) (v : Val) → DoesThere says p s t (Ok v) → (n : ℕ) → Finished p n → GivesTold value (fuel_left_in s) (Ok v) (meant p n)
+    told_there t v there n finished = let h = tells_there t (Ok v) there n finished in (h.2.over, h.0)
 
     pub remains_there : (t : State E C M F J R) (v : Val) → DoesThere says p s t (Ok v) → (n : ℕ) → Finished p n
         → fuel_left_in t ≡ leaves (fuel_left_in s) (run_of (meant p n))
@@ -223,69 +209,59 @@ module _ {E C M F J R : Type 0} (says : UserAnswers C M F J) (s : State E C M F 
         let is = (tells_there t (Ok v) there n finished).2.left_is in
         there.spent (leaves_no_more (fuel_left_in s) there.left (run_of (meant p n)) is) ∙ is
 
-    pub stopped_remains : (t : State E C M F J R) (kinds : List ErrorKind) → DoesThere says p s t (Err kinds) → (n : ℕ) → Finished p n
-        → LeavesFuel {X = Val} (fuel_left_in s) (run_of (meant p n)) (Err kinds) (fuel_left_in t)
-    stopped_remains t kinds there n finished =
-        stopped_leaves (fuel_left_in s) there.left (fuel_left_in t) (run_of (meant p n)) kinds there.spent (tells_there t (Err kinds) there n finished).1
-
     pub world_there : (t : State E C M F J R) (v : Val) → DoesThere says p s t (Ok v) → (n : ℕ) → Finished p n → world_in t ≡ (meant p n).after
     world_there t v there n finished = sym (tells_there t (Ok v) there n finished).1
 
-    -- so it is of a result
-    pub world_so : (t : State E C M F J R) (result : Result Val (List ErrorKind)) → DoesThere says p s t result
-        → OnOk result ((n : ℕ) → Finished p n → world_in t ≡ (meant p n).after)
-    world_so t (Ok v) there = world_there t v there
-    world_so t (Err kinds) there = tt
+    -- what the call stops with, where no sink fails
+    module _ (t : State E C M F J R) (stop : Stop) (there : DoesThere says p s t (Err stop)) (spares : SparesSink stop) (n : ℕ) (finished : Finished p n) where
+      pub stopped_told : {X : Type 0} (give : X → Answer) (result : Result X (List ErrorKind)) → IsErrAnd result (λ ks. ks ≡ kinds_in stop)
+          → GivesTold give (fuel_left_in s) result (meant p n)
+      stopped_told give result is =
+          err_told give (fuel_left_in s) (meant p n) result (kinds_in stop)
+          (gives_stopped (fuel_left_in s) (meant p n) stop spares (tells_there t (Err stop) there n finished).0) is
 
-    -- a fault of the call
-    pub fault_told : (t : State E C M F J R) (kinds : List ErrorKind) → DoesThere says p s t (Err kinds)
-        → kinds ≢ WriteFailure ∷ [] → (n : ℕ) → Finished p n → FaultsAs (under (fuel_left_in s) (run_of (meant p n))) kinds ⊎ NoMemory kinds
-    fault_told t kinds there quiet n finished = told_there t (Err kinds) there quiet n finished
-
-    pub handed_told : (t : State E C M F J R) (kinds : List ErrorKind) → DoesThere says p s t (Err kinds) → kinds ≢ WriteFailure ∷ []
-        → {X : Type 0} (give : X → Answer) (result : Result X (List ErrorKind)) → IsErrAnd result (λ ks. ks ≡ kinds) → (n : ℕ) → Finished p n
-        → GivesTold give (fuel_left_in s) result (meant p n)
-    handed_told t kinds there quiet give result is n finished =
-        err_told give (fuel_left_in s) (meant p n) result kinds (fault_told t kinds there quiet n finished) is
+      pub stopped_remains : {X : Type 0} (result : Result X (List ErrorKind)) → IsErrAnd result (λ ks. ks ≡ kinds_in stop)
+          → LeavesFuel (fuel_left_in s) (run_of (meant p n)) result (fuel_left_in t)
+      stopped_remains result is =
+          left_on (fuel_left_in s) (fuel_left_in t) (meant p n) result (kinds_in stop) is
+          (stopped_leaves Val (fuel_left_in s) there.left (fuel_left_in t) None None (run_of (meant p n)) stop spares there.spent
+          (tells_there t (Err stop) there n finished).0 (tells_there t (Err stop) there n finished).1)
 
   -- what a call fails with
-  pub failed_there : (p : Plan) (after : World) (kinds : List ErrorKind) → NoMemory kinds ⊎ (p ≡ replies (told after (fails kinds)))
-      → DoesThere says p s (record s { machine = after }) (Err kinds)
-  failed_there p after kinds failed = record {
+  pub failed_there : (p : Plan) (after : World) (stop : Stop) → FaultsSo (λ kinds. p ≡ replies (told after (fails kinds))) stop
+      → DoesThere says p s (record s { machine = after }) (Err stop)
+  failed_there p after stop failed = record {
     left = fuel_left_in s;
-    does = failed_does (codes_in says s) p (world_in s) after (fuel_left_in s) None kinds failed;
+    does = failed_does (codes_in says s) p (world_in s) after (fuel_left_in s) None stop failed;
     spent = λ less. refl;
   }
 
-  -- so it is told, and it is no failure of a sink
-  module _ (p : Plan) (kept : PlanKeeps (world_in s) p) (after : World) (kinds : List ErrorKind) (failed : NoMemory kinds ⊎ (p ≡ replies (told after (fails kinds)))) where
-    pub failing_told : {X : Type 0} (give : X → Answer) (result : Result X (List ErrorKind)) → IsErrAnd result (λ ks. ks ≡ kinds) → (n : ℕ) → Finished p n
+  -- so it is told
+  module _ (p : Plan) (after : World) (stop : Stop) (failed : FaultsSo (λ kinds. p ≡ replies (told after (fails kinds))) stop) where
+    pub failing_told : {X : Type 0} (give : X → Answer) (result : Result X (List ErrorKind)) → IsErrAnd result (λ ks. ks ≡ kinds_in stop) → (n : ℕ) → Finished p n
         → GivesTold give (fuel_left_in s) result (meant p n)
     failing_told give result is n finished =
-        err_told give (fuel_left_in s) (meant p n) result kinds
-        (fault_told p kept (record s { machine = after }) kinds (failed_there p after kinds failed) (plan_quiet (world_in s) after p kinds kept failed) n finished) is
+        stopped_told p (record s { machine = after }) stop (failed_there p after stop failed) (so_spares (λ kinds. p ≡ replies (told after (fails kinds))) stop failed) n finished
+        give result is
 
-    pub failing_left : {X : Type 0} (result : Result X (List ErrorKind)) → IsErrAnd result (λ ks. ks ≡ kinds) → (n : ℕ) → Finished p n
+    pub failing_left : {X : Type 0} (result : Result X (List ErrorKind)) → IsErrAnd result (λ ks. ks ≡ kinds_in stop) → (n : ℕ) → Finished p n
         → LeavesFuel (fuel_left_in s) (run_of (meant p n)) result (fuel_left_in s)
     failing_left result is n finished =
-        left_on (fuel_left_in s) (fuel_left_in s) (meant p n) result kinds is
-        (stopped_remains p kept (record s { machine = after }) kinds (failed_there p after kinds failed) n finished)
-
-    pub failing_quiet : {X : Type 0} (result : Result X (List ErrorKind)) → IsErrAnd result (λ ks. ks ≡ kinds) → IfErr result (λ ks. ks ≢ WriteFailure ∷ [])
-    failing_quiet result is = err_quiet result kinds (plan_quiet (world_in s) after p kinds kept failed) is
+        stopped_remains p (record s { machine = after }) stop (failed_there p after stop failed) (so_spares (λ kinds. p ≡ replies (told after (fails kinds))) stop failed) n finished
+        result is
 
   -- what is around calls, and what they come to there
   pub around_there : (rules : Rules) → rules.name.now ≡ own_name_in s → rules.limit ≡ (registry_of (environment_in s)).recursion_limit
       → rules.undefined ≡ (registry_of (environment_in s)).undefined_behavior → around_under rules (callables_of says (environment_in s)) (around_in says s) ≡ around_in says s
   around_there rules n l u = λ i. record (around_in says s) { name = n i; limit = l i; undefined = u i }
 
-  pub planned_there : (a : Around) (called : Called) (result : Result Reached (List ErrorKind)) (after : World) → a ≡ around_in says s
+  pub planned_there : (a : Around) (called : Called) (result : Result Reached Stop) (after : World) → a ≡ around_in says s
       → Planned (reached_by a) (call_plan a (world_in s) called) result after
       → Planned (reached_by (around_in says s)) (call_plan (around_in says s) (world_in s) called) result after
   planned_there a called result after same planned =
       subst (λ (x : Around). Planned (reached_by x) (call_plan x (world_in s) called) result after) same planned
 
-  pub found_there : (a : Around) (name : List ℕ) (us vs : List Val) (result : Result Reached (List ErrorKind)) (after : World) → a ≡ around_in says s → us ≡ vs
+  pub found_there : (a : Around) (name : List ℕ) (us vs : List Val) (result : Result Reached Stop) (after : World) → a ≡ around_in says s → us ≡ vs
       → Planned (reached_by a) (call_plan a (world_in s) (found_called (world_in s).globals (looked_up name (world_in s)) us)) result after
       → Planned (reached_by (around_in says s)) (found_in says s name vs) result after
   found_there a name us vs result after same is planned =
@@ -293,7 +269,7 @@ module _ {E C M F J R : Type 0} (says : UserAnswers C M F J) (s : State E C M F 
       (planned_there a (found_called (world_in s).globals (looked_up name (world_in s)) us) result after same planned)
 
   -- a value, and what is made of it
-  pub turned_there : (ts : List Turning) (v : Val) (result : Result Val (List ErrorKind)) → Planned value_left (with_turnings ts (value_left v (world_in s))) result (world_in s)
+  pub turned_there : (ts : List Turning) (v : Val) (result : Result Val Stop) → Planned value_left (with_turnings ts (value_left v (world_in s))) result (world_in s)
       → DoesThere says (with_turnings ts (value_left v (world_in s))) s s result
   turned_there ts v result planned = record {
     left = fuel_left_in s;
@@ -302,7 +278,7 @@ module _ {E C M F J R : Type 0} (says : UserAnswers C M F J) (s : State E C M F 
   }
 
   -- what a call came to, from where it began
-  pub reached_there : (came : Reached) (v : World) (p : Plan) (t : State E C M F J R) (result : Result Val (List ErrorKind)) → KeptUnlessValue (Ok came) (world_in s) v
+  pub reached_there : (came : Reached) (v : World) (p : Plan) (t : State E C M F J R) (result : Result Val Stop) → KeptUnlessValue (Ok came) (world_in s) v
       → p ≡ reached_by (around_in says s) came v → DoesThere says (reached_by (around_in says s) came v) (record s { machine = v }) t result
       → DoesThere says p s t result
   reached_there came v p t result kept is there = record {
@@ -314,7 +290,7 @@ module _ {E C M F J R : Type 0} (says : UserAnswers C M F J) (s : State E C M F 
   }
 
   -- its value is printed
-  pub printed_there : (p : Plan) (t : State E C M F J R) (v : Val) (result : Result Val (List ErrorKind))
+  pub printed_there : (p : Plan) (t : State E C M F J R) (v : Val) (result : Result Val Stop)
       → Planned value_left (with_turning to_text (value_left v (world_in t))) result (world_in t) → DoesThere says p s t (Ok v)
       → DoesThere says (with_turning to_text p) s t result
   printed_there p t v result planned there = record {
@@ -323,16 +299,16 @@ module _ {E C M F J R : Type 0} (says : UserAnswers C M F J) (s : State E C M F 
     spent = there.spent;
   }
 
-  pub unprinted_there : (p : Plan) (t : State E C M F J R) (kinds : List ErrorKind) → DoesThere says p s t (Err kinds)
-      → DoesThere says (with_turning to_text p) s t (Err kinds)
-  unprinted_there p t kinds there = record {
+  pub unprinted_there : (p : Plan) (t : State E C M F J R) (stop : Stop) → DoesThere says p s t (Err stop)
+      → DoesThere says (with_turning to_text p) s t (Err stop)
+  unprinted_there p t stop there = record {
     left = there.left;
-    does = turned_halts (codes_in says s) p (world_in s) (to_text ∷ []) (fuel_left_in s) there.left None None kinds (world_in t) there.does;
+    does = turned_halts (codes_in says s) p (world_in s) (to_text ∷ []) (fuel_left_in s) there.left None None stop (world_in t) there.does;
     spent = there.spent;
   }
 
   -- what a call enters runs by code
-  pub entered_there : (entry : Entry) (program : Programs) (left rest : Option ℕ) (t : State E C M F J R) (result : Result Val (List ErrorKind)) → program ≡ codes_in says s
+  pub entered_there : (entry : Entry) (program : Programs) (left rest : Option ℕ) (t : State E C M F J R) (result : Result Val Stop) → program ≡ codes_in says s
       → left ≡ fuel_left_in s → DoesPlan value program (entry_plan program.around entry (world_in s)) (world_in s) left None result (world_in t) rest None
       → (IsNoMore (fuel_left_in s) rest → fuel_left_in t ≡ rest)
       → DoesThere says (entry_plan (around_in says s) entry (world_in s)) s t result
@@ -344,22 +320,22 @@ module _ {E C M F J R : Type 0} (says : UserAnswers C M F J) (s : State E C M F 
   }
 
   -- what is reached, by its own name
-  pub reached_as : (t : State E C M F J R) (came same : Reached) (result : Result Val (List ErrorKind)) → same ≡ came
+  pub reached_as : (t : State E C M F J R) (came same : Reached) (result : Result Val Stop) → same ≡ came
       → DoesThere says (reached_by (around_in says s) came (world_in s)) s t result → DoesThere says (reached_by (around_in says s) same (world_in s)) s t result
   reached_as t came same result is there =
       subst (λ (x : Reached). DoesThere says (reached_by (around_in says s) x (world_in s)) s t result) (sym is) there
 
-  -- what is planned keeps what a run keeps
-  pub invoked_kept : (what : Invoked) (vs : List Val) → PlanKeeps (world_in s) (call_plan (around_in says s) (world_in s) (invokes what vs))
-  invoked_kept what vs = kept_call (around_in says s) (world_in s) (invokes what vs) tt
+-- what printing stopped with
+pub printed_stopped : (r : Reply World) (w : World) (stop : Stop) (kinds : List ErrorKind) → kinds ≡ kinds_in stop
+    → FaultsSo (λ ks. r ≡ told w (fails ks)) stop → NoMemory kinds ⊎ (r ≡ told w (fails kinds))
+printed_stopped r w (Fault ks) kinds is fault = inr (fault ∙ ap (λ (qs : List ErrorKind). told w (fails qs)) (sym is))
+printed_stopped r w (Want ks) kinds is want = inl (is ∙ want)
 
-  pub found_kept : (name : List ℕ) (vs : List Val) → PlanKeeps (world_in s) (found_in says s name vs)
-  found_kept name vs =
-      kept_call (around_in says s) (world_in s) (found_called (world_in s).globals (looked_up name (world_in s)) vs)
-      (fair_found (world_in s).globals (looked_up name (world_in s)) vs)
-
-  pub text_kept : (name : List ℕ) (vs : List Val) → PlanKeeps (world_in s) (with_turning to_text (found_in says s name vs))
-  text_kept name vs = kept_turning (world_in s) to_text (found_in says s name vs) (found_kept name vs)
+-- no name is meant
+pub missing_so : (e : Registry) (joined : Result (List ℕ) (List ErrorKind)) (stop : Stop) (kinds : List ErrorKind) → kinds ≡ kinds_in stop
+    → FaultsSo (λ ks. joined ≡ Err ks) stop → NoMemory kinds ⊎ IsMissing e joined kinds
+missing_so e joined (Fault ks) kinds is fault = inr (subst (λ (j : Result (List ℕ) (List ErrorKind)). IsMissing e j kinds) (sym fault) is)
+missing_so e joined (Want ks) kinds is want = inl (is ∙ want)
 
 -- the text that is printed is what is told
 pub worded_told : {E C M F J R : Type 0} (fuel : Option ℕ) (r : Reply World) (t : State E C M F J R) (text : String Global)
@@ -367,10 +343,10 @@ pub worded_told : {E C M F J R : Type 0} (fuel : Option ℕ) (r : Reply World) (
 worded_told fuel r t text told = told
 
 -- a text that a plan fails to come to
-pub text_failed : (w : World) (p : Plan) (kinds : List ErrorKind) → NoMemory kinds ⊎ (p ≡ replies (told w (fails kinds)))
-    → NoMemory kinds ⊎ (with_turning to_text p ≡ replies (told w (fails kinds)))
-text_failed w p kinds (inl want) = inl want
-text_failed w p kinds (inr fault) = inr (ap (with_turning to_text) fault)
+pub text_failed : (w : World) (p : Plan) (stop : Stop) → FaultsSo (λ kinds. p ≡ replies (told w (fails kinds))) stop
+    → FaultsSo (λ kinds. with_turning to_text p ≡ replies (told w (fails kinds))) stop
+text_failed w p (Fault kinds) fault = ap (with_turning to_text) fault
+text_failed w p (Want kinds) want = want
 
 -- a test gives true or false
 decided_truth : (r : Result Bool ErrorKind) (v : Val) → decided r ≡ tells (value v) → values.truth (is_true v) ≡ v
@@ -422,8 +398,6 @@ module _ {E C M F J R : Type 0} (s t u : State E C M F J R) (kept : KeepsRest t 
     fuel = ap fuel_set_in kept ∙ h.fuel;
   }
 
-  pub failed_left : (X : Type 0) (fuel : Option ℕ) (r : Reply World) (kinds told : List ErrorKind) → told ≡ kinds
-      → LeavesFuel {X = Val} fuel (run_of r) (Err kinds) (fuel_left_in t) → LeavesFuel {X = X} fuel (run_of r) (Err told) (fuel_left_in u)
-  failed_left X fuel r kinds told is h =
-      subst (λ (left : Option ℕ). LeavesFuel {X = X} fuel (run_of r) (Err told) left) (ap fuel_left_in (sym kept))
-      (left_on {X = X} fuel (fuel_left_in t) r (Err told) kinds is h)
+  pub failed_left : {X : Type 0} (fuel : Option ℕ) (r : Reply World) (result : Result X (List ErrorKind))
+      → LeavesFuel fuel (run_of r) result (fuel_left_in t) → LeavesFuel fuel (run_of r) result (fuel_left_in u)
+  failed_left fuel r result h = subst (λ (left : Option ℕ). LeavesFuel fuel (run_of r) result left) (ap fuel_left_in (sym kept)) h

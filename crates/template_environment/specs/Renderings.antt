@@ -1,5 +1,6 @@
--- What a render means, and what it leaves of its fuel.
-use Rattle.std.specs.Prelude.{◌≡◌, ◌≢◌, ℕ, ◌+◌, ◌-◌, ◌^◌, ◌≤◌, ◌⊎◌, List, [], ◌∷◌, Option, None, Some, Result, Ok, Err, IfErr, IsErrAnd}
+-- What a render means, how calls tell it, and what it leaves of its fuel.
+use Rattle.std.specs.Prelude.{◌≡◌, ◌≢◌, ℕ, ◌+◌, ◌-◌, ◌^◌, ◌≤◌, ◌<◌, ◌⊎◌, List, [], ◌∷◌, Option, None, Some, Result, Ok, Err, IsErrAnd}
+use Rattle.std.specs.Io.KnownBytes.{Appends}
 use Rattle.std.specs.Option.{option_map}
 use Rattle.template_values_errors.specs.declared.ErrorKind.{ErrorKind}
 use Rattle.template_values_errors.specs.declared.ErrorKind.TheVariants.{InvalidOperation, WriteFailure}
@@ -11,8 +12,9 @@ use Rattle.template_process.specs.Fuel.{under}
 use Rattle.template_process.specs.Trace.{Run, text_of}
 use Rattle.template_machine_meaning.specs.Meaning.{rendered}
 use Rattle.template_machine_meaning.specs.World.{World}
+use Rattle.template_machine_output.specs.Writes.{AppendsBeginning}
 use Rattle.template_machine_surroundings.specs.Rule.{IsEscapeOf}
-use Rattle.template_machine_renders.specs.Renders.{FaultsAs, IsOver}
+use Rattle.template_machine_renders.specs.Renders.{FaultsAs, IsOver, leaves}
 use Rattle.template_compiled.specs.Compiled.{Compiled, standing_of}
 use Rattle.template_compiled.specs.Sources.{IsAccepted, IsRefusedWith, Source}
 use Rattle.template_environment.specs.Extras.{UserAnswers, Brought}
@@ -50,6 +52,32 @@ abbrev pub GivesText : {X S : Type 0} → (X → List ℕ) → Result X (List Er
 GivesText text (Ok x) r = IsOver r.end × (text x ≡ text_of r.items)
 GivesText text (Err kinds) r = FaultsAs r kinds ⊎ NoMemory kinds
 
+-- a call answers as the run ends: `Ok` where that is over, else its fault
+abbrev pub EndsAs : {X S : Type 0} → Result X (List ErrorKind) → Run S → Type 0
+EndsAs (Ok _) r = IsOver r.end
+EndsAs (Err kinds) r = FaultsAs r kinds
+
+-- A call was cut short: a growth was refused; or its sink failed, whose count of failures rose.
+abbrev pub IsCut : {X : Type 0} → Result X (List ErrorKind) → ℕ → ℕ → Type 0
+IsCut (Ok _) failed fails = ⊥
+IsCut (Err kinds) failed fails = (NoMemory kinds × (fails ≡ failed)) ⊎ ((kinds ≡ WriteFailure ∷ []) × (failed < fails))
+
+-- The call answers as the run ends, and its sink took the text without a failure. Or it was cut short, and its sink took a
+-- beginning of the text.
+pub data Renders {X S : Type 0} (result : Result X (List ErrorKind)) (before after : Option (List ℕ)) (failed fails : ℕ) (r : Run S) : Type 0 where
+  whole : EndsAs result r → Appends before after (text_of r.items) → fails ≡ failed → Renders result before after failed fails r
+  broken : IsCut result failed fails → AppendsBeginning before after (text_of r.items) → Renders result before after failed fails r
+
+-- Where the sink's count of failures rose, the call answers so; elsewhere the count stays.
+abbrev pub AnswersFailure : {X : Type 0} → Result X (List ErrorKind) → ℕ → ℕ → Type 0
+AnswersFailure (Ok _) failed fails = fails ≡ failed
+AnswersFailure (Err kinds) failed fails = (fails ≡ failed) ⊎ ((kinds ≡ WriteFailure ∷ []) × (failed < fails))
+
+-- So much of the fuel is left as the run leaves, of one that is cut nothing; unless a growth was refused.
+abbrev pub LeavesFuel : {X S : Type 0} → Option ℕ → Run S → Result X (List ErrorKind) → Option ℕ → Type 0
+LeavesFuel fuel r (Ok _) left = left ≡ leaves fuel r
+LeavesFuel fuel r (Err kinds) left = NoMemory kinds ⊎ (left ≡ leaves fuel r)
+
 -- the number that is never given to a state
 abbrev pub last_id : ℕ
 last_id = 2 ^ 64 - 1
@@ -61,7 +89,6 @@ pub record RendersText {X : Type 0} (k : Brought) (e : Registry) (c : Compiled) 
   pub finished : (n : ℕ) × IsFinished (rendering k e id c n context).end
   pub gives : id ≢ last_id → (n : ℕ) → IsFinished (rendering k e id c n context).end
       → GivesText text result (under e.fuel (rendering k e id c n context))
-  pub no_write_failure : IfErr result (λ kinds. kinds ≢ WriteFailure ∷ [])
   pub counted : id ≢ last_id → next ≡ id + 1
   pub exhausted : id ≡ last_id → (result ≡ Err (InvalidOperation ∷ [])) × (next ≡ id)
 

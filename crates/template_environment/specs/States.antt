@@ -10,7 +10,7 @@ use Rattle.template_callables.specs.Callables.{no_callables}
 use Rattle.template_callables.specs.Joins.{keeps_name}
 use Rattle.template_values_errors.specs.Memory.{NoMemory}
 use Rattle.template_process.specs.Fuel.{under}
-use Rattle.template_process.specs.Process.{Answer, tells, value}
+use Rattle.template_process.specs.Process.{Answer, tells, fails, value}
 use Rattle.template_process.specs.Trace.{Reply, Run}
 use Rattle.template_machine_meaning.specs.Calls.{call_plan}
 use Rattle.template_machine_meaning.specs.Captures.{captured}
@@ -18,7 +18,9 @@ use Rattle.template_machine_meaning.specs.Functions.{Invoked, found_called, invo
 use Rattle.template_machine_meaning.specs.Keys.{Around, Head}
 use Rattle.template_machine_meaning.specs.Meaning.{head_of, no_head, walks_of}
 use Rattle.template_machine_meaning.specs.Names as names
+use Rattle.template_machine_going.specs.declared.stop.Stop.{Stop}
 use Rattle.template_machine_meaning.specs.Plans.{Plan, with_turning}
+use Rattle.template_machine_meaning.specs.Replies.{told}
 use Rattle.template_machine_meaning.specs.Surroundings.{Programs, text_reply, written_reply}
 use Rattle.template_machine_meaning.specs.Turnings.{to_text}
 use Rattle.template_machine_meaning.specs.World.{Globals, World, first_world, keeps, looked_up}
@@ -129,7 +131,7 @@ module _ {E C M F J R : Type 0} where
   codes_in says s = named_so (own_name_in s) (codes_of (setting_in says (environment_in s)) (option_map standing_of (template_in s)))
 
   -- A call does by code what a plan comes to in a state, under the fuel that remains, and gives its value; it leaves the second state.
-  pub record DoesThere (says : UserAnswers C M F J) (plan : Plan) (old new : State E C M F J R) (result : Result Val (List ErrorKind)) : Type 0 where
+  pub record DoesThere (says : UserAnswers C M F J) (plan : Plan) (old new : State E C M F J R) (result : Result Val Stop) : Type 0 where
     pub left : Option ℕ
     pub does : DoesPlan value (codes_in says old) plan (world_in old) (fuel_left_in old) None result (world_in new) left None
     pub spent : IsNoMore (fuel_left_in old) left → fuel_left_in new ≡ left
@@ -151,9 +153,10 @@ abbrev pub GivesTold : {X : Type 0} → (X → Answer) → Option ℕ → Result
 GivesTold give fuel (Ok x) r = IsOver (under fuel (run_of r)).end × (r.told ≡ tells (give x))
 GivesTold give fuel (Err kinds) r = FaultsAs (under fuel (run_of r)) kinds ⊎ NoMemory kinds
 
--- a text was made
-abbrev pub text_left : String Global → World → Reply World
-text_left text after = text_reply after (string_bytes text)
+-- The call gives the text that is printed, or it answers with the fault that refuses it. Or a growth was refused.
+abbrev pub GivesPrinted : World → Result (String Global) (List ErrorKind) → Reply World → Type 0
+GivesPrinted w (Ok text) r = r ≡ text_reply w (string_bytes text)
+GivesPrinted w (Err kinds) r = NoMemory kinds ⊎ (r ≡ told w (fails kinds))
 
 -- no template stands under the name that is meant, or no name is
 abbrev pub IsMissing : Registry → Result (List ℕ) (List ErrorKind) → List ErrorKind → Type 0

@@ -105,12 +105,11 @@ impl<'env, 'source, E: Extension> Expression<'env, 'source, E> {
     ///
     /// The fault that the expression ends with, as [`ErrorKind::OutOfFuel`]; [`ErrorKind::InvalidOperation`] where a
     /// namespace in the value is foreign, as one that the context or a global has from another state, or where it holds
-    /// itself, and where no state id is left; [`ErrorKind::OutOfMemory`] where a growth was refused. Never
-    /// [`ErrorKind::WriteFailure`], since it writes nothing.
+    /// itself, and where no state id is left; [`ErrorKind::OutOfMemory`] where a growth was refused.
+    /// [`ErrorKind::WriteFailure`] only where a callable states it, since it writes nothing.
     pub fn eval(&self, ids: &mut StateIds, context: Value) -> Result<Value, Error>
         ensures value { ids.old ≢ u64.MAX → Gives result
             (under (fuel_under self.now) (evaluation_of (user_answers E.Callable.answer E.Method.answer E.Formatter.answer E.Join.answer) self.now ids.old context)) }
-        ensures no_write_failure { IfErr result (λ kinds. kinds ≢ ErrorKind.WriteFailure ∷ []) }
         ensures counted { ids.old ≢ u64.MAX → ids.new ≡ ids.old + 1 }
         ensures exhausted { ids.old ≡ u64.MAX → (result ≡ Err (ErrorKind.InvalidOperation ∷ [])) × (ids.new ≡ ids.old) }
         ensures isolated { IsIsolatedEvaluation (user_answers E.Callable.answer E.Method.answer E.Formatter.answer E.Join.answer) self.now context }
@@ -145,9 +144,8 @@ fn evaluate<'env, 'source, E: Extension>(
     compiled: &'env CompiledExpression<'source>,
     context: Value,
 ) -> Result<Value, Error>
-    ensures value { Gives result (under (registry_of environment.now).fuel
+    ensures { Gives result (under (registry_of environment.now).fuel
         (evaluated (setting_in (user_answers E.Callable.answer E.Method.answer E.Formatter.answer E.Join.answer) environment.now) id (expression_in compiled.now) context)) }
-    ensures no_write_failure { IfErr result (λ kinds. kinds ≢ ErrorKind.WriteFailure ∷ []) }
 {
     let registry = &environment.registry;
     let alloc = registry.alloc;
@@ -159,7 +157,7 @@ fn evaluate<'env, 'source, E: Extension>(
         root: None,
         rules: registry.rules(EXPRESSION),
     };
-    let value = run_expression(
+    match run_expression(
         alloc,
         program,
         compiled.instructions(),
@@ -167,6 +165,8 @@ fn evaluate<'env, 'source, E: Extension>(
         &mut left,
         &mut scratch,
         &mut NullWriter,
-    )?;
-    freeze(alloc, value, &state)
+    ) {
+        Ok(value) => freeze(alloc, value, &state),
+        Err(stop) => Err(stop.into_error()),
+    }
 }

@@ -4,11 +4,11 @@ use crate::starting::unit;
 use std::borrow::CowStr;
 use template_callables::{
     Answer, CallView, Callable, Callbacks, Extension, FormatAnswer, Formatter, PathJoin,
-    UnknownMethod, stated_fault,
+    UnknownMethod,
 };
+use template_machine_going::Stop;
 use template_machine_renders::{Compiled, Templates};
 use template_values_core::Value;
-use template_values_errors::Error;
 
 impl<'source, E: Extension> Callbacks for Environment<'source, E> {
     ghost use Rattle.template_environment.specs.Extras.{user_answers};
@@ -81,12 +81,9 @@ impl<'source, E: Extension> Templates for Environment<'source, E> {
         }
     }
 
-    fn join<'a>(&self, name: &'a str, parent: &str) -> Result<CowStr<'a>, Error> {
+    fn join<'a>(&self, name: &'a str, parent: &str) -> Result<CowStr<'a>, Stop> {
         match &self.extensions.join {
-            Some(join) => match join.join(name, parent) {
-                Ok(meant) => Ok(CowStr::Owned(meant)),
-                Err(error) => Err(stated_fault(error)),
-            },
+            Some(join) => Ok(CowStr::Owned(join.join(name, parent)?)),
             None => Ok(CowStr::Borrowed(name)),
         }
     }

@@ -13,15 +13,13 @@ ghost use Rattle.template_machine_meaning.specs.Keeps.{KeepsBodies};
 ghost use Rattle.template_machine_meaning.specs.Plans.{put_back};
 ghost use Rattle.template_machine_meaning.specs.World.{looked_up};
 ghost use Rattle.template_machine_calls.specs.Formatted.{outside};
-ghost use Rattle.template_machine_calls.specs.Left.{Replied, entry_plan, reached_by};
-ghost use Rattle.template_machine_renders.specs.Joining.{told_name};
-ghost use Rattle.template_machine_renders.specs.Outcomes.{TellsFailures};
+ghost use Rattle.template_machine_calls.specs.Left.{entry_plan, reached_by};
+ghost use Rattle.template_machine_going.specs.Told.{SparesSink};
 ghost use Rattle.template_machine_renders.specs.Plans.{PutsBack, run_of};
-ghost use Rattle.template_machine_renders.specs.Renders.{LeavesFuel, Renders};
 ghost use Rattle.template_machine_state.specs.Names.{is_exported};
 ghost use Rattle.template_environment.specs.Extras.{user_answers};
 ghost use Rattle.template_environment.specs.Reading.{registry_of};
-ghost use Rattle.template_environment.specs.Renderings.{GivesText, IsNoMore, left_of, set_of};
+ghost use Rattle.template_environment.specs.Renderings.{AnswersFailure, GivesText, IsNoMore, LeavesFuel, Renders, left_of, set_of};
 
 use crate::environment::Environment;
 use crate::levels::Levels;
@@ -33,6 +31,7 @@ use template_compiled::CompiledTemplate;
 use template_machine_calls::{
     Entry, Reached, call_filter, call_found, call_test, format_value, turn_all,
 };
+use template_machine_going::Stop;
 use template_machine_output::{NullWriter, Sink};
 use template_machine_renders::{Templates, run_block, run_entry};
 use template_machine_state::{Caller, State as MachineState};
@@ -67,7 +66,7 @@ impl<'env, 'source, E: Extension> Drop for State<'env, 'source, E> {
 
 impl<'env, 'source, E: Extension> State<'env, 'source, E> {
     ghost use Rattle.template_environment.specs.Standing.{settings_of, source_at};
-    ghost use Rattle.template_environment.specs.States.{DoesThere, GivesTold, IsMissing, KeepsRest, KeepsState, around_in, block_in, call_in, environment_in, format_in, frameless, fuel_left_in, fuel_set_in, head_of_template, id_in, joined_in, macro_in, name_in, template_in, text_left, worded_in, world_in};
+    ghost use Rattle.template_environment.specs.States.{DoesThere, GivesPrinted, GivesTold, IsMissing, KeepsRest, KeepsState, around_in, block_in, call_in, environment_in, format_in, frameless, fuel_left_in, fuel_set_in, head_of_template, id_in, joined_in, macro_in, name_in, template_in, worded_in, world_in};
     ghost use Rattle.template_environment.specs.Views.{environment_of, name_of, source_of};
 
     // A state without frames, of a template if one is given, with its escape and blocks, that has consumed no fuel.
@@ -190,9 +189,9 @@ impl<'env, 'source, E: Extension> State<'env, 'source, E> {
     /// # Errors
     ///
     /// [`ErrorKind::UnknownFilter`] where the environment has none of this name; the fault that the filter answers with, or what
-    /// it asks for; [`ErrorKind::InvalidOperation`] where more is asked for at once than there are levels left, and in the
-    /// place of a fault with one of the machine's own kinds; the fault of what runs; [`ErrorKind::OutOfMemory`]. What was open before is so
-    /// again; temps may have been set, and of a fuel that ran out nothing is left.
+    /// it asks for, by the kinds that it states; [`ErrorKind::InvalidOperation`] where more is asked for at once than there are
+    /// levels left; the fault of what runs; [`ErrorKind::OutOfMemory`] alone where a growth was refused. What was open before is
+    /// so again; temps may have been set, and of a fuel that ran out nothing is left.
     pub fn apply_filter(&mut self, name: &str, args: &[Value]) -> Result<Value, Error>
         // Under each bound where it is finished, it is what the call comes to.
         ensures told { let called = call_in (user_answers E.Callable.answer E.Method.answer E.Formatter.answer E.Join.answer) self.old (filter_named name.now) args.now in
@@ -208,17 +207,19 @@ impl<'env, 'source, E: Extension> State<'env, 'source, E> {
 
         // Behind a fault what else was open is so again.
         ensures put_back { OnErr result (PutsBack (world_in self.old) (world_in self.new)) }
-        ensures no_write_failure { IfErr result (λ kinds. kinds ≢ ErrorKind.WriteFailure ∷ []) }
         ensures rest { KeepsState self.old self.new }
     {
         let environment = self.environment;
         let rules = environment.registry.rules(own_name(self.template));
         let alloc = environment.allocator();
         let mark = self.machine.mark(alloc)?;
-        let reached = call_filter(alloc, rules, environment, name, args, &mut self.machine)?;
+        let reached = match call_filter(alloc, rules, environment, name, args, &mut self.machine) {
+            Ok(reached) => reached,
+            Err(stop) => return Err(stop.into_error()),
+        };
         match self.come_to(reached) {
             Ok(value) => Ok(value),
-            Err(error) => Err(self.failed(mark, error)),
+            Err(stop) => Err(self.failed(mark, stop.into_error())),
         }
     }
 
@@ -243,17 +244,19 @@ impl<'env, 'source, E: Extension> State<'env, 'source, E> {
 
         // Behind a fault what else was open is so again.
         ensures put_back { OnErr result (PutsBack (world_in self.old) (world_in self.new)) }
-        ensures no_write_failure { IfErr result (λ kinds. kinds ≢ ErrorKind.WriteFailure ∷ []) }
         ensures rest { KeepsState self.old self.new }
     {
         let environment = self.environment;
         let rules = environment.registry.rules(own_name(self.template));
         let alloc = environment.allocator();
         let mark = self.machine.mark(alloc)?;
-        let reached = call_test(alloc, rules, environment, name, args, &mut self.machine)?;
+        let reached = match call_test(alloc, rules, environment, name, args, &mut self.machine) {
+            Ok(reached) => reached,
+            Err(stop) => return Err(stop.into_error()),
+        };
         match self.come_to(reached) {
             Ok(value) => Ok(value.is_true()),
-            Err(error) => Err(self.failed(mark, error)),
+            Err(stop) => Err(self.failed(mark, stop.into_error())),
         }
     }
 
@@ -281,7 +284,6 @@ impl<'env, 'source, E: Extension> State<'env, 'source, E> {
 
         // Behind a fault what else was open is so again.
         ensures put_back { OnErr result (PutsBack (world_in self.old) (world_in self.new)) }
-        ensures no_write_failure { IfErr result (λ kinds. kinds ≢ ErrorKind.WriteFailure ∷ []) }
         ensures rest { KeepsState self.old self.new }
     {
         let environment = self.environment;
@@ -289,10 +291,13 @@ impl<'env, 'source, E: Extension> State<'env, 'source, E> {
         let alloc = environment.allocator();
         let given = copies(alloc, args)?;
         let mark = self.machine.mark(alloc)?;
-        let reached = call_found(alloc, rules, environment, name, given, &mut self.machine)?;
+        let reached = match call_found(alloc, rules, environment, name, given, &mut self.machine) {
+            Ok(reached) => reached,
+            Err(stop) => return Err(stop.into_error()),
+        };
         let value = match self.come_to(reached) {
             Ok(value) => value,
-            Err(error) => return Err(self.failed(mark, error)),
+            Err(stop) => return Err(self.failed(mark, stop.into_error())),
         };
         let mut text = String::new(alloc);
         match print_to(&value, &self.machine, &mut text) {
@@ -316,12 +321,12 @@ impl<'env, 'source, E: Extension> State<'env, 'source, E> {
     // # Errors
     //
     // Those of `turn_all` and `enter`.
-    fn come_to(&mut self, reached: Reached) -> Result<Value, Error>
+    fn come_to(&mut self, reached: Reached) -> Result<Value, Stop>
         ensures does { let says = user_answers E.Callable.answer E.Method.answer E.Formatter.answer E.Join.answer in
             DoesThere says (reached_by (around_in says self.old) reached (world_in self.old)) self.old self.new result }
         ensures frames { (world_in self.new).frames ≡ (world_in self.old).frames }
         ensures places { KeepsBodies (world_in self.old).blocks (world_in self.new).blocks }
-        ensures no_write_failure { IfErr result (λ kinds. kinds ≢ ErrorKind.WriteFailure ∷ []) }
+        ensures spares { IfErr result SparesSink }
         ensures rest { KeepsState self.old self.new }
     {
         match reached {
@@ -338,12 +343,12 @@ impl<'env, 'source, E: Extension> State<'env, 'source, E> {
     // # Errors
     //
     // Those of `run_entry`.
-    fn enter(&mut self, entry: Entry) -> Result<Value, Error>
+    fn enter(&mut self, entry: Entry) -> Result<Value, Stop>
         ensures does { let says = user_answers E.Callable.answer E.Method.answer E.Formatter.answer E.Join.answer in
             DoesThere says (entry_plan (around_in says self.old) entry (world_in self.old)) self.old self.new result }
         ensures frames { (world_in self.new).frames ≡ (world_in self.old).frames }
         ensures places { KeepsBodies (world_in self.old).blocks (world_in self.new).blocks }
-        ensures no_write_failure { IfErr result (λ kinds. kinds ≢ ErrorKind.WriteFailure ∷ []) }
+        ensures spares { IfErr result SparesSink }
         ensures rest { KeepsState self.old self.new }
     {
         let environment = self.environment;
@@ -402,38 +407,45 @@ impl<'env, 'source, E: Extension> State<'env, 'source, E> {
     ///
     /// # Errors
     ///
-    /// [`ErrorKind::UndefinedError`] where an undefined value may not be printed; the fault that the formatter answers with,
-    /// or [`ErrorKind::InvalidOperation`] in the place of a fault with one of the machine's own kinds; what the escape
-    /// refuses the value with; [`ErrorKind::OutOfMemory`].
+    /// [`ErrorKind::UndefinedError`] where an undefined value may not be printed; the fault that the formatter answers with, by
+    /// the kinds that it states; what the escape refuses the value with; [`ErrorKind::OutOfMemory`] alone where a growth was
+    /// refused.
     pub fn format(&self, value: &Value) -> Result<String, Error>
-        ensures { Replied text_left (format_in (user_answers E.Callable.answer E.Method.answer E.Formatter.answer E.Join.answer) self.now value.now) result (outside (world_in self.now)) }
+        ensures { GivesPrinted (outside (world_in self.now)) result
+            (format_in (user_answers E.Callable.answer E.Method.answer E.Formatter.answer E.Join.answer) self.now value.now) }
     {
         let environment = self.environment;
         let rules = environment.registry.rules(own_name(self.template));
-        format_value(
+        match format_value(
             environment.allocator(),
             rules,
             environment,
             &self.machine,
             value,
-        )
+        ) {
+            Ok(text) => Ok(text),
+            Err(stop) => Err(stop.into_error()),
+        }
     }
 
     /// The template that a name means where it stands in the template of this state's name. Takes a look-up among the names.
     ///
     /// # Errors
     ///
-    /// [`ErrorKind::TemplateNotFound`] where none stands; the fault of the environment's path join callback, or
-    /// [`ErrorKind::InvalidOperation`] in the place of a fault with one of the machine's own kinds; [`ErrorKind::OutOfMemory`].
+    /// [`ErrorKind::TemplateNotFound`] where none stands; the fault of the environment's path join callback, by the kinds that
+    /// it states; [`ErrorKind::OutOfMemory`].
     pub fn get_template(&self, name: &str) -> Result<Template<'env, 'source, E>, Error>
         ensures found { IfOk result (λ t. joined_in (user_answers E.Callable.answer E.Method.answer E.Formatter.answer E.Join.answer) self.now name.now ≡ Ok (name_of t)) }
         ensures stands { IfOk result (λ t. source_at (registry_of (environment_in self.now)) (name_of t) ≡ Some (source_of t)) }
         ensures here { IfOk result (λ t. environment_of t ≡ environment_in self.now) }
         ensures missing { IfErr result (λ kinds. NoMemory kinds
-            ⊎ IsMissing (registry_of (environment_in self.now)) (told_name (joined_in (user_answers E.Callable.answer E.Method.answer E.Formatter.answer E.Join.answer) self.now name.now)) kinds) }
+            ⊎ IsMissing (registry_of (environment_in self.now)) (joined_in (user_answers E.Callable.answer E.Method.answer E.Formatter.answer E.Join.answer) self.now name.now) kinds) }
     {
         let environment = self.environment;
-        let joined = environment.join(name, self.name())?;
+        let joined = match environment.join(name, self.name()) {
+            Ok(joined) => joined,
+            Err(stop) => return Err(stop.into_error()),
+        };
         environment.get_template(joined.as_str())
     }
 
@@ -443,7 +455,7 @@ impl<'env, 'source, E: Extension> State<'env, 'source, E> {
     ///
     /// # Errors
     ///
-    /// As [`State::render_block_to_write`], but never [`ErrorKind::WriteFailure`].
+    /// As [`State::render_block_to_write`]; [`ErrorKind::WriteFailure`] only where a callable states it.
     pub fn render_block(&mut self, block: &str) -> Result<String, Error>
         // Under each bound where its meaning is finished, its text is the one that the call gives.
         ensures text { let ran = block_in (user_answers E.Callable.answer E.Method.answer E.Formatter.answer E.Join.answer) self.old block.now in
@@ -459,7 +471,6 @@ impl<'env, 'source, E: Extension> State<'env, 'source, E> {
 
         // What else was open is so again.
         ensures put_back { PutsBack (world_in self.old) (world_in self.new) }
-        ensures no_write_failure { IfErr result (λ kinds. kinds ≢ ErrorKind.WriteFailure ∷ []) }
         ensures rest { KeepsState self.old self.new }
     {
         let mut text = String::new(self.environment.allocator());
@@ -474,13 +485,18 @@ impl<'env, 'source, E: Extension> State<'env, 'source, E> {
     /// [`ErrorKind::UnknownBlock`] where there is no block of this name; [`ErrorKind::InvalidOperation`] where its only body
     /// requires another, and where no level is left; the fault that the block ends with, as [`ErrorKind::OutOfFuel`]: the
     /// text before it is then in the sink. [`ErrorKind::OutOfMemory`] where a growth was refused, and
-    /// [`ErrorKind::WriteFailure`] where the sink failed; it has then taken a beginning of the text. Frames, captures, the
-    /// escape and the block that runs are then as before; temps, and what the block loaded, stay; of a fuel that ran out nothing is left.
+    /// [`ErrorKind::WriteFailure`] where the sink failed; it has then taken a beginning of the text. Where a callable states
+    /// either as its fault, the sink has not failed. Frames, captures, the escape and the block that runs are then as before;
+    /// temps, and what the block loaded, stay; of a fuel that ran out nothing is left.
     pub fn render_block_to_write<S: Sink>(&mut self, block: &str, sink: &mut S) -> Result<(), Error>
         // Under each bound where its meaning is finished, its text is the one that goes into the sink.
         ensures renders { let ran = block_in (user_answers E.Callable.answer E.Method.answer E.Formatter.answer E.Join.answer) self.old block.now in
-            (n : ℕ) → IsFinished (ran n).end → Renders result (S.taken sink.old) (S.taken sink.new) (under (fuel_left_in self.old) (ran n)) }
+            (n : ℕ) → IsFinished (ran n).end →
+            Renders result (S.taken sink.old) (S.taken sink.new) (S.failures sink.old) (S.failures sink.new) (under (fuel_left_in self.old) (ran n)) }
+
+        // Where the sink does not fail, the fuel that is left is what that leaves.
         ensures remains { let ran = block_in (user_answers E.Callable.answer E.Method.answer E.Formatter.answer E.Join.answer) self.old block.now in
+            S.failures sink.new ≡ S.failures sink.old →
             (n : ℕ) → IsFinished (ran n).end → LeavesFuel (fuel_left_in self.old) (ran n) result (fuel_left_in self.new) }
         ensures world { let ran = block_in (user_answers E.Callable.answer E.Method.answer E.Formatter.answer E.Join.answer) self.old block.now in
             OnOk result ((n : ℕ) → IsFinished (ran n).end → world_in self.new ≡ (under (fuel_left_in self.old) (ran n)).after) }
@@ -491,7 +507,7 @@ impl<'env, 'source, E: Extension> State<'env, 'source, E> {
 
         // What else was open is so again.
         ensures put_back { PutsBack (world_in self.old) (world_in self.new) }
-        ensures failures { TellsFailures result (S.failures sink.old) (S.failures sink.new) }
+        ensures failures { AnswersFailure result (S.failures sink.old) (S.failures sink.new) }
         ensures rest { KeepsState self.old self.new }
     {
         let environment = self.environment;
@@ -508,7 +524,10 @@ impl<'env, 'source, E: Extension> State<'env, 'source, E> {
             sink,
         );
         self.fuel = spend(self.fuel, left);
-        done
+        match done {
+            Ok(()) => Ok(()),
+            Err(stop) => Err(stop.into_error()),
+        }
     }
 
     /// What was consumed of the fuel and what remains of it, where one was set.

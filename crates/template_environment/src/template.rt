@@ -4,13 +4,12 @@ ghost use Rattle.template_values_errors.specs.Memory.{NoMemory};
 ghost use Rattle.template_process.specs.Approximants.{IsFinished};
 ghost use Rattle.template_process.specs.Fuel.{under};
 ghost use Rattle.template_machine_surroundings.specs.Rule.{IsEscapeOf};
-ghost use Rattle.template_machine_renders.specs.Outcomes.{TellsFailures};
-ghost use Rattle.template_machine_renders.specs.Renders.{Renders, leaves};
+ghost use Rattle.template_machine_renders.specs.Renders.{leaves};
 ghost use Rattle.template_compiled.specs.Plain.{IsPlain, text_kept};
 ghost use Rattle.template_environment.specs.Extras.{user_answers};
 ghost use Rattle.template_environment.specs.Plain.{GivesItself, WritesItself};
 ghost use Rattle.template_environment.specs.Reading.{registry_of};
-ghost use Rattle.template_environment.specs.Renderings.{GivesText, rendering_in};
+ghost use Rattle.template_environment.specs.Renderings.{AnswersFailure, GivesText, Renders, rendering_in};
 ghost use Rattle.template_environment.specs.States.{environment_in, fuel_left_in, fuel_set_in, id_in, template_in, world_in};
 
 use crate::environment::Environment;
@@ -140,7 +139,6 @@ impl<'env, 'source, E: Extension> Template<'env, 'source, E> {
 
         // Where what the user brought asks for no names, contexts that agree at those that can matter make no difference.
         ensures isolated { IsIsolated (user_answers E.Callable.answer E.Method.answer E.Formatter.answer E.Join.answer) self.now context }
-        ensures no_write_failure { IfErr result (λ kinds. kinds ≢ ErrorKind.WriteFailure ∷ []) }
         ensures counted { ids.old ≢ u64.MAX → ids.new ≡ ids.old + 1 }
         ensures exhausted { ids.old ≡ u64.MAX → (result ≡ Err (ErrorKind.InvalidOperation ∷ [])) × (ids.new ≡ ids.old) }
     {
@@ -155,9 +153,11 @@ impl<'env, 'source, E: Extension> Template<'env, 'source, E> {
     ///
     /// # Errors
     ///
-    /// The fault that the render ends with, as [`ErrorKind::OutOfFuel`]; the text before it is then dropped.
-    /// [`ErrorKind::OutOfMemory`] where a growth was refused. [`ErrorKind::InvalidOperation`] where no state id is
-    /// left. Never [`ErrorKind::WriteFailure`], since a text takes all that fits into memory.
+    /// The fault that the render ends with, as [`ErrorKind::OutOfFuel`]; the text before it is then dropped. A fault of a
+    /// callable has the kinds that it states, behind a [`ErrorKind::BadInclude`] for each include that it happened in and
+    /// an [`ErrorKind::EvalBlock`] for each `super()`. [`ErrorKind::OutOfMemory`] alone where a growth was refused.
+    /// [`ErrorKind::InvalidOperation`] where no state id is left. [`ErrorKind::WriteFailure`] only where a callable states
+    /// it, since a text takes all that fits into memory.
     pub fn render_captured(
         &self,
         ids: &mut StateIds,
@@ -180,7 +180,6 @@ impl<'env, 'source, E: Extension> Template<'env, 'source, E> {
 
         // Where what the user brought asks for no names, contexts that agree at those that can matter make no difference.
         ensures isolated { IsIsolated (user_answers E.Callable.answer E.Method.answer E.Formatter.answer E.Join.answer) self.now context }
-        ensures no_write_failure { IfErr result (λ kinds. kinds ≢ ErrorKind.WriteFailure ∷ []) }
         ensures given { IfOk result (λ captured. fuel_set captured ≡ fuel_of self.now) }
         ensures here { IfOk result (λ captured. environment_in (state_of captured) ≡ environment_of self.now) }
         ensures of_template { IfOk result (λ captured. template_in (state_of captured) ≡ Some (compiled_of self.now)) }
@@ -210,8 +209,8 @@ impl<'env, 'source, E: Extension> Template<'env, 'source, E> {
     ///
     /// The fault that the render ends with, as [`ErrorKind::OutOfFuel`]: the sink has then taken the text before
     /// it. [`ErrorKind::OutOfMemory`] where a growth was refused and [`ErrorKind::WriteFailure`] where the sink
-    /// failed: it has then taken a beginning of the text. [`ErrorKind::InvalidOperation`] where no state id is left:
-    /// then nothing is written.
+    /// failed: it has then taken a beginning of the text. Where a callable states either as its fault, the sink has not
+    /// failed. [`ErrorKind::InvalidOperation`] where no state id is left: then nothing is written.
     pub fn render_captured_to<S: Sink>(
         &self,
         ids: &mut StateIds,
@@ -221,7 +220,7 @@ impl<'env, 'source, E: Extension> Template<'env, 'source, E> {
         // Under each bound where its meaning is finished, it is what the call does.
         ensures renders { let ran = render_of (user_answers E.Callable.answer E.Method.answer E.Formatter.answer E.Join.answer) self.now ids.old in
             ids.old ≢ u64.MAX → (n : ℕ) → IsFinished (ran n context).end →
-            Renders result (S.taken sink.old) (S.taken sink.new)
+            Renders result (S.taken sink.old) (S.taken sink.new) (S.failures sink.old) (S.failures sink.new)
             (under (fuel_of self.now) (ran n context)) }
         ensures remains { let ran = render_of (user_answers E.Callable.answer E.Method.answer E.Formatter.answer E.Join.answer) self.now ids.old in
             IfOk result (λ captured. (n : ℕ) → IsFinished (ran n context).end →
@@ -236,7 +235,7 @@ impl<'env, 'source, E: Extension> Template<'env, 'source, E> {
 
         // Where what the user brought asks for no names, contexts that agree at those that can matter make no difference.
         ensures isolated { IsIsolated (user_answers E.Callable.answer E.Method.answer E.Formatter.answer E.Join.answer) self.now context }
-        ensures failures { ids.old ≢ u64.MAX → TellsFailures result (S.failures sink.old) (S.failures sink.new) }
+        ensures failures { AnswersFailure result (S.failures sink.old) (S.failures sink.new) }
         ensures given { IfOk result (λ captured. fuel_set captured ≡ fuel_of self.now) }
         ensures here { IfOk result (λ captured. environment_in (state_of captured) ≡ environment_of self.now) }
         ensures of_template { IfOk result (λ captured. template_in (state_of captured) ≡ Some (compiled_of self.now)) }
@@ -268,12 +267,13 @@ fn run<'env, 'source, E: Extension, S: Sink>(
 ) -> Result<State<'env, 'source, E>, Error>
     ensures renders { let ran = rendering_in (user_answers E.Callable.answer E.Method.answer E.Formatter.answer E.Join.answer) environment.now id compiled.now in
         (n : ℕ) → IsFinished (ran n context).end →
-        Renders result (S.taken sink.old) (S.taken sink.new) (under (registry_of environment.now).fuel (ran n context)) }
+        Renders result (S.taken sink.old) (S.taken sink.new) (S.failures sink.old) (S.failures sink.new)
+        (under (registry_of environment.now).fuel (ran n context)) }
     ensures remains { let ran = rendering_in (user_answers E.Callable.answer E.Method.answer E.Formatter.answer E.Join.answer) environment.now id compiled.now in
         IfOk result (λ s. (n : ℕ) → IsFinished (ran n context).end → fuel_left_in s ≡ leaves (registry_of environment.now).fuel (ran n context)) }
     ensures world { let ran = rendering_in (user_answers E.Callable.answer E.Method.answer E.Formatter.answer E.Join.answer) environment.now id compiled.now in
         IfOk result (λ s. (n : ℕ) → IsFinished (ran n context).end → world_in s ≡ (under (registry_of environment.now).fuel (ran n context)).after) }
-    ensures failures { TellsFailures result (S.failures sink.old) (S.failures sink.new) }
+    ensures failures { AnswersFailure result (S.failures sink.old) (S.failures sink.new) }
     ensures given { IfOk result (λ s. fuel_set_in s ≡ (registry_of environment.now).fuel) }
     ensures here { IfOk result (λ s. environment_in s ≡ environment.now) }
     ensures of_template { IfOk result (λ s. template_in s ≡ Some compiled.now) }
@@ -284,21 +284,23 @@ fn run<'env, 'source, E: Extension, S: Sink>(
     let fuel = environment.registry.fuel;
     let mut left = fuel;
     let mut scratch = String::new(alloc);
-    run_template(
+    match run_template(
         alloc,
         program(environment, Some(compiled)),
         &mut machine,
         &mut left,
         &mut scratch,
         sink,
-    )?;
-    Ok(State {
-        id,
-        environment,
-        template: Some(compiled),
-        machine,
-        fuel: spend(unspent(fuel), left),
-    })
+    ) {
+        Ok(()) => Ok(State {
+            id,
+            environment,
+            template: Some(compiled),
+            machine,
+            fuel: spend(unspent(fuel), left),
+        }),
+        Err(stop) => Err(stop.into_error()),
+    }
 }
 
 impl<'env, 'source, E: Extension> Captured<'env, 'source, E> {

@@ -10,6 +10,7 @@ pub use Rattle.template_environment.specs.Meaning
 pub use Rattle.template_environment.specs.Outcomes
 pub use Rattle.template_environment.specs.Plain
 pub use Rattle.template_environment.specs.Reading
+pub use Rattle.template_environment.specs.Renderings
 pub use Rattle.template_environment.specs.Renders
 pub use Rattle.template_environment.specs.Sources
 pub use Rattle.template_environment.specs.Standing

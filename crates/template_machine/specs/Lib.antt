@@ -13,7 +13,6 @@ pub use Rattle.template_machine_surroundings.specs.Answered
 pub use Rattle.template_callables.specs.Callables
 pub use Rattle.template_callables.specs.Answers as CallableAnswers
 pub use Rattle.template_callables.specs.Eithers
-pub use Rattle.template_callables.specs.Faults as CallableFaults
 pub use Rattle.template_callables.specs.Formats
 pub use Rattle.template_callables.specs.Joins
 pub use Rattle.template_callables.specs.Views as CallViews
@@ -69,7 +68,6 @@ pub use Rattle.template_machine_calls.specs.Left as CallsLeft
 pub use Rattle.template_machine_calls.specs.Formatted
 pub use Rattle.template_machine_renders.specs.Laws as BlockRenders
 pub use Rattle.template_machine_renders.specs.Plans as BlockPlans
-pub use Rattle.template_machine_renders.specs.Joining
 pub use Rattle.template_compiler_syntax.specs.Syntax
 pub use Rattle.template_names.specs.Names as UsedNames
 pub use Rattle.template_compiled.specs.Sources

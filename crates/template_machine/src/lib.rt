@@ -61,7 +61,7 @@
 //! more than those that stand in it, where nothing that a user brought asks for a name;
 //! [`enough_is_enough`], [`fuel_adds_up`] and [`writes_beginning`] are the laws of fuel, and
 //! [`good_ends_well`] that of verified instructions. By [`faults_are_meant`] no fault of a template is told as want of
-//! memory, however many includes it happened in. An expression gives the value that its tree means under the fuel,
+//! memory, however many includes it happened in, where what a user brought states none so. An expression gives the value that its tree means under the fuel,
 //! or its fault, unless it wants memory; [`every_evaluation_gives`] says that it is one of the two, and
 //! [`every_expression_gives`] that it stays so where the value is handed out.
 #![tactic(auto)]

@@ -1,5 +1,5 @@
 -- What is asked further, one after another, and what is made of values.
-use Rattle.std.proofs.Common.{◌≡◌, ◌⊎◌, inl, inr, ℕ, zero, suc, List, [], ◌∷◌, ◌++◌, Option, None, Some, Result, Ok, Err, IsErrAnd, refl, sym, ap, ◌∙◌, subst}
+use Rattle.std.proofs.Common.{◌≡◌, ◌⊎◌, ℕ, zero, suc, List, [], ◌∷◌, ◌++◌, Option, None, Some, Result, Ok, Err, IsErrAnd, refl, sym, ap, ◌∙◌, subst}
 use Rattle.template_values_errors.specs.declared.ErrorKind.{ErrorKind}
 use Rattle.template_values_errors.specs.declared.ErrorKind.TheVariants.{InvalidOperation}
 use Rattle.template_values_errors.specs.Memory.{NoMemory}
@@ -14,6 +14,10 @@ use Rattle.template_machine_meaning.specs.Functions.{Invoked, filter_named, test
 use Rattle.template_machine_meaning.specs.Keys.{Around}
 use Rattle.template_machine_meaning.specs.Replies.{told, refused}
 use Rattle.template_machine_meaning.specs.World.{World}
+use Rattle.template_machine_going.specs.Told.{FaultsSo, no_memory, stop_of}
+use Rattle.template_machine_going.specs.declared.stop.Stop.{Stop}
+use Rattle.template_machine_going.specs.declared.stop.Stop.TheVariants.{Fault, Want}
+use Rattle.template_machine_going.proofs.Telling.{told_so}
 use Rattle.template_machine_state.specs.Changes.{OnlyTemps}
 use Rattle.template_machine_calls.specs.Left.{Going, said_plan, asked_plan, turnings_for, turnings_in, with_turnings, Planned, Replied, IsOpenAlike, KeepsWorld, KeptUnlessValue}
 use Rattle.template_machine_calls.specs.declared.outcome.Outcome.{Outcome}
@@ -73,19 +77,19 @@ one_further a plan next ts more pending onward left later w asked before one on 
     ∙ turned_on ts (turnings_for asked) next ∙ ap (λ us. with_turnings us next) (sym is_asked)
 
 -- the same where it failed
-pub further_failed : (a : Around) (plan : Plan) (ts more : List Turning) (pending onward left later : ℕ) (w after : World) (asked : Asked) (kinds : List ErrorKind)
+pub further_failed : (a : Around) (plan : Plan) (ts more : List Turning) (pending onward left later : ℕ) (w after : World) (asked : Asked) (stop : Stop)
     → plan ≡ with_turnings ts (beyond a pending left w asked) → left ≡ suc later → onward ≡ suc pending → more ≡ ts ++ turnings_for asked
-    → NoMemory kinds ⊎ (asked_plan a onward (beyond a onward later) w asked ≡ replies (told after (fails kinds)))
-    → NoMemory kinds ⊎ (plan ≡ replies (told after (fails kinds)))
-further_failed a plan ts more pending onward left later w after asked kinds before one on is_asked (inl why) = inl why
-further_failed a plan ts more pending onward left later w after asked kinds before one on is_asked (inr fault) =
-    inr (one_further a plan (replies (told after (fails kinds))) ts more pending onward left later w asked before one on is_asked fault ∙ turned_fails more after kinds)
+    → FaultsSo (λ kinds. asked_plan a onward (beyond a onward later) w asked ≡ replies (told after (fails kinds))) stop
+    → FaultsSo (λ kinds. plan ≡ replies (told after (fails kinds))) stop
+further_failed a plan ts more pending onward left later w after asked (Fault kinds) before one on is_asked fault =
+    one_further a plan (replies (told after (fails kinds))) ts more pending onward left later w asked before one on is_asked fault ∙ turned_fails more after kinds
+further_failed a plan ts more pending onward left later w after asked (Want kinds) before one on is_asked why = why
 
 -- the same of what is asked at first
-pub turned_failed : (plan first : Plan) (t : Turning) (after : World) (kinds : List ErrorKind) → plan ≡ with_turning t first
-    → NoMemory kinds ⊎ (first ≡ replies (told after (fails kinds))) → NoMemory kinds ⊎ (plan ≡ replies (told after (fails kinds)))
-turned_failed plan first t after kinds is (inl why) = inl why
-turned_failed plan first t after kinds is (inr fault) = inr (is ∙ ap (with_turning t) fault)
+pub turned_failed : (plan first : Plan) (t : Turning) (after : World) (stop : Stop) → plan ≡ with_turning t first
+    → FaultsSo (λ kinds. first ≡ replies (told after (fails kinds))) stop → FaultsSo (λ kinds. plan ≡ replies (told after (fails kinds))) stop
+turned_failed plan first t after (Fault kinds) is fault = is ∙ ap (with_turning t) fault
+turned_failed plan first t after (Want kinds) is why = why
 
 -- a value that nothing is made of, or that is taken for true or false
 pub turned_none : (ts : List called.Turning) (p : Plan) → ts ≡ [] → p ≡ with_turnings (turnings_in ts) p
@@ -113,49 +117,50 @@ pub open_behind : (u v w : World) → OnlyTemps u v → IsOpenAlike v w → IsOp
 open_behind u v w first second = (second.0 ∙ ap (λ (x : World). x.frames) first, second.1 ∙ ap (λ (x : World). x.blocks) first)
 
 -- a plan by another name
-pub planned_as : {X : Type 0} (on : X → World → Plan) (plan same : Plan) (result : Result X (List ErrorKind)) (after : World)
+pub planned_as : {X : Type 0} (on : X → World → Plan) (plan same : Plan) (result : Result X Stop) (after : World)
     → plan ≡ same → Planned on same result after → Planned on plan result after
 planned_as on plan same result after is planned = subst (λ p. Planned on p result after) (sym is) planned
 
--- an error that is handed on
-pub err_planned : {X : Type 0} (on : X → World → Plan) (plan : Plan) (result : Result X (List ErrorKind)) (kinds : List ErrorKind) (after : World)
-    → NoMemory kinds ⊎ (plan ≡ replies (told after (fails kinds))) → IsErrAnd result (λ ks. ks ≡ kinds) → Planned on plan result after
-err_planned on plan (Ok x) kinds after why is = absurd is
-err_planned on plan (Err ks) kinds after why is = subst (λ qs. NoMemory qs ⊎ (plan ≡ replies (told after (fails qs)))) (sym is) why
+-- why a call stopped, which is handed on
+pub stop_planned : {X : Type 0} (on : X → World → Plan) (plan : Plan) (result : Result X Stop) (stop : Stop) (after : World)
+    → FaultsSo (λ kinds. plan ≡ replies (told after (fails kinds))) stop → IsErrAnd result (λ other. other ≡ stop) → Planned on plan result after
+stop_planned on plan (Ok x) stop after why is = absurd is
+stop_planned on plan (Err other) stop after why is = subst (FaultsSo (λ kinds. plan ≡ replies (told after (fails kinds)))) (sym is) why
 
-pub err_replied : {X : Type 0} (on : X → World → Reply World) (reply : Reply World) (result : Result X (List ErrorKind)) (kinds : List ErrorKind) (after : World)
-    → NoMemory kinds ⊎ (reply ≡ told after (fails kinds)) → IsErrAnd result (λ ks. ks ≡ kinds) → Replied on reply result after
-err_replied on reply (Ok x) kinds after why is = absurd is
-err_replied on reply (Err ks) kinds after why is = subst (λ qs. NoMemory qs ⊎ (reply ≡ told after (fails qs))) (sym is) why
+pub stop_replied : {X : Type 0} (on : X → World → Reply World) (reply : Reply World) (result : Result X Stop) (stop : Stop) (after : World)
+    → FaultsSo (λ kinds. reply ≡ told after (fails kinds)) stop → IsErrAnd result (λ other. other ≡ stop) → Replied on reply result after
+stop_replied on reply (Ok x) stop after why is = absurd is
+stop_replied on reply (Err other) stop after why is = subst (FaultsSo (λ kinds. reply ≡ told after (fails kinds))) (sym is) why
+
+-- the error of a call that hears nobody
+pub err_planned : {X : Type 0} (on : X → World → Plan) (plan : Plan) (result : Result X Stop) (kinds : List ErrorKind) (after : World)
+    → NoMemory kinds ⊎ (plan ≡ replies (told after (fails kinds))) → IsErrAnd result (λ stop. stop ≡ stop_of kinds) → Planned on plan result after
+err_planned on plan result kinds after why is =
+    stop_planned on plan result (stop_of kinds) after (told_so (λ ks. plan ≡ replies (told after (fails ks))) kinds why) is
 
 -- no memory is left
-pub want_planned : {X : Type 0} (on : X → World → Plan) (plan : Plan) (result : Result X (List ErrorKind)) (after : World)
-    → IsErrAnd result (λ ks. NoMemory ks) → Planned on plan result after
-want_planned on plan (Ok x) after is = absurd is
-want_planned on plan (Err ks) after why = inl why
+pub want_planned : {X : Type 0} (on : X → World → Plan) (plan : Plan) (result : Result X Stop) (after : World)
+    → IsErrAnd result (λ stop. stop ≡ no_memory) → Planned on plan result after
+want_planned on plan result after is = stop_planned on plan result no_memory after refl is
 
-pub want_kept : (result : Result Reached (List ErrorKind)) (w after : World) → OnlyTemps w after → IsErrAnd result (λ ks. NoMemory ks) → KeptUnlessValue result w after
-want_kept (Ok x) w after kept is = absurd is
-want_kept (Err ks) w after kept is = kept
+pub err_keeps : (result : Result Outcome Stop) (stop : Stop) (w after : World) → OnlyTemps w after
+    → IsErrAnd result (λ other. other ≡ stop) → KeepsWorld result w after
+err_keeps (Ok x) stop w after only is = absurd is
+err_keeps (Err other) stop w after only is = only
 
-pub err_keeps : (result : Result Outcome (List ErrorKind)) (kinds : List ErrorKind) (w after : World) → OnlyTemps w after
-    → IsErrAnd result (λ ks. ks ≡ kinds) → KeepsWorld result w after
-err_keeps (Ok x) kinds w after only is = absurd is
-err_keeps (Err ks) kinds w after only is = only
-
-pub keeps_any : (result : Result Outcome (List ErrorKind)) (w after : World) → OnlyTemps w after → KeepsWorld result w after
+pub keeps_any : (result : Result Outcome Stop) (w after : World) → OnlyTemps w after → KeepsWorld result w after
 keeps_any (Ok (outcome.Value v)) w after only = temps_open w after only
 keeps_any (Ok (outcome.Further further)) w after only = only
 keeps_any (Ok (outcome.Enters e)) w after only = only
-keeps_any (Err kinds) w after only = only
+keeps_any (Err stop) w after only = only
 
-pub err_kept : (result : Result Reached (List ErrorKind)) (kinds : List ErrorKind) (w after : World) → OnlyTemps w after
-    → IsErrAnd result (λ ks. ks ≡ kinds) → KeptUnlessValue result w after
-err_kept (Ok x) kinds w after kept is = absurd is
-err_kept (Err ks) kinds w after kept is = kept
+pub err_kept : (result : Result Reached Stop) (stop : Stop) (w after : World) → OnlyTemps w after
+    → IsErrAnd result (λ other. other ≡ stop) → KeptUnlessValue result w after
+err_kept (Ok x) stop w after kept is = absurd is
+err_kept (Err other) stop w after kept is = kept
 
 -- a call behind another
-pub kept_behind : (result : Result Reached (List ErrorKind)) (u v w : World) → OnlyTemps u v → KeptUnlessValue result v w → KeptUnlessValue result u w
+pub kept_behind : (result : Result Reached Stop) (u v w : World) → OnlyTemps u v → KeptUnlessValue result v w → KeptUnlessValue result u w
 kept_behind (Ok (reached.Value x turnings)) u v w first second = open_behind u v w first second
 kept_behind (Ok (reached.Enters e)) u v w first second = only_temps_on u v w first second
-kept_behind (Err kinds) u v w first second = only_temps_on u v w first second
+kept_behind (Err stop) u v w first second = only_temps_on u v w first second

@@ -1,9 +1,9 @@
 -- Instructions that call give the value of the call, or fail as it does.
-use Rattle.std.proofs.Common.{◌≡◌, ◌⊎◌, inl, inr, ℕ, suc, false, if◌then◌else◌, List, [], ◌∷◌, Option, None, Some, Result, Ok, Err, OnOk, IfErr, IsErrAnd, refl, sym, ap, ◌∙◌, subst}
+use Rattle.std.proofs.Common.{◌≡◌, ℕ, suc, false, if◌then◌else◌, inl, List, [], ◌∷◌, Option, None, Some, Result, Ok, Err, IsErrAnd, refl, sym, ap, ◌∙◌, subst}
 use Rattle.std.specs.Global.{Vec}
 use Rattle.std.proofs.KnownBytes.{Appends-nil}
 use Rattle.template_values_errors.specs.declared.ErrorKind.{ErrorKind}
-use Rattle.template_values_errors.specs.declared.ErrorKind.TheVariants.{WriteFailure}
+use Rattle.template_values_errors.specs.declared.ErrorKind.TheVariants.{OutOfMemory}
 use Rattle.template_values_errors.specs.Memory.{NoMemory}
 use Rattle.template_values_model.specs.Val.{Val}
 use Rattle.template_process.specs.Process.{Counts, Ask, Told, tells, fails, breaks_off, leaves, call_function, value, on_value, asks, over}
@@ -14,7 +14,7 @@ use Rattle.template_walk.specs.Statements.{is_super_name}
 use Rattle.template_machine_meaning.specs.Blocks.{super_called}
 use Rattle.template_machine_meaning.specs.Calls.{call_plan}
 use Rattle.template_machine_meaning.specs.Functions.{name_called}
-use Rattle.template_machine_meaning.specs.Keeps.{IsMeant, IsFault, IsMeantEnd, KeepsWorld}
+use Rattle.template_machine_meaning.specs.Keeps.{KeepsWorld}
 use Rattle.template_machine_meaning.specs.Plans.{Plan, replies, settled, with_turning}
 use Rattle.template_machine_meaning.specs.Replies.{told, changed}
 use Rattle.template_machine_meaning.specs.Turnings as meanings
@@ -24,29 +24,32 @@ use Rattle.template_machine_meaning.specs.World.{World, looked_up}
 use Rattle.template_machine_meaning.proofs.RunsKept.{runs_keep}
 use Rattle.template_machine_going.specs.Acts.{Next, Acts}
 use Rattle.template_machine_going.specs.Outcomes.{FaultsWith, faulting}
+use Rattle.template_machine_going.specs.Told.{FaultsSo, stop_of}
+use Rattle.template_machine_going.specs.declared.stop.Stop.{Stop}
+use Rattle.template_machine_going.specs.declared.stop.Stop.TheVariants.{Fault, Want}
 use Rattle.template_machine_going.proofs.Paths.{paid_nothing}
+use Rattle.template_machine_going.proofs.Telling.{told_so}
 use Rattle.template_machine_operands.specs.Operands.{RefusesHanded}
 use Rattle.template_machine_state.specs.Changes.{OnlyTemps}
 use Rattle.template_machine_acts.proofs.Acting.{events_act, events_fault}
-use Rattle.template_machine_steps.specs.Performs.{spot, SparesSink, Performs}
-use Rattle.template_machine_steps.proofs.Stepping.{handed_on, pushed_out, want_out}
+use Rattle.template_machine_steps.specs.Performs.{spot, StepsHeard, Performs}
+use Rattle.template_machine_steps.proofs.Hearing.{steps_heard}
+use Rattle.template_machine_steps.proofs.Stepping.{pushed_out, want_out}
 use Rattle.template_machine_calls.specs.Left.{entry_plan, reached_by, turnings_in, value_left, with_turnings, Planned, KeptUnlessValue}
 use Rattle.template_machine_calls.specs.Calls.{Enters, Calls, Puts}
 use Rattle.template_machine_calls.specs.declared.reached.Turning.{Turning}
 use Rattle.template_machine_calls.specs.declared.reached.Entry.{Entry}
 use Rattle.template_machine_calls.specs.declared.reached.Reached.{Reached}
 use Rattle.template_machine_calls.specs.declared.reached.Reached.TheVariants as reached
+use Rattle.template_machine_calls.proofs.Chaining.{planned_as}
 
--- a fault that a template means is none of a sink that failed
-fault_spares : (kinds : List ErrorKind) → IsFault kinds → SparesSink kinds
-fault_spares [] meant = absurd meant
-fault_spares (kind ∷ kinds) meant = λ is. let first : kind ≡ WriteFailure = cc in subst IsMeant first meant.0
-
--- every run keeps that its faults are meant
-pub reply_spares : (s : Programs) (e : Ask) (w : World) (kinds : List ErrorKind) (after : World) → ((n : ℕ) → answer s n w e ≡ told after (fails kinds)) → SparesSink kinds
-reply_spares s e w kinds after is =
-    fault_spares kinds
-    (subst (λ (r : Reply World). IsMeantEnd (replied (λ a t. run (answer s 0) (over []) t) r).end) (is 0) (runs_keep s 0 (asks e (λ a. over [])) w).end)
+-- no memory is left
+want_heard : (s : Programs) (c : Code) (operands : List Operand) (w : World) (later : List Operand) (after : World) (kinds : List ErrorKind)
+    → KeepsWorld w after → NoMemory kinds → StepsHeard {X = Unit {0}} s c operands w (Err (Want kinds)) suc later after
+want_heard s c operands w later after kinds kept why =
+    subst (λ ks. StepsHeard {X = Unit {0}} s c operands w (Err (Want ks)) suc later after) (sym why)
+    (steps_heard {X = Unit {0}} s c operands w (Err (OutOfMemory ∷ [])) suc later after
+    (want_out {X = Unit {0}} s c operands w (Err (OutOfMemory ∷ [])) suc later after (OutOfMemory ∷ []) kept refl refl))
 
 -- every run keeps the world, so a reply leaves one that keeps it, whatever it tells
 run_keeps : (s : Programs) (e : Ask) (w : World) (r : Reply World) → answer s 0 w e ≡ r → KeepsWorld w (replied (λ a t. run (answer s 0) (over []) t) r).after
@@ -91,18 +94,21 @@ module _ (s : Programs) (c : Code) (e : Ask) (operands : List Operand) (w : Worl
       (spot place operands w left taken) (λ next. asking next before place) (λ n le. replies_so (told after (fails kinds)) is n) (paid_nothing left) (Appends-nil taken)
 
   -- the value of the call goes on top
-  pub given : {X : Type 0} (result : Result X (List ErrorKind)) (later : List Operand) (v : Val) (after : World) → call ≡ replies (changed after (value v))
-      → OnOk result (later ≡ single v ∷ below) → IfErr result NoMemory → Performs s c operands w result later after
-  given result later v after is put why = pushed_out s c operands w result suc later after below v (gives v after is) put why
+  pub given : (later : List Operand) (v : Val) (after : World) → call ≡ replies (changed after (value v)) → later ≡ single v ∷ below
+      → StepsHeard {X = Unit {0}} s c operands w (Ok tt) suc later after
+  given later v after is put =
+      steps_heard {X = Unit {0}} s c operands w (Ok tt) suc later after
+      (pushed_out {X = Unit {0}} s c operands w (Ok tt) suc later after below v (gives v after is) put tt)
 
   -- or the call failed, or no memory is left
-  pub failed : {X : Type 0} (result : Result X (List ErrorKind)) (later : List Operand) (after : World) (kinds : List ErrorKind)
-      → KeepsWorld w after → NoMemory kinds ⊎ (call ≡ replies (told after (fails kinds))) → IsErrAnd result (λ ks. ks ≡ kinds)
-      → Performs s c operands w result later after
-  failed result later after kinds kept (inl why) is = want_out s c operands w result suc later after kinds kept why is
-  failed result later after kinds kept (inr fault) is =
-      handed_on s c operands w result suc later after kinds kept (reply_spares s e w kinds after (replies_so (told after (fails kinds)) fault))
-      (λ place left taken before to others v. faulting (failing kinds after fault before place left taken)) is
+  pub failed : (later : List Operand) (after : World) (stop : Stop) → KeepsWorld w after → FaultsSo (λ kinds. call ≡ replies (told after (fails kinds))) stop
+      → StepsHeard {X = Unit {0}} s c operands w (Err stop) suc later after
+  failed later after (Fault kinds) kept fault = record {
+    out = λ before place left taken. faulting (failing kinds after fault before place left taken);
+    spares = λ is. cc;
+    keeps = kept;
+  }
+  failed later after (Want kinds) kept why = want_heard s c operands w later after kinds kept why
 
   -- or it enters
   pub entered : (entry : Entry) (later : List Operand) (after : World) → call ≡ entry_plan s.around entry after → OnlyTemps w after → later ≡ below
@@ -115,37 +121,45 @@ module _ (s : Programs) (c : Code) (e : Ask) (operands : List Operand) (w : Worl
   }
 
   -- whatever it came to
-  pub put_out : (came : Reached) (result : Result (Option Entry) (List ErrorKind)) (later : List Operand) (after : World)
+  pub put_out : (came : Reached) (result : Result (Option Entry) Stop) (later : List Operand) (after : World)
       → call ≡ reached_by s.around came after → KeptUnlessValue (Ok came) w after → Puts came after below result later → Calls s c operands w result later after
-  put_out (reached.Value v turnings) (Ok None) later after is kept put = given {X = Unit {0}} (Ok tt) later put.0 after (is ∙ put.1) put.2 tt
-  put_out (reached.Value v turnings) (Err kinds) later after is kept (inl why) =
-      failed {X = Unit {0}} (Err kinds) later after kinds (value_keeps v turnings after is) (inl why) refl
-  put_out (reached.Value v turnings) (Err kinds) later after is kept (inr fault) =
-      failed {X = Unit {0}} (Err kinds) later after kinds (value_keeps v turnings after is) (inr (is ∙ fault)) refl
+  put_out (reached.Value v turnings) (Ok None) later after is kept put = given later put.0 after (is ∙ put.1) put.2
+  put_out (reached.Value v turnings) (Err stop) later after is kept put =
+      failed later after stop (value_keeps v turnings after is)
+      (planned_as {X = Val} value_left call (with_turnings (turnings_in turnings.items) (value_left v after)) (Err stop) after is put)
   put_out (reached.Value v turnings) (Ok (Some entry)) later after is kept none = absurd none
   put_out (reached.Enters entry) (Ok (Some same)) later after is kept put =
       subst (λ (x : Entry). Enters s c operands w x later after) (sym put.0) (entered entry later after is kept put.1)
   put_out (reached.Enters entry) (Ok None) later after is kept none = absurd none
-  put_out (reached.Enters entry) (Err kinds) later after is kept none = absurd none
+  put_out (reached.Enters entry) (Err stop) later after is kept none = absurd none
 
 -- a value that could not be turned, or be put there
-pub puts_err : (v : Val) (turnings : Vec Turning) (w : World) (operands : List Operand) (result : Result (Option Entry) (List ErrorKind)) (kinds : List ErrorKind) (later : List Operand)
-    → Planned value_left (with_turnings (turnings_in turnings.items) (value_left v w)) (Err kinds) w → IsErrAnd result (λ ks. ks ≡ kinds)
+pub puts_stop : (v : Val) (turnings : Vec Turning) (w : World) (operands : List Operand) (result : Result (Option Entry) Stop) (stop : Stop) (later : List Operand)
+    → Planned value_left (with_turnings (turnings_in turnings.items) (value_left v w)) (Err stop) w → IsErrAnd result (λ other. other ≡ stop)
     → Puts (reached.Value v turnings) w operands result later
-puts_err v turnings w operands (Ok x) kinds later why is = absurd is
-puts_err v turnings w operands (Err ks) kinds later why is =
-    subst (λ qs. Planned value_left (with_turnings (turnings_in turnings.items) (value_left v w)) (Err qs) w) (sym is) why
+puts_stop v turnings w operands (Ok x) stop later why is = absurd is
+puts_stop v turnings w operands (Err other) stop later why is =
+    subst (λ (x : Stop). Planned value_left (with_turnings (turnings_in turnings.items) (value_left v w)) (Err x) w) (sym is) why
 
-pub puts_want : (v : Val) (turnings : Vec Turning) (w : World) (operands : List Operand) (result : Result (Option Entry) (List ErrorKind)) (kinds : List ErrorKind) (later : List Operand)
-    → NoMemory kinds → IsErrAnd result (λ ks. ks ≡ kinds) → Puts (reached.Value v turnings) w operands result later
-puts_want v turnings w operands result kinds later why is = puts_err v turnings w operands result kinds later (inl why) is
+pub puts_want : (v : Val) (turnings : Vec Turning) (w : World) (operands : List Operand) (result : Result (Option Entry) Stop) (kinds : List ErrorKind) (later : List Operand)
+    → NoMemory kinds → IsErrAnd result (λ stop. stop ≡ stop_of kinds) → Puts (reached.Value v turnings) w operands result later
+puts_want v turnings w operands result kinds later why is =
+    puts_stop v turnings w operands result (stop_of kinds) later
+    (told_so (λ ks. with_turnings (turnings_in turnings.items) (value_left v w) ≡ replies (told w (fails ks))) kinds (inl why)) is
 
--- an error that is handed on
-pub err_out : (s : Programs) (c : Code) (operands : List Operand) (w : World) (result : Result (Option Entry) (List ErrorKind)) (later : List Operand) (after : World)
-    (kinds : List ErrorKind) → Performs {X = Unit {0}} s c operands w (Err kinds) later after → IsErrAnd result (λ ks. ks ≡ kinds) → Calls s c operands w result later after
-err_out s c operands w (Ok x) later after kinds performs is = absurd is
-err_out s c operands w (Err ks) later after kinds performs is =
-    subst (λ qs. Performs {X = Unit {0}} s c operands w (Err qs) later after) (sym is) performs
+-- why a call stopped, which is handed on
+pub stop_out : (s : Programs) (c : Code) (operands : List Operand) (w : World) (result : Result (Option Entry) Stop) (later : List Operand) (after : World)
+    (stop : Stop) → StepsHeard {X = Unit {0}} s c operands w (Err stop) suc later after → IsErrAnd result (λ other. other ≡ stop) → Calls s c operands w result later after
+stop_out s c operands w (Ok x) later after stop performs is = absurd is
+stop_out s c operands w (Err other) later after stop performs is =
+    subst (λ (x : Stop). StepsHeard {X = Unit {0}} s c operands w (Err x) suc later after) (sym is) performs
+
+-- the error of one that hears nobody
+pub err_out : (s : Programs) (c : Code) (operands : List Operand) (w : World) (result : Result (Option Entry) Stop) (later : List Operand) (after : World)
+    (kinds : List ErrorKind) → Performs {X = Unit {0}} s c operands w (Err kinds) later after → IsErrAnd result (λ stop. stop ≡ stop_of kinds)
+    → Calls s c operands w result later after
+err_out s c operands w result later after kinds performs is =
+    stop_out s c operands w result later after (stop_of kinds) (steps_heard {X = Unit {0}} s c operands w (Err kinds) suc later after performs) is
 
 -- operands that were taken by another name of the count
 pub handed_as : (count same : Option ℕ) (operands : List Operand) (given : Option (List Val × List Operand)) → count ≡ same

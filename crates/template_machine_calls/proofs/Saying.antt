@@ -1,5 +1,5 @@
 -- What a user's own answers is what is said.
-use Rattle.std.proofs.Common.{◌≡◌, ◌⊎◌, inl, inr, ℕ, List, [], ◌∷◌, Option, None, Some, Result, refl, sym, ap, ◌∙◌}
+use Rattle.std.proofs.Common.{◌≡◌, ◌⊎◌, inl, inr, ℕ, List, [], ◌∷◌, Option, None, Some, Result, refl, sym, ap, subst}
 use Rattle.std.specs.Prelude.{String}
 use Rattle.std.specs.Global.{Global, Vec}
 use Rattle.template_values_errors.specs.declared.ErrorKind.{ErrorKind}
@@ -9,7 +9,6 @@ use Rattle.template_values_model.specs.Val.{Val}
 use Rattle.template_callables.specs.Answers.{Answers, temps_in, asked_by}
 use Rattle.template_callables.specs.Callables.{View, Stated, Says}
 use Rattle.template_callables.specs.Callbacks.{AnswersUnder}
-use Rattle.template_callables.specs.Faults.{stated_kinds}
 use Rattle.template_callables.specs.declared.answer.Answer.{Answer}
 use Rattle.template_callables.specs.declared.answer.Answer.TheVariants.{Done, Fault, More}
 use Rattle.template_callables.specs.declared.answer.Further.{Further}
@@ -19,6 +18,9 @@ use Rattle.template_machine_meaning.specs.Keys.{Around}
 use Rattle.template_machine_meaning.specs.Plans.{replies}
 use Rattle.template_machine_meaning.specs.Replies.{told, changed}
 use Rattle.template_machine_meaning.specs.World.{World}
+use Rattle.template_machine_going.specs.Told.{FaultsSo, stop_of}
+use Rattle.template_machine_going.specs.declared.stop.Stop.{Stop}
+use Rattle.template_machine_going.proofs.Telling.{told_so}
 use Rattle.template_machine_calls.specs.Left.{Going, said_plan, left_by, Planned}
 use Rattle.template_machine_calls.specs.declared.outcome.Outcome.{Outcome}
 
@@ -35,13 +37,16 @@ module _ (a : Around) (pending : ℕ) (go : Going) (w : World) where
   stated_more stated temps further (inl is) = ap (stated_plan go w) (sym is)
   stated_more stated temps further (inr is) = cc
 
-  -- a fault, by its kinds, or by others that are those that it states
-  pub stated_failed : (stated : Stated) (kinds made : List ErrorKind) → Answers stated (Fault kinds)
-      → (made ≡ stated_kinds kinds) ⊎ NoMemory made → (NoMemory kinds → NoMemory made)
-      → NoMemory made ⊎ (stated_plan go w stated ≡ replies (told w (fails made)))
-  stated_failed stated kinds made answers (inr why) want = inl why
-  stated_failed stated kinds made (inl is) (inl same) want = inr (ap (stated_plan go w) (sym is) ∙ ap (λ ks. replies (told w (fails ks))) (sym same))
-  stated_failed stated kinds made (inr is) (inl same) want = let why : kinds ≡ OutOfMemory ∷ [] = cc in inl (want why)
+  -- a fault, or no memory is left
+  failed_so : (stated : Stated) (kinds : List ErrorKind) → Answers stated (Fault kinds) → NoMemory kinds ⊎ (stated_plan go w stated ≡ replies (told w (fails kinds)))
+  failed_so stated kinds (inl is) = inr (ap (stated_plan go w) (sym is))
+  failed_so stated kinds (inr is) = let why : kinds ≡ OutOfMemory ∷ [] = cc in inl why
+
+  pub stated_failed : (stated : Stated) (kinds : List ErrorKind) (stop : Stop) → Answers stated (Fault kinds) → stop ≡ stop_of kinds
+      → FaultsSo (λ ks. stated_plan go w stated ≡ replies (told w (fails ks))) stop
+  stated_failed stated kinds stop answers is =
+      subst (FaultsSo (λ ks. stated_plan go w stated ≡ replies (told w (fails ks)))) (sym is)
+      (told_so (λ ks. stated_plan go w stated ≡ replies (told w (fails ks))) kinds (failed_so stated kinds answers))
 
   module _ (kind : ErrorKind) (view : View) (args : List Val) where
     -- nothing answers
@@ -50,7 +55,7 @@ module _ (a : Around) (pending : ℕ) (go : Going) (w : World) where
     said_none (Some says) none = absurd none
 
     -- what answers is what says so
-    pub said_some : (says : Option Says) (answer : Answer) (result : Result Outcome (List ErrorKind)) (after : World)
+    pub said_some : (says : Option Says) (answer : Answer) (result : Result Outcome Stop) (after : World)
         → AnswersUnder says view args (Some answer) → ((stated : Stated) → Answers stated answer → Planned (left_by a pending go) (stated_plan go w stated) result after)
         → Planned (left_by a pending go) (said_plan go w kind view args says) result after
     said_some None answer result after none comes = absurd (cc)

@@ -1,5 +1,5 @@
 -- What is made of values, and in which order.
-use Rattle.std.proofs.Common.{length, arith, ◌≡◌, ◌⊎◌, inl, inr, ℕ, Bool, List, [], ◌∷◌, ◌++◌, Option, None, Some, Result, Ok, Err, IfOk, IfErr, refl, sym, ap, ◌∙◌, subst, append-nil}
+use Rattle.std.proofs.Common.{length, arith, ◌≡◌, ◌⊎◌, inl, inr, ℕ, Bool, List, [], ◌∷◌, ◌++◌, Option, None, Some, Result, Ok, Err, refl, sym, ap, ◌∙◌, subst, append-nil}
 use Rattle.template_values_errors.specs.declared.ErrorKind.{ErrorKind}
 use Rattle.template_values_errors.specs.declared.modes.AutoEscape.{AutoEscape}
 use Rattle.template_values_errors.specs.Memory.{NoMemory}
@@ -17,7 +17,10 @@ use Rattle.template_machine_meaning.specs.Records.{known_of}
 use Rattle.template_machine_meaning.specs.Replies.{told, kinded}
 use Rattle.template_machine_meaning.specs.Turnings.{to_truth, to_text, decided, worded}
 use Rattle.template_machine_meaning.specs.World.{World, keeps}
-use Rattle.template_machine_calls.specs.Left.{turning_in, turnings_for, turnings_in, value_left, with_turnings, Planned}
+use Rattle.template_machine_going.specs.Told.{FaultsSo}
+use Rattle.template_machine_going.specs.declared.stop.Stop.{Stop}
+use Rattle.template_machine_going.specs.declared.stop.Stop.TheVariants as stops
+use Rattle.template_machine_calls.specs.Left.{turning_in, turnings_for, turnings_in, value_left, with_turnings}
 use Rattle.template_machine_calls.specs.Noted.{turnings_or_none}
 use Rattle.template_machine_calls.specs.declared.reached.Turning.{Turning}
 use Rattle.template_machine_calls.proofs.Chaining.{turned_fails, turned_on}
@@ -47,12 +50,13 @@ pub next_turned : (all left : List Turning) (t : Turning) (plan : Plan) (v u : V
     → all ≡ left ++ t ∷ [] → with_turning (turning_in t) (value_left v w) ≡ value_left u w → plan ≡ with_turnings (turnings_in left) (value_left u w)
 next_turned all left t plan v u w before is comes = before ∙ last_first all left t (value_left v w) is ∙ ap (with_turnings (turnings_in left)) comes
 
-pub turning_failed : (all left : List Turning) (t : Turning) (plan : Plan) (v : Val) (w : World) (kinds : List ErrorKind)
+pub turning_failed : (all left : List Turning) (t : Turning) (plan : Plan) (v : Val) (w : World) (stop : Stop)
     → plan ≡ with_turnings (turnings_in all) (value_left v w) → all ≡ left ++ t ∷ []
-    → NoMemory kinds ⊎ (with_turning (turning_in t) (value_left v w) ≡ replies (told w (fails kinds))) → NoMemory kinds ⊎ (plan ≡ replies (told w (fails kinds)))
-turning_failed all left t plan v w kinds before is (inl why) = inl why
-turning_failed all left t plan v w kinds before is (inr fault) =
-    inr (before ∙ last_first all left t (value_left v w) is ∙ ap (with_turnings (turnings_in left)) fault ∙ turned_fails (turnings_in left) w kinds)
+    → FaultsSo (λ kinds. with_turning (turning_in t) (value_left v w) ≡ replies (told w (fails kinds))) stop
+    → FaultsSo (λ kinds. plan ≡ replies (told w (fails kinds))) stop
+turning_failed all left t plan v w (stops.Fault kinds) before is fault =
+    before ∙ last_first all left t (value_left v w) is ∙ ap (with_turnings (turnings_in left)) fault ∙ turned_fails (turnings_in left) w kinds
+turning_failed all left t plan v w (stops.Want kinds) before is why = why
 
 pub all_turned : (all : List Turning) (plan : Plan) (v : Val) (w : World) → plan ≡ with_turnings (turnings_in all) (value_left v w) → length all ≡ 0 → plan ≡ value_left v w
 all_turned [] plan v w before none = before
@@ -103,10 +107,9 @@ text_turned w v u before after none is made =
     worded_value w (printed (known_of w) v) after (subst (λ (b : List ℕ). AppendsOrRefuses b (printed (known_of w) v) (Ok tt) after) none is)
     ∙ ap (λ x. value_left x w) (sym made)
 
--- the text becomes the value, or no memory is left
-pub text_planned : (w : World) (v : Val) (before after : List ℕ) (rule : AutoEscape) (result : Result Val (List ErrorKind)) → before ≡ []
-    → AppendsOrRefuses before (printed (known_of w) v) (Ok tt) after → rule ≡ w.escape → IfOk result (λ u. u ≡ captured rule (keeps after)) → IfErr result NoMemory
-    → Planned value_left (with_turning to_text (value_left v w)) result w
-text_planned w v before after rule (Ok u) none is same made why =
+-- by another name of the escape
+pub text_worded : (w : World) (v u : Val) (before after : List ℕ) (rule : AutoEscape) → before ≡ []
+    → AppendsOrRefuses before (printed (known_of w) v) (Ok tt) after → rule ≡ w.escape → u ≡ captured rule (keeps after)
+    → with_turning to_text (value_left v w) ≡ value_left u w
+text_worded w v u before after rule none is same made =
     text_turned w v u before after none is (made ∙ ap (λ (r : AutoEscape). captured r (keeps after)) same)
-text_planned w v before after rule (Err kinds) none is same made why = inl why

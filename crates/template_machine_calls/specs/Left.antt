@@ -1,7 +1,6 @@
 -- What is left of a call, and what it comes to.
-use Rattle.std.specs.Prelude.{◌≡◌, ◌⊎◌, ℕ, List, [], ◌∷◌, map, Option, None, Some, Result, Ok, Err, string_bytes}
+use Rattle.std.specs.Prelude.{◌≡◌, ℕ, List, [], ◌∷◌, map, Option, None, Some, Result, Ok, Err, string_bytes}
 use Rattle.template_values_errors.specs.declared.ErrorKind.{ErrorKind}
-use Rattle.template_values_errors.specs.Memory.{NoMemory}
 use Rattle.template_values_model.specs.Val.{Val}
 use Rattle.template_callables.specs.Answers.{asked_by}
 use Rattle.template_callables.specs.Callables.{View, Asked, call, filter, test, lookup, call_macro, block, Says}
@@ -20,6 +19,8 @@ use Rattle.template_machine_meaning.specs.Records.{macro_of, loop_of}
 use Rattle.template_machine_meaning.specs.Replies.{told, changed, refused}
 use Rattle.template_machine_meaning.specs.World.{World, looked_up, value_named}
 use Rattle.template_machine_state.specs.Changes.{OnlyTemps}
+use Rattle.template_machine_going.specs.Told.{FaultsSo}
+use Rattle.template_machine_going.specs.declared.stop.Stop.{Stop}
 use Rattle.template_machine_calls.specs.declared.outcome.Outcome.{Outcome}
 use Rattle.template_machine_calls.specs.declared.outcome.Outcome.TheVariants as outcome
 use Rattle.template_machine_calls.specs.declared.reached.Turning.{Turning}
@@ -94,14 +95,14 @@ reached_by a (reached.Value v turnings) after = with_turnings (turnings_in turni
 reached_by a (reached.Enters e) after = entry_plan a e after
 
 -- what a call came to is planned, or its fault is; or no memory is left
-abbrev pub Planned : {X : Type 0} → (X → World → Plan) → Plan → Result X (List ErrorKind) → World → Type 0
+abbrev pub Planned : {X : Type 0} → (X → World → Plan) → Plan → Result X Stop → World → Type 0
 Planned on plan (Ok x) after = plan ≡ on x after
-Planned on plan (Err kinds) after = NoMemory kinds ⊎ (plan ≡ replies (told after (fails kinds)))
+Planned on plan (Err stop) after = FaultsSo (λ kinds. plan ≡ replies (told after (fails kinds))) stop
 
 -- a reply is given, or its fault is; or no memory is left
-abbrev pub Replied : {X : Type 0} → (X → World → Reply World) → Reply World → Result X (List ErrorKind) → World → Type 0
+abbrev pub Replied : {X : Type 0} → (X → World → Reply World) → Reply World → Result X Stop → World → Type 0
 Replied on reply (Ok x) after = reply ≡ on x after
-Replied on reply (Err kinds) after = NoMemory kinds ⊎ (reply ≡ told after (fails kinds))
+Replied on reply (Err stop) after = FaultsSo (λ kinds. reply ≡ told after (fails kinds)) stop
 
 -- the frames that are open are as they were, and so are the bodies of blocks
 abbrev pub IsOpenAlike : World → World → Type 0
@@ -109,13 +110,13 @@ IsOpenAlike w after = (after.frames ≡ w.frames) × (after.blocks ≡ w.blocks)
 
 -- Where a call came to no value yet, or failed, nothing but what callables have set is other; where it came to one, what is open
 -- is as it was.
-abbrev pub KeepsWorld : Result Outcome (List ErrorKind) → World → World → Type 0
+abbrev pub KeepsWorld : Result Outcome Stop → World → World → Type 0
 KeepsWorld (Ok (outcome.Value v)) w after = IsOpenAlike w after
 KeepsWorld (Ok (outcome.Further further)) w after = OnlyTemps w after
 KeepsWorld (Ok (outcome.Enters e)) w after = OnlyTemps w after
-KeepsWorld (Err kinds) w after = OnlyTemps w after
+KeepsWorld (Err stop) w after = OnlyTemps w after
 
-abbrev pub KeptUnlessValue : Result Reached (List ErrorKind) → World → World → Type 0
+abbrev pub KeptUnlessValue : Result Reached Stop → World → World → Type 0
 KeptUnlessValue (Ok (reached.Value v turnings)) w after = IsOpenAlike w after
 KeptUnlessValue (Ok (reached.Enters e)) w after = OnlyTemps w after
-KeptUnlessValue (Err kinds) w after = OnlyTemps w after
+KeptUnlessValue (Err stop) w after = OnlyTemps w after

@@ -16,11 +16,12 @@ use crate::reached::Entering;
 use crate::rules::Rules;
 use std::alloc::Global;
 use template_callables::{Callbacks, Further};
+use template_machine_going::Stop;
 use template_machine_operations as values;
 use template_machine_operations::Called;
 use template_machine_state::State;
 use template_values_core::Value;
-use template_values_errors::{Error, ErrorKind};
+use template_values_errors::ErrorKind;
 
 // What a filter comes to so far.
 //
@@ -33,7 +34,7 @@ pub(crate) fn ask_filter<H: Callbacks>(
     name: &str,
     args: &[Value],
     state: &mut State<'_>,
-) -> Result<Outcome, Error>
+) -> Result<Outcome, Stop>
     ensures comes { (a : Around) (pending : ℕ) (go : Going) → let around = around_under rules.entry (H.callables host.now) a in
         Planned (left_by around pending go) (raw_plan around go state.old (filter_named name.now) args.now) result state.new }
     ensures kept { OnlyTemps state.old state.new }
@@ -54,7 +55,7 @@ pub(crate) fn ask_test<H: Callbacks>(
     name: &str,
     args: &[Value],
     state: &mut State<'_>,
-) -> Result<Outcome, Error>
+) -> Result<Outcome, Stop>
     ensures comes { (a : Around) (pending : ℕ) (go : Going) → let around = around_under rules.entry (H.callables host.now) a in
         Planned (left_by around pending go) (raw_plan around go state.old (test_named name.now) args.now) result state.new }
     ensures kept { OnlyTemps state.old state.new }
@@ -75,7 +76,7 @@ fn ask_function<H: Callbacks>(
     number: usize,
     args: &[Value],
     state: &mut State<'_>,
-) -> Result<Outcome, Error>
+) -> Result<Outcome, Stop>
     ensures comes { (a : Around) (pending : ℕ) (go : Going) → let around = around_under rules.entry (H.callables host.now) a in
         Planned (left_by around pending go) (raw_plan around go state.old (function_numbered number) args.now) result state.new }
     ensures kept { OnlyTemps state.old state.new }
@@ -97,7 +98,7 @@ pub(crate) fn ask_method<H: Callbacks>(
     name: &str,
     args: &[Value],
     state: &mut State<'_>,
-) -> Result<Outcome, Error>
+) -> Result<Outcome, Stop>
     ensures comes { (a : Around) (pending : ℕ) (go : Going) → let around = around_under rules.entry (H.callables host.now) a in
         Planned (left_by around pending go) (raw_plan around go state.old (method_of object.now name.now) args.now) result state.new }
     ensures kept { OnlyTemps state.old state.new }
@@ -119,7 +120,7 @@ pub(crate) fn begin<H: Callbacks>(
     called: Called,
     args: Vec<Value>,
     state: &mut State<'_>,
-) -> Result<Outcome, Error>
+) -> Result<Outcome, Stop>
     ensures comes { (a : Around) (pending : ℕ) (go : Going) (came : functions.Called) → Comes (Ok called) args.items came →
         let around = around_under rules.entry (H.callables host.now) a in
         Planned (left_by around pending go) (called_plan around pending go state.old came) result state.new }
@@ -150,7 +151,7 @@ pub(crate) fn ask<H: Callbacks>(
     host: &H,
     further: Further,
     state: &mut State<'_>,
-) -> Result<Outcome, Error>
+) -> Result<Outcome, Stop>
     ensures comes { (a : Around) (pending : ℕ) (go : Going) → let around = around_under rules.entry (H.callables host.now) a in
         Planned (left_by around pending go) (asked_plan around pending go state.old (asked_by further)) result state.new }
     ensures kept { KeepsWorld result state.old state.new }

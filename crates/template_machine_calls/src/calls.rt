@@ -16,12 +16,12 @@ use crate::reached::{Reached, Turning};
 use crate::rules::Rules;
 use std::alloc::Global;
 use template_callables::Callbacks;
+use template_machine_going::Stop;
 use template_machine_operations as values;
 use template_machine_operations::Called;
 use template_machine_state::State;
 use template_values_core::Value;
-use template_values_errors::Error;
-use template_values_operators::refusal;
+use template_values_errors::{Error, ErrorKind};
 
 /// What a filter comes to for arguments, the first of which is what it filters, and what it asks further: at most as much at once
 /// as levels are left. Costs what the filter costs, and what it asks for.
@@ -29,8 +29,7 @@ use template_values_operators::refusal;
 /// # Errors
 ///
 /// [`ErrorKind::UnknownFilter`] where the host has none of this name; the fault that the filter answers with, or what it asks for;
-/// [`ErrorKind::InvalidOperation`] where more is asked for at once than there are levels left, and in the place of a fault with
-/// one of the machine's own kinds; [`ErrorKind::OutOfMemory`].
+/// [`ErrorKind::InvalidOperation`] where more is asked for at once than there are levels left; [`ErrorKind::OutOfMemory`].
 ///
 /// [`ErrorKind::UnknownFilter`]: template_values_errors::ErrorKind::UnknownFilter
 /// [`ErrorKind::InvalidOperation`]: template_values_errors::ErrorKind::InvalidOperation
@@ -42,7 +41,7 @@ pub fn call_filter<H: Callbacks>(
     name: &str,
     args: &[Value],
     state: &mut State<'_>,
-) -> Result<Reached, Error>
+) -> Result<Reached, Stop>
     ensures told { (a : Around) → let around = around_under rules.entry (H.callables host.now) a in
         Planned (reached_by around) (call_plan around state.old (invokes (filter_named name.now) args.now)) result state.new }
     ensures kept { KeptUnlessValue result state.old state.new }
@@ -66,7 +65,7 @@ pub fn call_test<H: Callbacks>(
     name: &str,
     args: &[Value],
     state: &mut State<'_>,
-) -> Result<Reached, Error>
+) -> Result<Reached, Stop>
     ensures told { (a : Around) → let around = around_under rules.entry (H.callables host.now) a in
         Planned (reached_by around) (call_plan around state.old (invokes (test_named name.now) args.now)) result state.new }
     ensures kept { KeptUnlessValue result state.old state.new }
@@ -74,8 +73,10 @@ pub fn call_test<H: Callbacks>(
     let levels = levels_left(rules.limit, state);
     let outcome = ask_test(rules, host, name, args, state)?;
     let mut turnings = Vec::new(alloc);
-    turnings.push(Turning::Truth)?;
-    conclude(alloc, rules, host, levels, turnings, outcome, state)
+    match turnings.push(Turning::Truth) {
+        Ok(()) => conclude(alloc, rules, host, levels, turnings, outcome, state),
+        Err(refused) => Err(Stop::Want(refused.into())),
+    }
 }
 
 /// What the value under a name comes to that is called with arguments, and what it asks further, as [`call_filter`].
@@ -94,7 +95,7 @@ pub fn call_found<H: Callbacks>(
     name: &str,
     args: Vec<Value>,
     state: &mut State<'_>,
-) -> Result<Reached, Error>
+) -> Result<Reached, Stop>
     ensures told { (a : Around) → let around = around_under rules.entry (H.callables host.now) a in
         let called = found_called state.old.globals (looked_up name.now state.old) args.items in
         Planned (reached_by around) (call_plan around state.old called) result state.new }
@@ -117,7 +118,7 @@ pub(crate) fn call_named<H: Callbacks>(
     name: &str,
     args: Vec<Value>,
     state: &mut State<'_>,
-) -> Result<Reached, Error>
+) -> Result<Reached, Stop>
     ensures told { (a : Around) → let around = around_under rules.entry (H.callables host.now) a in
         let called = name_called state.old.globals (looked_up name.now state.old) args.items in
         Planned (reached_by around) (call_plan around state.old called) result state.new }
@@ -139,14 +140,14 @@ pub(crate) fn call_first<H: Callbacks>(
     host: &H,
     taken: Vec<Value>,
     state: &mut State<'_>,
-) -> Result<Reached, Error>
+) -> Result<Reached, Stop>
     ensures told { (a : Around) → let around = around_under rules.entry (H.callables host.now) a in
         Planned (reached_by around) (call_plan around state.old (first_called state.old.globals taken.items)) result state.new }
     ensures kept { KeptUnlessValue result state.old state.new }
 {
     match split_first(taken) {
         Some((callee, args)) => call_value(alloc, rules, host, callee, args, state),
-        None => refusal(),
+        None => Err(Stop::Fault(Error::new(ErrorKind::InvalidOperation))),
     }
 }
 
@@ -162,7 +163,7 @@ pub(crate) fn call_first_method<H: Callbacks>(
     name: &str,
     taken: Vec<Value>,
     state: &mut State<'_>,
-) -> Result<Reached, Error>
+) -> Result<Reached, Stop>
     ensures told { (a : Around) → let around = around_under rules.entry (H.callables host.now) a in
         let called = first_method state.old.globals (known_of state.old) name.now taken.items in
         Planned (reached_by around) (call_plan around state.old called) result state.new }
@@ -170,7 +171,7 @@ pub(crate) fn call_first_method<H: Callbacks>(
 {
     match split_first(taken) {
         Some((object, args)) => call_method_of(alloc, rules, host, name, object, args, state),
-        None => refusal(),
+        None => Err(Stop::Fault(Error::new(ErrorKind::InvalidOperation))),
     }
 }
 
@@ -199,7 +200,7 @@ fn call_value<H: Callbacks>(
     callee: Value,
     args: Vec<Value>,
     state: &mut State<'_>,
-) -> Result<Reached, Error>
+) -> Result<Reached, Stop>
     ensures told { (a : Around) → let around = around_under rules.entry (H.callables host.now) a in
         Planned (reached_by around) (call_plan around state.old (value_called state.old.globals callee args.items)) result state.new }
     ensures kept { KeptUnlessValue result state.old state.new }
@@ -221,7 +222,7 @@ fn call_method_of<H: Callbacks>(
     object: Value,
     args: Vec<Value>,
     state: &mut State<'_>,
-) -> Result<Reached, Error>
+) -> Result<Reached, Stop>
     ensures told { (a : Around) → let around = around_under rules.entry (H.callables host.now) a in
         let called = method_called state.old.globals (known_of state.old) name.now object args.items in
         Planned (reached_by around) (call_plan around state.old called) result state.new }
@@ -254,7 +255,7 @@ fn call_missing<H: Callbacks>(
     object: &Value,
     args: &[Value],
     state: &mut State<'_>,
-) -> Result<Reached, Error>
+) -> Result<Reached, Stop>
     ensures told { (a : Around) → let around = around_under rules.entry (H.callables host.now) a in
         Planned (reached_by around) (call_plan around state.old (invokes (method_of object.now name.now) args.now)) result state.new }
     ensures kept { KeptUnlessValue result state.old state.new }
@@ -276,7 +277,7 @@ fn call<H: Callbacks>(
     called: Called,
     args: Vec<Value>,
     state: &mut State<'_>,
-) -> Result<Reached, Error>
+) -> Result<Reached, Stop>
     ensures told { (a : Around) (came : functions.Called) → Comes (Ok called) args.items came →
         let around = around_under rules.entry (H.callables host.now) a in
         Planned (reached_by around) (call_plan around state.old came) result state.new }

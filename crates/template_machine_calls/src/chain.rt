@@ -14,9 +14,9 @@ use crate::rules::Rules;
 use crate::turning::note;
 use std::alloc::Global;
 use template_callables::{Callbacks, Further};
+use template_machine_going::Stop;
 use template_machine_state::State;
-use template_values_errors::Error;
-use template_values_operators::refusal;
+use template_values_errors::{Error, ErrorKind};
 
 // What a call comes to that came to this so far, where this is made of its value, and so many levels are left for what is asked
 // further at once.
@@ -32,7 +32,7 @@ pub(crate) fn conclude<H: Callbacks>(
     turnings: Vec<Turning>,
     outcome: Outcome,
     state: &mut State<'_>,
-) -> Result<Reached, Error>
+) -> Result<Reached, Stop>
     ensures comes { (a : Around) → let around = around_under rules.entry (H.callables host.now) a in
         Planned (reached_by around) (with_turnings (turnings_in turnings.items) (left_by around 0 (beyond around 0 levels) outcome state.old)) result state.new }
     ensures kept { (w : World) → KeepsWorld (Ok outcome) w state.old → KeptUnlessValue result w state.new }
@@ -61,7 +61,7 @@ fn go_on<H: Callbacks>(
     turnings: Vec<Turning>,
     further: Further,
     state: &mut State<'_>,
-) -> Result<Reached, Error>
+) -> Result<Reached, Stop>
     ensures comes { (a : Around) → let around = around_under rules.entry (H.callables host.now) a in
         Planned (reached_by around) (with_turnings (turnings_in turnings.items) (beyond around 0 levels state.old (asked_by further))) result state.new }
     ensures kept { KeptUnlessValue result state.old state.new }
@@ -85,5 +85,5 @@ fn go_on<H: Callbacks>(
             }
         }
     }
-    refusal()
+    Err(Stop::Fault(Error::new(ErrorKind::InvalidOperation)))
 }

@@ -11,7 +11,8 @@ ghost use Rattle.template_machine_meaning.specs.Keys.{Around};
 ghost use Rattle.template_machine_calls.specs.Left.{Going, Planned, left_by, said_plan};
 
 use crate::outcome::Outcome;
-use template_callables::{Answer, stated_fault};
+use template_callables::Answer;
+use template_machine_going::Stop;
 use template_machine_state::State;
 use template_values_core::Value;
 use template_values_errors::{Error, ErrorKind};
@@ -25,14 +26,14 @@ pub(crate) fn heard(
     answer: Option<Answer>,
     kind: ErrorKind,
     state: &mut State<'_>,
-) -> Result<Outcome, Error>
+) -> Result<Outcome, Stop>
     ensures comes { (a : Around) (pending : ℕ) (go : Going) (says : Option Says) (view : View) (args : List Val) → AnswersUnder says view args answer →
         Planned (left_by a pending go) (said_plan go state.old kind view args says) result state.new }
     ensures kept { OnlyTemps state.old state.new }
 {
     match answer {
         Some(given) => come_of(given, state),
-        None => Err(Error::new(kind)),
+        None => Err(Stop::Fault(Error::new(kind))),
     }
 }
 
@@ -40,8 +41,8 @@ pub(crate) fn heard(
 //
 // # Errors
 //
-// What `stated_fault` makes of the answer's fault; and `OutOfMemory`.
-fn come_of(answer: Answer, state: &mut State<'_>) -> Result<Outcome, Error>
+// The answer's fault; and `OutOfMemory`.
+fn come_of(answer: Answer, state: &mut State<'_>) -> Result<Outcome, Stop>
     ensures comes { (a : Around) (pending : ℕ) (go : Going) (stated : Stated) → Answers stated answer →
         Planned (left_by a pending go) (stated_plan go state.old stated) result state.new }
     ensures kept { OnlyTemps state.old state.new }
@@ -51,7 +52,7 @@ fn come_of(answer: Answer, state: &mut State<'_>) -> Result<Outcome, Error>
             set_temps(temps, state)?;
             Ok(Outcome::Value(value))
         }
-        Answer::Fault(error) => Err(stated_fault(error)),
+        Answer::Fault(error) => Err(error.into()),
         Answer::More(temps, further) => {
             set_temps(temps, state)?;
             Ok(Outcome::Further(further))

@@ -13,9 +13,9 @@ use crate::rules::Rules;
 use crate::turning::turn_all;
 use std::alloc::Global;
 use template_callables::Callbacks;
+use template_machine_going::Stop;
 use template_machine_operands::Operands;
 use template_machine_state::State;
-use template_values_errors::Error;
 
 /// Takes so many values, or a counted run where the count is left out, and calls what a name stands for with them; the name is not
 /// `super`, which the machine calls by itself. A value is put on top; or it tells what is to be entered, in the state as it is then.
@@ -42,7 +42,7 @@ pub fn call_function<H: Callbacks>(
     count: Option<u16>,
     state: &mut State<'_>,
     operands: &mut Operands,
-) -> Result<Option<Entry>, Error>
+) -> Result<Option<Entry>, Stop>
     requires { is_super_name name.now ≡ false }
     ensures { (program : Programs) →
         Calls (hosted rules.entry (H.callables host.now) program) (call_function name.now count) (operands_in operands.old) state.old
@@ -73,7 +73,7 @@ pub fn call_method<H: Callbacks>(
     count: Option<u16>,
     state: &mut State<'_>,
     operands: &mut Operands,
-) -> Result<Option<Entry>, Error>
+) -> Result<Option<Entry>, Stop>
     ensures { (program : Programs) →
         Calls (hosted rules.entry (H.callables host.now) program) (call_method name.now count) (operands_in operands.old) state.old
         result (operands_in operands.new) state.new }
@@ -100,7 +100,7 @@ pub fn call_object<H: Callbacks>(
     count: Option<u16>,
     state: &mut State<'_>,
     operands: &mut Operands,
-) -> Result<Option<Entry>, Error>
+) -> Result<Option<Entry>, Stop>
     ensures { (program : Programs) →
         Calls (hosted rules.entry (H.callables host.now) program) (call_object count) (operands_in operands.old) state.old
         result (operands_in operands.new) state.new }
@@ -128,7 +128,7 @@ pub fn apply_filter<H: Callbacks>(
     count: Option<u16>,
     state: &mut State<'_>,
     operands: &mut Operands,
-) -> Result<Option<Entry>, Error>
+) -> Result<Option<Entry>, Stop>
     ensures { (program : Programs) (number : ℕ) →
         Calls (hosted rules.entry (H.callables host.now) program) (apply_filter name.now count number) (operands_in operands.old) state.old
         result (operands_in operands.new) state.new }
@@ -156,7 +156,7 @@ pub fn perform_test<H: Callbacks>(
     count: Option<u16>,
     state: &mut State<'_>,
     operands: &mut Operands,
-) -> Result<Option<Entry>, Error>
+) -> Result<Option<Entry>, Stop>
     ensures { (program : Programs) (number : ℕ) →
         Calls (hosted rules.entry (H.callables host.now) program) (perform_test name.now count number) (operands_in operands.old) state.old
         result (operands_in operands.new) state.new }
@@ -176,7 +176,7 @@ fn put(
     reached: Reached,
     state: &State<'_>,
     operands: &mut Operands,
-) -> Result<Option<Entry>, Error>
+) -> Result<Option<Entry>, Stop>
     ensures { Puts reached state.now (operands_in operands.old) result (operands_in operands.new) }
 {
     match reached {

@@ -11,6 +11,7 @@ ghost use Rattle.template_machine_calls.specs.Left.{Planned, turning_in, turning
 use crate::reached::Turning;
 use std::alloc::Global;
 use template_callables::Further;
+use template_machine_going::Stop;
 use template_machine_state::State;
 use template_values_core::Value;
 use template_values_errors::{AutoEscape, Error};
@@ -56,7 +57,7 @@ pub fn turn_all(
     turnings: Vec<Turning>,
     value: Value,
     state: &State<'_>,
-) -> Result<Value, Error>
+) -> Result<Value, Stop>
     ensures { Planned value_left (with_turnings (turnings_in turnings.items) (value_left value state.now)) result state.now }
 {
     let mut turnings = turnings;
@@ -72,7 +73,7 @@ pub fn turn_all(
 // # Errors
 //
 // As `turn_all`.
-fn turn(alloc: Global, turning: Turning, value: &Value, state: &State<'_>) -> Result<Value, Error>
+fn turn(alloc: Global, turning: Turning, value: &Value, state: &State<'_>) -> Result<Value, Stop>
     ensures { Planned value_left (with_turning (turning_in turning) (value_left value.now state.now)) result state.now }
 {
     match turning {
@@ -80,7 +81,7 @@ fn turn(alloc: Global, turning: Turning, value: &Value, state: &State<'_>) -> Re
         Turning::Text => {
             let mut text = String::new(alloc);
             print_to(value, state, &mut text)?;
-            worded(state.auto_escape(), text)
+            Ok(worded(state.auto_escape(), text)?)
         }
     }
 }

@@ -1,4 +1,3 @@
 pub mod Trackers
-pub mod Wrapped
 -- what contracts here cite of the crates below
 pub use Rattle.template_machine_going.specs.Paying

@@ -1,15 +1,13 @@
-//! What instructions cost of a fuel, and what was consumed of it; and how the error is told of what ran within another run.
+//! What instructions cost of a fuel, and what was consumed of it.
 #![tactic(auto)]
 
 ghost use Rattle.std.specs.Prelude.{◌≡◌, ◌≤◌, ◌+◌, ◌∷◌, [], ℕ, IfErr, OnOk, OnErr, Some, option_map};
 ghost use Rattle.template_machine_going.specs.Paying.{Paid, IsSpent};
 
 mod tracking;
-mod wrapping;
 
 use template_values_errors::{Error, ErrorKind};
 pub use tracking::FuelTracker;
-pub use wrapping::wrapped;
 
 /// Takes the price of an instruction of what is left of a fuel, if one is set. A fuel n lets n - 1 steps run, and a fuel
 /// of 0 none; what costs nothing always runs.

@@ -5,6 +5,7 @@ pub mod Stops
 pub mod Acts
 pub mod Laws
 pub mod Strays
+pub mod Told
 pub mod Outcomes
 pub mod Comings
 pub mod Bounds

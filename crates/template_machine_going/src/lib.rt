@@ -1,14 +1,16 @@
 //! Definitions and their laws: how far the machine has come in its code, how it stops, what one instruction does, how
-//! instructions and runs of them come out, and what a bound on instructions leaves as it is.
+//! instructions and runs of them come out, and what a bound on instructions leaves as it is; and what a call tells that stopped.
 #![tactic(auto)]
 
 ghost use Rattle.template_machine_going.specs.Laws.{ActsGo, FaultsOn, FaultsThere, GoesNowhere, GoesOn, RunsOutOn, RunsOutThere, SpentThere, WantsOn, WantsThere};
 
 mod bounds;
 mod outcomes;
+mod stop;
 
 pub use bounds::{beginnings_stay, ends_stay, uncut_stays};
 pub use outcomes::{outcomes_follow, steps_come_out, strays_on};
+pub use stop::Stop;
 
 /// A machine that goes nowhere has gone, and goings follow one another.
 pub fn goings_follow<S>()

@@ -13,6 +13,8 @@ use Rattle.template_machine_meaning.specs.Keys.{Stream, own, Key, whole_of}
 use Rattle.template_machine_meaning.specs.Plans.{restarted}
 use Rattle.template_machine_meaning.specs.Surroundings.{Programs, answer}
 use Rattle.template_machine_going.specs.Outcomes.{Stops}
+use Rattle.template_machine_going.specs.declared.stop.Stop.{Stop}
+use Rattle.template_machine_going.specs.declared.stop.Stop.TheVariants.{Fault, Want}
 use Rattle.template_machine_steps.specs.Performs.{spot}
 use Rattle.template_machine_calls.specs.declared.rules.Rules.{Rules}
 use Rattle.template_machine_loop.specs.Programs.{Standing, programs_under, code_at}
@@ -46,14 +48,14 @@ module _ (standing : List ℕ → Option Standing) (joins : Joins) (callables : 
   module _ (key : Key) (w : World) (left : Option ℕ) (taken : Option (List ℕ)) (code : List Code) (v : World) (mid : Option ℕ) (reached : Option (List ℕ))
       (come : ComesTo key w left taken code v mid reached) where
     -- the code stops
-    pub key_stops : {X : Type 0} (kinds : List ErrorKind) (result : Result X (List ErrorKind)) (after : World) (rest : Option ℕ) (written : Option (List ℕ))
-        → Stops (answer s) code (spot 0 [] v mid reached) (spot 0 [] after rest written) kinds → IsErrAnd result (λ ks. ks ≡ kinds)
+    pub key_stops : {X : Type 0} (stop : Stop) (result : Result X Stop) (after : World) (rest : Option ℕ) (written : Option (List ℕ))
+        → Stops (answer s) code (spot 0 [] v mid reached) (spot 0 [] after rest written) stop → IsErrAnd result (λ told. told ≡ stop)
         → KeyRuns s key w left taken result after rest written
-    key_stops kinds (Ok x) after rest written h is = absurd is
-    key_stops {X} kinds (Err ks) after rest written h is =
-        subst (λ others. KeyRuns {X = X} s key w left taken (Err others) after rest written) (sym is)
-        (breaks_there s key w left taken (whole_of come.0) v mid reached come.2 kinds rest written
-        (stream_stops s (whole_of come.0) code (runs_code standing joins callables root rules come.0 code come.1) v mid rest reached written kinds after h))
+    key_stops stop (Ok x) after rest written h is = absurd is
+    key_stops {X} stop (Err told) after rest written h is =
+        subst (λ t. KeyRuns {X = X} s key w left taken (Err t) after rest written) (sym is)
+        (breaks_there s key w left taken (whole_of come.0) v mid reached come.2 stop rest written
+        (stream_stops s (whole_of come.0) code (runs_code standing joins callables root rules come.0 code come.1) v mid rest reached written stop after h))
 
     -- it comes to its end
     module _ (operands : List Operand) (after : World) (rest : Option ℕ) (written : Option (List ℕ)) (h : EndsOver (answer s) code (spot 0 [] v mid reached) operands after rest written) where
@@ -62,15 +64,15 @@ module _ (standing : List ℕ → Option Standing) (joins : Joins) (callables : 
           over_there s key w left taken (whole_of come.0) v mid reached come.2 code (runs_code standing joins callables root rules come.0 code come.1) (values_in operands) after rest written
           h.items h.least h.bound h.is h.pays h.text alone
 
-      pub key_lacks : (X : Type 0) (kinds : List ErrorKind) → NoMemory kinds → KeyRuns {X = X} s key w left taken (Err kinds) after rest written
+      pub key_lacks : (X : Type 0) (kinds : List ErrorKind) → NoMemory kinds → KeyRuns {X = X} s key w left taken (Err (Want kinds)) after rest written
       key_lacks X kinds why =
           lacks_behind s key w left taken (whole_of come.0) v mid reached come.2 code (runs_code standing joins callables root rules come.0 code come.1) (values_in operands) after rest written
           h.items h.least h.bound h.is h.pays h.text kinds why
 
       pub key_lost : (X : Type 0) (name : List ℕ) (kinds : List ErrorKind) (then : World) → after.parent ≡ Some name → standing name ≡ None → kinds ≡ TemplateNotFound ∷ []
-          → KeyRuns {X = X} s key w left taken (Err kinds) then rest written
+          → KeyRuns {X = X} s key w left taken (Err (Fault kinds)) then rest written
       key_lost X name kinds then extends none is =
-          subst (λ ks. KeyRuns {X = X} s key w left taken (Err ks) then rest written) (sym is)
+          subst (λ ks. KeyRuns {X = X} s key w left taken (Err (Fault ks)) then rest written) (sym is)
           (lost_there s key w left taken (whole_of come.0) v mid reached come.2 code (runs_code standing joins callables root rules come.0 code come.1) (values_in operands) after rest written
           h.items h.least h.bound h.is h.pays h.text name extends
           (unkeyed standing joins callables root rules (own (keys.standing name)) (ap (option_map (λ (t : Standing). t.code)) none)))

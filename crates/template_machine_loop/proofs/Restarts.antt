@@ -18,12 +18,16 @@ use Rattle.template_machine_meaning.specs.Plans.{ran, restarted, beneath, with_b
 use Rattle.template_machine_meaning.specs.Surroundings.{Programs, runners, answer}
 use Rattle.template_machine_going.specs.Paying.{Paid}
 use Rattle.template_machine_going.specs.Spots.{run_at}
-use Rattle.template_machine_going.specs.Strays.{IsLost}
+use Rattle.template_machine_going.specs.Stops.{Wants}
+use Rattle.template_machine_going.specs.Strays.{IsLost, Strays}
+use Rattle.template_machine_going.specs.declared.stop.Stop.{Stop}
+use Rattle.template_machine_going.specs.declared.stop.Stop.TheVariants.{Fault, Want}
 use Rattle.template_machine_going.proofs.Going.{paid_behind, text_behind}
 use Rattle.template_machine_going.proofs.Paths.{paid_nothing, behind-behind}
 use Rattle.template_machine_steps.specs.Performs.{spot}
-use Rattle.template_machine_loop.specs.Runs.{EndsSo, Breaks, faulting, running_out, wanting, straying}
+use Rattle.template_machine_loop.specs.Runs.{EndsSo, Breaks, faulting, running_out, straying}
 use Rattle.template_machine_loop.proofs.Streams.{RunsCode, begins_on, behind_first, first_left, stream_goes_on}
+use Rattle.template_machine_loop.proofs.Wrapping.{either_on}
 
 -- no operands beneath
 beneath_none : (e : End) → beneath [] e ≡ e
@@ -102,9 +106,37 @@ module _ (s : Programs) (key : Key) (w : World) (left : Option ℕ) (taken : Opt
     text = text_behind h.items k.items taken reached written h.text k.text;
   }
 
-  pub breaks_there : (kinds : List ErrorKind) (rest : Option ℕ) (written : Option (List ℕ)) → Breaks (λ n. ran (runners s n later) v) kinds mid rest reached written
-      → Breaks (λ n. ran (runners s n key) w) kinds left rest taken written
-  breaks_there kinds rest written (faulting k) = faulting (record {
+  wants_there : (rest : Option ℕ) (written : Option (List ℕ)) → Wants (λ n. ran (runners s n later) v) mid rest reached written
+      → Wants (λ n. ran (runners s n key) w) left rest taken written
+  wants_there rest written k = record {
+    items = h.items ++ k.items;
+    least = h.more + (h.least + k.least);
+    rest = λ n. with_beneath h.operands (k.rest (n - h.more));
+    remained = k.remained;
+    is = λ n le.
+        reached_run k.least (λ m. behind k.items (k.rest m)) k.is n le
+        ∙ behind-behind h.items k.items (with_beneath h.operands (k.rest (n - h.more)));
+    pays = paid_behind h.items k.items left mid k.remained h.pays k.pays;
+    stays = k.stays;
+    text = subst (AppendsBeginning taken written) (sym (text-append h.items k.items)) (beginning_after taken reached written (text_of h.items) (text_of k.items) h.text k.text);
+  }
+
+  strays_there : Strays (λ n. ran (runners s n later) v) → Strays (λ n. ran (runners s n key) w)
+  strays_there k = record {
+    items = h.items ++ k.items;
+    least = h.more + (h.least + k.least);
+    end = k.end;
+    world = k.world;
+    is = λ n le.
+        reached_run k.least (λ m. behind k.items (ended k.end k.world)) k.is n le
+        ∙ ap (λ (e : End). behind h.items (behind k.items (ended e k.world))) (beneath_lost h.operands k.end k.lost)
+        ∙ behind-behind h.items k.items (ended k.end k.world);
+    lost = k.lost;
+  }
+
+  pub breaks_there : (stop : Stop) (rest : Option ℕ) (written : Option (List ℕ)) → Breaks (λ n. ran (runners s n later) v) stop mid rest reached written
+      → Breaks (λ n. ran (runners s n key) w) stop left rest taken written
+  breaks_there (Fault kinds) rest written (faulting k) = faulting (record {
     items = h.items ++ k.items;
     least = h.more + (h.least + k.least);
     world = k.world;
@@ -114,7 +146,7 @@ module _ (s : Programs) (key : Key) (w : World) (left : Option ℕ) (taken : Opt
     pays = paid_behind h.items k.items left mid rest h.pays k.pays;
     text = text_behind h.items k.items taken reached written h.text k.text;
   })
-  breaks_there kinds rest written (running_out k) = running_out (record {
+  breaks_there (Fault kinds) rest written (running_out k) = running_out (record {
     items = h.items ++ k.items;
     least = h.more + (h.least + k.least);
     wraps = k.wraps;
@@ -129,29 +161,8 @@ module _ (s : Programs) (key : Key) (w : World) (left : Option ℕ) (taken : Opt
     nothing = k.nothing;
     text = text_behind h.items k.items taken reached written h.text k.text;
   })
-  breaks_there kinds rest written (wanting why k) = wanting why (record {
-    items = h.items ++ k.items;
-    least = h.more + (h.least + k.least);
-    rest = λ n. with_beneath h.operands (k.rest (n - h.more));
-    remained = k.remained;
-    is = λ n le.
-        reached_run k.least (λ m. behind k.items (k.rest m)) k.is n le
-        ∙ behind-behind h.items k.items (with_beneath h.operands (k.rest (n - h.more)));
-    pays = paid_behind h.items k.items left mid k.remained h.pays k.pays;
-    stays = k.stays;
-    text = subst (AppendsBeginning taken written) (sym (text-append h.items k.items)) (beginning_after taken reached written (text_of h.items) (text_of k.items) h.text k.text);
-  })
-  breaks_there kinds rest written (straying why k) = straying why (record {
-    items = h.items ++ k.items;
-    least = h.more + (h.least + k.least);
-    end = k.end;
-    world = k.world;
-    is = λ n le.
-        reached_run k.least (λ m. behind k.items (ended k.end k.world)) k.is n le
-        ∙ ap (λ (e : End). behind h.items (behind k.items (ended e k.world))) (beneath_lost h.operands k.end k.lost)
-        ∙ behind-behind h.items k.items (ended k.end k.world);
-    lost = k.lost;
-  })
+  breaks_there (Fault kinds) rest written (straying why k) = straying why (strays_there k)
+  breaks_there (Want kinds) rest written k = (k.0, either_on (wants_there rest written) strays_there k.1)
 
   -- its stream came to its end
   module _ (code : List Code) (runs : RunsCode s later code) (operands : List Val) (after : World) (rest : Option ℕ) (written : Option (List ℕ))
@@ -179,29 +190,30 @@ module _ (s : Programs) (key : Key) (w : World) (left : Option ℕ) (taken : Opt
         })
 
     -- no memory is left behind it
-    pub lacks_behind : (kinds : List ErrorKind) → NoMemory kinds → Breaks (λ n. ran (runners s n key) w) kinds left rest taken written
+    pub lacks_behind : (kinds : List ErrorKind) → NoMemory kinds → Breaks (λ n. ran (runners s n key) w) (Want kinds) left rest taken written
     lacks_behind kinds why =
-        breaks_there kinds rest written
-        (wanting (inl why)
-        (record {
-          items = items;
-          least = suc (least + bound);
-          rest = λ n. behind_first items (ran (runners s n later) v);
-          remained = rest;
-          is = λ n le.
-              let there = goes_on_so after.parent refl n le in
-              let begun = begins_on (runners s there.0) operands items (ended (ends operands) after) after.parent in
-              first_left items (ran (runners s n later) v) begun.0 (ap (λ k. ran (runners s k later) v) there.1 ∙ there.2 ∙ begun.1);
-          pays = pays;
-          stays = inl refl;
-          text = beginning_whole reached written (text_of items) text;
-        }))
+        breaks_there (Want kinds) rest written (
+          inl why,
+          inl (record {
+            items = items;
+            least = suc (least + bound);
+            rest = λ n. behind_first items (ran (runners s n later) v);
+            remained = rest;
+            is = λ n le.
+                let there = goes_on_so after.parent refl n le in
+                let begun = begins_on (runners s there.0) operands items (ended (ends operands) after) after.parent in
+                first_left items (ran (runners s n later) v) begun.0 (ap (λ k. ran (runners s k later) v) there.1 ∙ there.2 ∙ begun.1);
+            pays = pays;
+            stays = inl refl;
+            text = beginning_whole reached written (text_of items) text;
+          }),
+        )
 
     -- one that doesn't stand
     pub lost_there : (name : List ℕ) → after.parent ≡ Some name → ((n : ℕ) → runners s n (whole_of (own (standing name))) ≡ None)
-        → Breaks (λ n. ran (runners s n key) w) (TemplateNotFound ∷ []) left rest taken written
+        → Breaks (λ n. ran (runners s n key) w) (Fault (TemplateNotFound ∷ [])) left rest taken written
     lost_there name e missing =
-        breaks_there (TemplateNotFound ∷ []) rest written
+        breaks_there (Fault (TemplateNotFound ∷ [])) rest written
         (faulting (record {
           items = items;
           least = suc (least + bound);

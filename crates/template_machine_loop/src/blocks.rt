@@ -7,16 +7,17 @@ ghost use Rattle.template_machine_meaning.specs.Captures.{is_dropping};
 ghost use Rattle.template_machine_meaning.specs.Keeps.{KeepsWorld};
 ghost use Rattle.template_machine_meaning.specs.Plans.{room_for};
 ghost use Rattle.template_machine_meaning.specs.World.{has_room};
-ghost use Rattle.template_machine_operations.specs.Outcomes.{TellsFailures};
+ghost use Rattle.template_machine_going.specs.Told.{CountsFailures};
 ghost use Rattle.template_machine_loop.specs.Found.{StandsThere, name_in};
 ghost use Rattle.template_machine_loop.specs.Plans.{DoesPlan, PutsBack};
 ghost use Rattle.template_machine_loop.specs.Programs.{programs_under, standing_of};
 
 use crate::found::{Found, body_behind, body_to_run};
 use crate::templates::{Program, Templates};
+use crate::told::told_by;
 use crate::whole::run_whole;
 use std::alloc::Global;
-use template_machine_fuel::wrapped;
+use template_machine_going::Stop;
 use template_machine_output::Sink;
 use template_machine_state::State;
 use template_values_core::Value;
@@ -28,7 +29,7 @@ use template_values_errors::{Error, ErrorKind};
 /// # Errors
 ///
 /// `UnknownBlock` where no template has a block of this name; `InvalidOperation` where the only body says that another has to
-/// be given, or there is no room; the fault of its run; and `OutOfMemory`, `WriteFailure` and `BadStream` as for
+/// be given, or there is no room; the fault of its run; and a want of memory, a sink's failure and lost code, as for
 /// [`run_to_end`](crate::run_to_end).
 #[cycle(running)]
 pub fn run_block<'env, T: Templates, S: Sink>(
@@ -39,14 +40,14 @@ pub fn run_block<'env, T: Templates, S: Sink>(
     left: &mut Option<u64>,
     scratch: &mut String,
     sink: &mut S,
-) -> Result<(), Error>
+) -> Result<(), Stop>
     ensures plan { let templates = program.entry.templates.now in let root = option_map standing_of program.entry.root in
         let s = programs_under (T.standing templates) (T.joins templates) (T.callables templates) root program.entry.rules in
         DoesPlan (λ u. done) s (block_plan s.around state.old name.now) state.old left.old (S.taken sink.old) result state.new left.new (S.taken sink.new) }
     ensures back { PutsBack state.old state.new }
     ensures keeps { KeepsWorld state.old state.new }
     ensures frames { state.new.frames ≡ state.old.frames }
-    ensures failures { TellsFailures result (S.failures sink.old) (S.failures sink.new) }
+    ensures failures { CountsFailures result (S.failures sink.old) (S.failures sink.new) }
 {
     let found = body_to_run(program, name, state)?;
     run_body(alloc, program, found, state, left, scratch, sink)
@@ -67,12 +68,12 @@ pub(crate) fn call_block<'env, T: Templates, S: Sink>(
     left: &mut Option<u64>,
     scratch: &mut String,
     sink: &mut S,
-) -> Result<(), Error>
+) -> Result<(), Stop>
     ensures plan { let templates = program.entry.templates.now in let root = option_map standing_of program.entry.root in
         let s = programs_under (T.standing templates) (T.joins templates) (T.callables templates) root program.entry.rules in
         DoesPlan (λ u. done) s (block_called s.around state.old name.now) state.old left.old (S.taken sink.old) result state.new left.new (S.taken sink.new) }
     ensures keeps { KeepsWorld state.old state.new }
-    ensures failures { TellsFailures result (S.failures sink.old) (S.failures sink.new) }
+    ensures failures { CountsFailures result (S.failures sink.old) (S.failures sink.new) }
 {
     if is_passed_over(state) {
         return Ok(());
@@ -97,7 +98,7 @@ fn run_body<'env, T: Templates, S: Sink>(
     left: &mut Option<u64>,
     scratch: &mut String,
     sink: &mut S,
-) -> Result<(), Error>
+) -> Result<(), Stop>
     requires { StandsThere (T.standing program.templates.now) (option_map standing_of program.root) found }
     ensures plan { let templates = program.entry.templates.now in let root = option_map standing_of program.entry.root in
         let s = programs_under (T.standing templates) (T.joins templates) (T.callables templates) root program.entry.rules in
@@ -106,10 +107,10 @@ fn run_body<'env, T: Templates, S: Sink>(
     ensures back { PutsBack state.old state.new }
     ensures keeps { KeepsWorld state.old state.new }
     ensures frames { state.new.frames ≡ state.old.frames }
-    ensures failures { TellsFailures result (S.failures sink.old) (S.failures sink.new) }
+    ensures failures { CountsFailures result (S.failures sink.old) (S.failures sink.new) }
 {
     if !state.has_room(program.rules.limit, 1) {
-        return Err(Error::new(ErrorKind::InvalidOperation));
+        return Err(Stop::Fault(Error::new(ErrorKind::InvalidOperation)));
     }
     let caller = state.enter_block(alloc, found.block.name.as_str(), found.home)?;
     let ran = run_whole(
@@ -130,8 +131,8 @@ fn run_body<'env, T: Templates, S: Sink>(
 ///
 /// # Errors
 ///
-/// `InvalidOperation` where no block runs, there is no such body, or no room for it; the fault of its run, behind an `EvalBlock`;
-/// and `OutOfMemory`, `WriteFailure` and `BadStream` as for [`run_to_end`](crate::run_to_end).
+/// `InvalidOperation` where no block runs, there is no such body, or no room for it; the fault of its run, behind an `EvalBlock`,
+/// as is lost code; and a want of memory and a sink's failure, as for [`run_to_end`](crate::run_to_end).
 #[cycle(running)]
 pub(crate) fn print_super<'env, T: Templates, S: Sink>(
     alloc: Global,
@@ -140,18 +141,18 @@ pub(crate) fn print_super<'env, T: Templates, S: Sink>(
     left: &mut Option<u64>,
     scratch: &mut String,
     sink: &mut S,
-) -> Result<(), Error>
+) -> Result<(), Stop>
     ensures plan { let templates = program.entry.templates.now in let root = option_map standing_of program.entry.root in
         let s = programs_under (T.standing templates) (T.joins templates) (T.callables templates) root program.entry.rules in
         DoesPlan (λ u. done) s (super_plan s.around state.old false) state.old left.old (S.taken sink.old) result state.new left.new (S.taken sink.new) }
     ensures keeps { KeepsWorld state.old state.new }
-    ensures failures { TellsFailures result (S.failures sink.old) (S.failures sink.new) }
+    ensures failures { CountsFailures result (S.failures sink.old) (S.failures sink.new) }
 {
     let Some(found) = body_behind(program, state) else {
-        return Err(Error::new(ErrorKind::InvalidOperation));
+        return Err(Stop::Fault(Error::new(ErrorKind::InvalidOperation)));
     };
     if !state.has_room(program.rules.limit, 1) {
-        return Err(Error::new(ErrorKind::InvalidOperation));
+        return Err(Stop::Fault(Error::new(ErrorKind::InvalidOperation)));
     }
     let name = found.block.name.as_str();
     let caller = state.enter_super(alloc, name, found.place, found.home, false)?;
@@ -167,7 +168,7 @@ pub(crate) fn print_super<'env, T: Templates, S: Sink>(
     state.leave_super(caller, name, found.place);
     match ran {
         Ok(()) => Ok(()),
-        Err(error) => Err(wrapped(alloc, ErrorKind::EvalBlock, error)),
+        Err(stop) => Err(stop.wrapped(alloc, ErrorKind::EvalBlock)),
     }
 }
 
@@ -184,18 +185,18 @@ pub(crate) fn call_super<'env, T: Templates, S: Sink>(
     left: &mut Option<u64>,
     scratch: &mut String,
     sink: &mut S,
-) -> Result<Value, Error>
+) -> Result<Value, Stop>
     ensures plan { let templates = program.entry.templates.now in let root = option_map standing_of program.entry.root in
         let s = programs_under (T.standing templates) (T.joins templates) (T.callables templates) root program.entry.rules in
         DoesPlan value s (super_plan s.around state.old true) state.old left.old (S.taken sink.old) result state.new left.new (S.taken sink.new) }
     ensures keeps { KeepsWorld state.old state.new }
-    ensures failures { TellsFailures result (S.failures sink.old) (S.failures sink.new) }
+    ensures failures { CountsFailures result (S.failures sink.old) (S.failures sink.new) }
 {
     let Some(found) = body_behind(program, state) else {
-        return Err(Error::new(ErrorKind::InvalidOperation));
+        return Err(Stop::Fault(Error::new(ErrorKind::InvalidOperation)));
     };
     if !state.has_room(program.rules.limit, 1) {
-        return Err(Error::new(ErrorKind::InvalidOperation));
+        return Err(Stop::Fault(Error::new(ErrorKind::InvalidOperation)));
     }
     let name = found.block.name.as_str();
     let caller = state.enter_super(alloc, name, found.place, found.home, true)?;
@@ -209,10 +210,10 @@ pub(crate) fn call_super<'env, T: Templates, S: Sink>(
         sink,
     );
     match ran {
-        Ok(()) => state.leave_named_super(alloc, caller, name, found.place),
-        Err(error) => {
+        Ok(()) => told_by(state.leave_named_super(alloc, caller, name, found.place)),
+        Err(stop) => {
             state.leave_super(caller, name, found.place);
-            Err(wrapped(alloc, ErrorKind::EvalBlock, error))
+            Err(stop.wrapped(alloc, ErrorKind::EvalBlock))
         }
     }
 }
@@ -232,17 +233,17 @@ pub(crate) fn run_block_text<'env, T: Templates, S: Sink>(
     left: &mut Option<u64>,
     scratch: &mut String,
     sink: &mut S,
-) -> Result<Value, Error>
+) -> Result<Value, Stop>
     ensures plan { let templates = program.entry.templates.now in let root = option_map standing_of program.entry.root in
         let s = programs_under (T.standing templates) (T.joins templates) (T.callables templates) root program.entry.rules in
         DoesPlan value s (text_plan s.around pending state.old name.now) state.old left.old (S.taken sink.old) result state.new left.new (S.taken sink.new) }
     ensures keeps { KeepsWorld state.old state.new }
     ensures frames { state.new.frames ≡ state.old.frames }
-    ensures failures { TellsFailures result (S.failures sink.old) (S.failures sink.new) }
+    ensures failures { CountsFailures result (S.failures sink.old) (S.failures sink.new) }
 {
     let found = body_to_run(program, name, state)?;
     if !has_room_beside(state, program.rules.limit, 1, pending) {
-        return Err(Error::new(ErrorKind::InvalidOperation));
+        return Err(Stop::Fault(Error::new(ErrorKind::InvalidOperation)));
     }
     let name = found.block.name.as_str();
     let caller = state.enter_block_text(alloc, name, found.home, pending)?;
@@ -256,10 +257,10 @@ pub(crate) fn run_block_text<'env, T: Templates, S: Sink>(
         sink,
     );
     match ran {
-        Ok(()) => state.leave_block_text(alloc, caller),
-        Err(error) => {
+        Ok(()) => told_by(state.leave_block_text(alloc, caller)),
+        Err(stop) => {
             state.leave_block(caller);
-            Err(error)
+            Err(stop)
         }
     }
 }

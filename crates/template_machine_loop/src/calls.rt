@@ -14,6 +14,7 @@ use template_code::Instruction;
 use template_machine_calls::{
     Entry, Rules, apply_filter, call_function, call_method, call_object, perform_test,
 };
+use template_machine_going::Stop;
 use template_machine_operands::Operands;
 use template_machine_state::State;
 use template_values_errors::{Error, ErrorKind};
@@ -33,7 +34,7 @@ pub(crate) fn call<H: Callbacks>(
     instruction: &Instruction<'_>,
     operands: &mut Operands,
     state: &mut State<'_>,
-) -> Result<Option<Entry>, Error>
+) -> Result<Option<Entry>, Stop>
     requires { task_of (code_of instruction.now) ≡ Calls }
     ensures { (program : Programs) →
         CallsSo (hosted rules.entry (H.callables host.now) program) (code_of instruction.now) (operands_in operands.old) state.old
@@ -55,6 +56,6 @@ pub(crate) fn call<H: Callbacks>(
         Instruction::CallObject(count) => {
             call_object(alloc, rules, host, *count, state, operands)
         }
-        _ => Err(Error::new(ErrorKind::BadStream)),
+        _ => Err(Stop::Fault(Error::new(ErrorKind::BadStream))),
     }
 }

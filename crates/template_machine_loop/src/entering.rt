@@ -1,8 +1,8 @@
 //! The instructions that may enter a run within, or that say which template is extended.
 ghost use Rattle.std.specs.Prelude.{◌≡◌, ◌==◌, length, option_map};
 ghost use Rattle.template_code.specs.View.{code_of};
+ghost use Rattle.template_machine_going.specs.Told.{CountsFailures};
 ghost use Rattle.template_machine_operands.specs.Operands.{operands_in};
-ghost use Rattle.template_machine_operations.specs.Outcomes.{TellsFailures};
 ghost use Rattle.template_machine_loop.specs.Entering.{Does};
 ghost use Rattle.template_machine_loop.specs.Programs.{programs_under, standing_of, task_of};
 ghost use Rattle.template_machine_loop.specs.declared.tasks.Task.TheVariants.{Enters};
@@ -12,8 +12,10 @@ use crate::extending::extend;
 use crate::includes::include;
 use crate::rounds::print_rounds;
 use crate::templates::{Program, Templates};
+use crate::told::told_by;
 use std::alloc::Global;
 use template_code::Instruction;
+use template_machine_going::Stop;
 use template_machine_operands::Operands;
 use template_machine_output::Sink;
 use template_machine_state::State;
@@ -38,12 +40,12 @@ pub(crate) fn enter<'env, T: Templates, S: Sink>(
     left: &mut Option<u64>,
     scratch: &mut String,
     sink: &mut S,
-) -> Result<(), Error>
+) -> Result<(), Stop>
     requires { task_of (code_of instruction.now) ≡ Enters }
     ensures does { let templates = program.entry.templates.now in let root = option_map standing_of program.entry.root in
         Does (programs_under (T.standing templates) (T.joins templates) (T.callables templates) root program.entry.rules) (code_of instruction.now)
         (operands_in operands.old) state.old left.old (S.taken sink.old) result (operands_in operands.new) state.new left.new (S.taken sink.new) }
-    ensures failures { TellsFailures result (S.failures sink.old) (S.failures sink.new) }
+    ensures failures { CountsFailures result (S.failures sink.old) (S.failures sink.new) }
 {
     match instruction {
         Instruction::Include(ignore_missing) => {
@@ -80,12 +82,12 @@ pub(crate) fn enter<'env, T: Templates, S: Sink>(
         Instruction::CallFunction(_, count) => {
             let args = operands.take_handed(widened(*count))?;
             if !is_none(args.as_slice()) {
-                return Err(Error::new(ErrorKind::InvalidOperation));
+                return Err(Stop::Fault(Error::new(ErrorKind::InvalidOperation)));
             }
             let text = call_super(alloc, program, state, left, scratch, sink)?;
-            operands.push(text)
+            told_by(operands.push(text))
         }
-        _ => Err(Error::new(ErrorKind::BadStream)),
+        _ => Err(Stop::Fault(Error::new(ErrorKind::BadStream))),
     }
 }
 

@@ -4,10 +4,10 @@ ghost use Rattle.template_code.specs.Code.{Code, Operand};
 ghost use Rattle.template_process.specs.Process.{value};
 ghost use Rattle.template_machine_calls.specs.Calls as calls;
 ghost use Rattle.template_machine_calls.specs.Left.{entering_plan, entry_plan};
+ghost use Rattle.template_machine_going.specs.Told.{CountsFailures};
 ghost use Rattle.template_machine_meaning.specs.Keeps.{KeepsWorld};
 ghost use Rattle.template_machine_meaning.specs.World.{World};
 ghost use Rattle.template_machine_operands.specs.Operands.{operands_in};
-ghost use Rattle.template_machine_operations.specs.Outcomes.{TellsFailures};
 ghost use Rattle.template_machine_loop.specs.Entering.{Does};
 ghost use Rattle.template_machine_loop.specs.Plans.{DoesPlan};
 ghost use Rattle.template_machine_loop.specs.Programs.{programs_under, standing_of};
@@ -16,13 +16,14 @@ use crate::blocks::run_block_text;
 use crate::macros::call_macro;
 use crate::rounds::call_rounds;
 use crate::templates::{Program, Templates};
+use crate::told::told_by;
 use std::alloc::Global;
 use template_machine_calls::{Entering, Entry, turn_all};
+use template_machine_going::Stop;
 use template_machine_operands::Operands;
 use template_machine_output::Sink;
 use template_machine_state::State;
 use template_values_core::Value;
-use template_values_errors::Error;
 
 /// Enters what a call came to, and puts on top what is made of its value. It stands alone, so that others have nothing of it.
 ///
@@ -41,15 +42,15 @@ pub(crate) fn enter_call<'env, T: Templates, S: Sink>(
     left: &mut Option<u64>,
     scratch: &mut String,
     sink: &mut S,
-) -> Result<(), Error>
+) -> Result<(), Stop>
     ensures does { let templates = program.entry.templates.now in let root = option_map standing_of program.entry.root in
         let s = programs_under (T.standing templates) (T.joins templates) (T.callables templates) root program.entry.rules in
         (c : Code) (start : List Operand) (w : World) → calls.Enters s c start w entry (operands_in operands.old) state.old →
         Does s c start w left.old (S.taken sink.old) result (operands_in operands.new) state.new left.new (S.taken sink.new) }
-    ensures failures { TellsFailures result (S.failures sink.old) (S.failures sink.new) }
+    ensures failures { CountsFailures result (S.failures sink.old) (S.failures sink.new) }
 {
     let value = run_entry(alloc, program, entry, state, left, scratch, sink)?;
-    operands.push(value)
+    told_by(operands.push(value))
 }
 
 /// Runs what a call enters, and gives what is made of its value. The frames are then as they were, whatever its end.
@@ -67,14 +68,14 @@ pub fn run_entry<'env, T: Templates, S: Sink>(
     left: &mut Option<u64>,
     scratch: &mut String,
     sink: &mut S,
-) -> Result<Value, Error>
+) -> Result<Value, Stop>
     ensures plan { let templates = program.entry.templates.now in let root = option_map standing_of program.entry.root in
         let s = programs_under (T.standing templates) (T.joins templates) (T.callables templates) root program.entry.rules in
         DoesPlan value s (entry_plan s.around entry state.old)
         state.old left.old (S.taken sink.old) result state.new left.new (S.taken sink.new) }
     ensures keeps { KeepsWorld state.old state.new }
     ensures frames { state.new.frames ≡ state.old.frames }
-    ensures failures { TellsFailures result (S.failures sink.old) (S.failures sink.new) }
+    ensures failures { CountsFailures result (S.failures sink.old) (S.failures sink.new) }
 {
     let Entry {
         entering,
@@ -98,14 +99,14 @@ fn run_entering<'env, T: Templates, S: Sink>(
     left: &mut Option<u64>,
     scratch: &mut String,
     sink: &mut S,
-) -> Result<Value, Error>
+) -> Result<Value, Stop>
     ensures plan { let templates = program.entry.templates.now in let root = option_map standing_of program.entry.root in
         let s = programs_under (T.standing templates) (T.joins templates) (T.callables templates) root program.entry.rules in
         DoesPlan value s (entering_plan s.around pending state.old entering)
         state.old left.old (S.taken sink.old) result state.new left.new (S.taken sink.new) }
     ensures keeps { KeepsWorld state.old state.new }
     ensures frames { state.new.frames ≡ state.old.frames }
-    ensures failures { TellsFailures result (S.failures sink.old) (S.failures sink.new) }
+    ensures failures { CountsFailures result (S.failures sink.old) (S.failures sink.new) }
 {
     match entering {
         Entering::Macro(id, number, args) => call_macro(

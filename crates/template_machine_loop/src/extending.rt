@@ -3,12 +3,14 @@ ghost use Rattle.std.specs.Prelude.{ℕ, List, Option, IfErr, OnErr, option_map}
 ghost use Rattle.template_process.specs.Process.{done};
 ghost use Rattle.template_machine_meaning.specs.Blocks.{load_plan};
 ghost use Rattle.template_machine_meaning.specs.Keeps.{KeepsWorld};
-ghost use Rattle.template_machine_steps.specs.Performs.{SparesSink};
+ghost use Rattle.template_machine_going.specs.Told.{SparesSink};
 ghost use Rattle.template_machine_loop.specs.Plans.{DoesPlan};
 ghost use Rattle.template_machine_loop.specs.Programs.{programs_under, standing_of};
 
 use crate::templates::{Program, Templates};
+use crate::told::told_by;
 use std::alloc::Global;
+use template_machine_going::Stop;
 use template_machine_state::State;
 use template_values_core::Value;
 use template_values_errors::{Error, ErrorKind};
@@ -19,7 +21,7 @@ use template_values_errors::{Error, ErrorKind};
 /// # Errors
 ///
 /// `InvalidOperation` where a template is extended already, where the value is no text, and where the template's blocks were loaded
-/// before; the fault of the name's join; `TemplateNotFound`; and `OutOfMemory`.
+/// before; the fault of the name's join; `TemplateNotFound`; and a want of memory.
 #[cold]
 #[inline(never)]
 pub(crate) fn extend<'env, T: Templates>(
@@ -27,7 +29,7 @@ pub(crate) fn extend<'env, T: Templates>(
     program: Program<'env, '_, T>,
     value: &Value,
     state: &mut State<'env>,
-) -> Result<(), Error>
+) -> Result<(), Stop>
     ensures plan { let templates = program.entry.templates.now in let root = option_map standing_of program.entry.root in
         let s = programs_under (T.standing templates) (T.joins templates) (T.callables templates) root program.entry.rules in
         (left : Option ℕ) (taken : Option (List ℕ)) →
@@ -36,20 +38,20 @@ pub(crate) fn extend<'env, T: Templates>(
     ensures spares { IfErr result SparesSink }
 {
     if state.parent().is_some() {
-        return Err(Error::new(ErrorKind::InvalidOperation));
+        return Err(Stop::Fault(Error::new(ErrorKind::InvalidOperation)));
     }
     let Some(name) = value.as_str() else {
-        return Err(Error::new(ErrorKind::InvalidOperation));
+        return Err(Stop::Fault(Error::new(ErrorKind::InvalidOperation)));
     };
     let joined = program
         .templates
         .join(name, state.here_name(program.rules.name))?;
     let meant = joined.as_str();
     if state.is_loaded(meant) {
-        return Err(Error::new(ErrorKind::InvalidOperation));
+        return Err(Stop::Fault(Error::new(ErrorKind::InvalidOperation)));
     }
     let Some(found) = program.templates.get(meant) else {
-        return Err(Error::new(ErrorKind::TemplateNotFound));
+        return Err(Stop::Fault(Error::new(ErrorKind::TemplateNotFound)));
     };
-    state.load_blocks(alloc, found.name, found.blocks)
+    told_by(state.load_blocks(alloc, found.name, found.blocks))
 }

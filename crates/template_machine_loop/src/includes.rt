@@ -1,12 +1,11 @@
 //! Includes.
-ghost use Rattle.std.specs.Prelude.{◌≡◌, ◌⊎◌, Ok, Err, Some, IfOk, IfErr, IfSome, option_map};
-ghost use Rattle.template_values_errors.specs.Memory.{NoMemory};
+ghost use Rattle.std.specs.Prelude.{◌≡◌, Ok, Err, Some, IfOk, IfErr, IfSome, option_map};
 ghost use Rattle.template_process.specs.Process.{done};
 ghost use Rattle.template_machine_meaning.specs.Includes.{first_standing, include_levels, include_plan, include_within};
 ghost use Rattle.template_machine_meaning.specs.Keeps.{KeepsWorld};
 ghost use Rattle.template_machine_meaning.specs.Plans.{room_for};
 ghost use Rattle.template_machine_meaning.specs.Records.{known_of};
-ghost use Rattle.template_machine_operations.specs.Outcomes.{TellsFailures};
+ghost use Rattle.template_machine_going.specs.Told.{CountsFailures, FaultsSo};
 ghost use Rattle.template_machine_loop.specs.Found.{FindsTemplateOrNone, IsRefused, found_of};
 ghost use Rattle.template_machine_loop.specs.Plans.{DoesPlan};
 ghost use Rattle.template_machine_loop.specs.Programs.{programs_under, standing_of};
@@ -14,7 +13,7 @@ ghost use Rattle.template_machine_loop.specs.Programs.{programs_under, standing_
 use crate::templates::{Compiled, Program, Templates};
 use crate::whole::run_whole;
 use std::alloc::Global;
-use template_machine_fuel::wrapped;
+use template_machine_going::Stop;
 use template_machine_items::Items;
 use template_machine_operations::choices_in;
 use template_machine_output::Sink;
@@ -31,7 +30,7 @@ const INCLUDE_LEVELS: usize = 10;
 ///
 /// `InvalidOperation` at a value that names no templates, at a choice that is reached and is no text, and where there is no room;
 /// `TemplateNotFound` where no choice stands, of those that there are, unless missing ones are ignored; the fault of a name's join;
-/// that of its run, behind a `BadInclude`; and `OutOfMemory`, `WriteFailure` and `BadStream` as for
+/// that of its run, behind a `BadInclude`, as is lost code; and a want of memory and a sink's failure, as for
 /// [`run_to_end`](crate::run_to_end).
 #[cycle(running)]
 pub(crate) fn include<'env, T: Templates, S: Sink>(
@@ -43,13 +42,13 @@ pub(crate) fn include<'env, T: Templates, S: Sink>(
     left: &mut Option<u64>,
     scratch: &mut String,
     sink: &mut S,
-) -> Result<(), Error>
+) -> Result<(), Stop>
     ensures plan { let templates = program.entry.templates.now in let root = option_map standing_of program.entry.root in
         let s = programs_under (T.standing templates) (T.joins templates) (T.callables templates) root program.entry.rules in
         DoesPlan (λ u. done) s (include_plan (known_of state.old) s.around state.old ignore_missing value)
         state.old left.old (S.taken sink.old) result state.new left.new (S.taken sink.new) }
     ensures keeps { KeepsWorld state.old state.new }
-    ensures failures { TellsFailures result (S.failures sink.old) (S.failures sink.new) }
+    ensures failures { CountsFailures result (S.failures sink.old) (S.failures sink.new) }
 {
     let choice = chosen(alloc, program, ignore_missing, value, state)?;
     match choice {
@@ -68,24 +67,24 @@ fn run_included<'env, T: Templates, S: Sink>(
     left: &mut Option<u64>,
     scratch: &mut String,
     sink: &mut S,
-) -> Result<(), Error>
+) -> Result<(), Stop>
     requires { T.standing program.templates.now found.name.now ≡ Some (standing_of found) }
     ensures plan { let templates = program.entry.templates.now in let root = option_map standing_of program.entry.root in
         let s = programs_under (T.standing templates) (T.joins templates) (T.callables templates) root program.entry.rules in
         DoesPlan (λ u. done) s (room_for s.around.limit include_levels state.old (include_within state.old (found_of (standing_of found.entry))))
         state.old left.old (S.taken sink.old) result state.new left.new (S.taken sink.new) }
     ensures keeps { KeepsWorld state.old state.new }
-    ensures failures { TellsFailures result (S.failures sink.old) (S.failures sink.new) }
+    ensures failures { CountsFailures result (S.failures sink.old) (S.failures sink.new) }
 {
     if !state.has_room(program.rules.limit, INCLUDE_LEVELS) {
-        return Err(Error::new(ErrorKind::InvalidOperation));
+        return Err(Stop::Fault(Error::new(ErrorKind::InvalidOperation)));
     }
     let caller = state.enter_include(alloc, found.name, found.escape, found.blocks)?;
     let ran = run_whole(alloc, program, found.code, state, left, scratch, sink);
     state.leave_include(caller);
     match ran {
         Ok(()) => Ok(()),
-        Err(error) => Err(wrapped(alloc, ErrorKind::BadInclude, error)),
+        Err(stop) => Err(stop.wrapped(alloc, ErrorKind::BadInclude)),
     }
 }
 
@@ -100,13 +99,13 @@ fn chosen<'env, T: Templates>(
     ignore_missing: bool,
     value: Value,
     state: &State<'env>,
-) -> Result<Option<Compiled<'env>>, Error>
+) -> Result<Option<Compiled<'env>>, Stop>
     ensures found { let templates = program.entry.templates.now in let root = option_map standing_of program.entry.root in
         let s = programs_under (T.standing templates) (T.joins templates) (T.callables templates) root program.entry.rules in
         IfOk result (λ found. FindsTemplateOrNone s (T.standing templates) state.now ignore_missing value (option_map standing_of found)) }
     ensures refused { let templates = program.entry.templates.now in let root = option_map standing_of program.entry.root in
         let s = programs_under (T.standing templates) (T.joins templates) (T.callables templates) root program.entry.rules in
-        IfErr result (λ kinds. NoMemory kinds ⊎ IsRefused s (include_plan (known_of state.now) s.around state.now ignore_missing value) state.now kinds) }
+        IfErr result (FaultsSo (IsRefused s (include_plan (known_of state.now) s.around state.now ignore_missing value) state.now)) }
 {
     let choices = choices_in(alloc, value, state)?;
     let first = first_standing(program, state.here_name(program.rules.name), &choices)?;
@@ -119,7 +118,7 @@ fn chosen<'env, T: Templates>(
     if choices.is_empty() {
         return Ok(None);
     }
-    Err(Error::new(ErrorKind::TemplateNotFound))
+    Err(Stop::Fault(Error::new(ErrorKind::TemplateNotFound)))
 }
 
 // The first of the choices that stands; none where no choice does.
@@ -131,21 +130,21 @@ fn first_standing<'env, T: Templates>(
     program: Program<'env, '_, T>,
     here: &str,
     choices: &Items,
-) -> Result<Option<Compiled<'env>>, Error>
+) -> Result<Option<Compiled<'env>>, Stop>
     ensures found { let templates = program.entry.templates.now in let root = option_map standing_of program.entry.root in
         let s = programs_under (T.standing templates) (T.joins templates) (T.callables templates) root program.entry.rules in
         IfOk result (λ found. first_standing s.around here.now choices.now ≡ Ok (option_map (λ c. found_of (standing_of c)) found)) }
     ensures stands { IfOk result (λ found. IfSome found (λ c. T.standing program.entry.templates.now c.name.now ≡ Some (standing_of c))) }
     ensures refused { let templates = program.entry.templates.now in let root = option_map standing_of program.entry.root in
         let s = programs_under (T.standing templates) (T.joins templates) (T.callables templates) root program.entry.rules in
-        IfErr result (λ kinds. NoMemory kinds ⊎ (first_standing s.around here.now choices.now ≡ Err kinds)) }
+        IfErr result (FaultsSo (λ kinds. first_standing s.around here.now choices.now ≡ Err kinds)) }
 {
     for place in 0..choices.len() {
         let Some(choice) = choices.get(place) else {
             return Ok(None);
         };
         let Some(name) = choice.as_str() else {
-            return Err(Error::new(ErrorKind::InvalidOperation));
+            return Err(Stop::Fault(Error::new(ErrorKind::InvalidOperation)));
         };
         let joined = program.templates.join(name, here)?;
         let meant = joined.as_str();

@@ -6,7 +6,7 @@ ghost use Rattle.template_process.specs.Process.{value};
 ghost use Rattle.template_machine_meaning.specs.Keeps.{KeepsWorld};
 ghost use Rattle.template_machine_meaning.specs.Macros.{macro_plan};
 ghost use Rattle.template_machine_meaning.specs.Records.{macro_of};
-ghost use Rattle.template_machine_operations.specs.Outcomes.{TellsFailures};
+ghost use Rattle.template_machine_going.specs.Told.{CountsFailures};
 ghost use Rattle.template_machine_operands.specs.Operands.{operands_in};
 ghost use Rattle.template_machine_steps.specs.Performs.{SparesSink};
 ghost use Rattle.template_machine_loop.specs.Found.{FindsMacro, IsRefused};
@@ -18,9 +18,11 @@ use crate::counting::macro_at;
 use crate::found::code_of_stream;
 use crate::running::run_from;
 use crate::templates::{Program, Templates};
+use crate::told::told_by;
 use std::alloc::Global;
 use template_code::Instructions;
 use template_machine_calls::{Bound, bind};
+use template_machine_going::Stop;
 use template_machine_operands::Operands;
 use template_machine_output::Sink;
 use template_machine_state::{State, Stream};
@@ -48,7 +50,7 @@ pub(crate) struct Begun<'env> {
 /// # Errors
 ///
 /// `InvalidOperation` where there is no such macro, or no room; `TooManyArguments` where the arguments do not fit; the fault of its run;
-/// and `OutOfMemory`, `WriteFailure` and `BadStream` as for [`run_to_end`](crate::run_to_end).
+/// and a want of memory, a sink's failure and lost code, as for [`run_to_end`](crate::run_to_end).
 #[cycle(running)]
 pub(crate) fn call_macro<'env, T: Templates, S: Sink>(
     alloc: Global,
@@ -61,14 +63,14 @@ pub(crate) fn call_macro<'env, T: Templates, S: Sink>(
     left: &mut Option<u64>,
     scratch: &mut String,
     sink: &mut S,
-) -> Result<Value, Error>
+) -> Result<Value, Stop>
     ensures plan { let templates = program.entry.templates.now in let root = option_map standing_of program.entry.root in
         let s = programs_under (T.standing templates) (T.joins templates) (T.callables templates) root program.entry.rules in
         DoesPlan value s (macro_plan s.around.limit pending state.old args.items (macro_of state.old id number))
         state.old left.old (S.taken sink.old) result state.new left.new (S.taken sink.new) }
     ensures keeps { KeepsWorld state.old state.new }
     ensures frames { state.new.frames ≡ state.old.frames }
-    ensures failures { TellsFailures result (S.failures sink.old) (S.failures sink.new) }
+    ensures failures { CountsFailures result (S.failures sink.old) (S.failures sink.new) }
 {
     let begun = begin(alloc, program, id, number, args, pending, state)?;
     let Begun {
@@ -84,10 +86,10 @@ pub(crate) fn call_macro<'env, T: Templates, S: Sink>(
         alloc, program, code, place, operands, state, left, scratch, sink,
     );
     match ran {
-        Ok(_) => state.leave_macro_text(alloc, caller),
-        Err(error) => {
+        Ok(_) => told_by(state.leave_macro_text(alloc, caller)),
+        Err(stop) => {
             state.leave_macro(caller);
-            Err(error)
+            Err(stop)
         }
     }
 }

@@ -1,6 +1,5 @@
 //! Rounds of loops that are called again.
-ghost use Rattle.std.specs.Prelude.{◌≡◌, ◌∷◌, [], ◌⊎◌, Bool, IfErr, IfOk, None, Option, Some, is_some, option_map};
-ghost use Rattle.template_values_errors.specs.Memory.{NoMemory};
+ghost use Rattle.std.specs.Prelude.{◌≡◌, ◌∷◌, [], Bool, IfErr, IfOk, None, Option, Some, is_some, option_map};
 ghost use Rattle.template_values_errors.specs.declared.ErrorKind.TheVariants.{InvalidOperation};
 ghost use Rattle.template_process.specs.Process.{done, value};
 ghost use Rattle.template_machine_meaning.specs.Keeps.{KeepsWorld};
@@ -11,8 +10,7 @@ ghost use Rattle.template_machine_meaning.specs.Plans.{replies};
 ghost use Rattle.template_machine_meaning.specs.Replies as meant;
 ghost use Rattle.template_machine_meaning.specs.Rounds.{again_plan, recurse_plan, rounds_plan};
 ghost use Rattle.template_machine_meaning.specs.World.{Loop, World};
-ghost use Rattle.template_machine_operations.specs.Outcomes.{TellsFailures};
-ghost use Rattle.template_machine_steps.specs.Performs.{SparesSink};
+ghost use Rattle.template_machine_going.specs.Told.{CountsFailures, FaultsSo, SparesSink};
 ghost use Rattle.template_machine_loop.specs.Found.{FindsRounds, IsRefused};
 ghost use Rattle.template_machine_loop.specs.Plans.{DoesPlan};
 ghost use Rattle.template_machine_loop.specs.Programs.{programs_under, standing_of};
@@ -21,9 +19,10 @@ use crate::counting::rounds_at;
 use crate::found::code_of_stream;
 use crate::running::run_from;
 use crate::templates::{Program, Templates};
+use crate::told::told_by;
 use std::alloc::Global;
 use template_code::Instructions;
-use template_machine_fuel::wrapped;
+use template_machine_going::Stop;
 use template_machine_items::Items;
 use template_machine_operands::Operands;
 use template_machine_operations as values;
@@ -53,7 +52,7 @@ pub(crate) struct Begun<'env> {
 /// # Errors
 ///
 /// `UnknownFunction` where there is no loop; `InvalidOperation` where it is not recursive, over a fault of the items, or where there is
-/// no room; the fault of the rounds; and `OutOfMemory`, `WriteFailure` and `BadStream` as for [`run_to_end`](crate::run_to_end).
+/// no room; the fault of the rounds; and a want of memory, a sink's failure and lost code, as for [`run_to_end`](crate::run_to_end).
 #[cycle(running)]
 pub(crate) fn print_rounds<'env, T: Templates, S: Sink>(
     alloc: Global,
@@ -63,15 +62,15 @@ pub(crate) fn print_rounds<'env, T: Templates, S: Sink>(
     left: &mut Option<u64>,
     scratch: &mut String,
     sink: &mut S,
-) -> Result<(), Error>
+) -> Result<(), Stop>
     ensures plan { let templates = program.entry.templates.now in let root = option_map standing_of program.entry.root in
         let s = programs_under (T.standing templates) (T.joins templates) (T.callables templates) root program.entry.rules in
         DoesPlan (λ u. done) s (recurse_plan s.around state.old over) state.old left.old (S.taken sink.old) result state.new left.new (S.taken sink.new) }
     ensures keeps { KeepsWorld state.old state.new }
-    ensures failures { TellsFailures result (S.failures sink.old) (S.failures sink.new) }
+    ensures failures { CountsFailures result (S.failures sink.old) (S.failures sink.new) }
 {
     let Some(current) = state.innermost_loop() else {
-        return Err(Error::new(ErrorKind::UnknownFunction));
+        return Err(Stop::Fault(Error::new(ErrorKind::UnknownFunction)));
     };
     let again = again_of(current)?;
     let begun = begin(alloc, program, again, over, state)?;
@@ -86,9 +85,9 @@ pub(crate) fn print_rounds<'env, T: Templates, S: Sink>(
             state.leave_rounds(alloc, caller);
             Ok(())
         }
-        Err(error) => {
+        Err(stop) => {
             state.leave_block(caller);
-            Err(error)
+            Err(stop)
         }
     }
 }
@@ -110,18 +109,18 @@ pub(crate) fn call_rounds<'env, T: Templates, S: Sink>(
     left: &mut Option<u64>,
     scratch: &mut String,
     sink: &mut S,
-) -> Result<Value, Error>
+) -> Result<Value, Stop>
     ensures plan { let templates = program.entry.templates.now in let root = option_map standing_of program.entry.root in
         let s = programs_under (T.standing templates) (T.joins templates) (T.callables templates) root program.entry.rules in
         DoesPlan value s (again_plan s.around state.old args.items (loop_of state.old id number))
         state.old left.old (S.taken sink.old) result state.new left.new (S.taken sink.new) }
     ensures keeps { KeepsWorld state.old state.new }
     ensures frames { state.new.frames ≡ state.old.frames }
-    ensures failures { TellsFailures result (S.failures sink.old) (S.failures sink.new) }
+    ensures failures { CountsFailures result (S.failures sink.old) (S.failures sink.new) }
 {
     let over = only(args)?;
     let Some(current) = state.loop_of(id, number) else {
-        return Err(Error::new(ErrorKind::InvalidOperation));
+        return Err(Stop::Fault(Error::new(ErrorKind::InvalidOperation)));
     };
     let again = again_of(current)?;
     let begun = begin(alloc, program, again, over, state)?;
@@ -132,10 +131,10 @@ pub(crate) fn call_rounds<'env, T: Templates, S: Sink>(
         alloc, program, code, place, operands, state, left, scratch, sink,
     );
     match ran {
-        Ok(_) => state.leave_rounds_text(alloc, caller),
-        Err(error) => {
+        Ok(_) => told_by(state.leave_rounds_text(alloc, caller)),
+        Err(stop) => {
             state.leave_block(caller);
-            Err(error)
+            Err(stop)
         }
     }
 }
@@ -182,36 +181,36 @@ fn again_of<'env>(current: &LoopState<'env>) -> Result<Again<'env>, Error>
 //
 // # Errors
 //
-// `InvalidOperation` over a fault of the items, where there is no room, and where the rounds are not found; `OutOfMemory`.
+// `InvalidOperation` over a fault of the items, where there is no room, and where the rounds are not found; and a want of memory.
 fn begin<'env, T: Templates>(
     alloc: Global,
     program: Program<'env, '_, T>,
     again: Again<'env>,
     over: Value,
     state: &State<'env>,
-) -> Result<Begun<'env>, Error>
+) -> Result<Begun<'env>, Stop>
     ensures begun { let templates = program.entry.templates.now in let root = option_map standing_of program.entry.root in
         let s = programs_under (T.standing templates) (T.joins templates) (T.callables templates) root program.entry.rules in
         IfOk result (λ begun. (named : Bool) (l : Loop) → l.rounds ≡ Some (rounds_in again.entry.rounds) →
         FindsRounds s (T.standing templates) root state.now named l (rounds_in again.entry.rounds) over begun) }
     ensures refused { let templates = program.entry.templates.now in let root = option_map standing_of program.entry.root in
         let s = programs_under (T.standing templates) (T.joins templates) (T.callables templates) root program.entry.rules in
-        IfErr result (λ kinds. NoMemory kinds ⊎ ((named : Bool) (l : Loop) → l.rounds ≡ Some (rounds_in again.entry.rounds) →
+        IfErr result (FaultsSo (λ kinds. (named : Bool) (l : Loop) → l.rounds ≡ Some (rounds_in again.entry.rounds) →
         IsRefused s (rounds_plan s.around state.now named over l) state.now kinds)) }
     ensures spares { IfErr result SparesSink }
 {
     let items = match values::iterate(alloc, program.rules.undefined, over, state) {
         Ok(items) => items,
-        Err(error) => return Err(wrapped(alloc, ErrorKind::InvalidOperation, error)),
+        Err(error) => return Err(Stop::from(error).wrapped(alloc, ErrorKind::InvalidOperation)),
     };
     if !state.has_room(program.rules.limit, 1) {
-        return Err(Error::new(ErrorKind::InvalidOperation));
+        return Err(Stop::Fault(Error::new(ErrorKind::InvalidOperation)));
     }
     let Some(code) = code_of_stream(program, again.rounds.stream) else {
-        return Err(Error::new(ErrorKind::InvalidOperation));
+        return Err(Stop::Fault(Error::new(ErrorKind::InvalidOperation)));
     };
     let Some(place) = rounds_at(code, again.rounds.number) else {
-        return Err(Error::new(ErrorKind::InvalidOperation));
+        return Err(Stop::Fault(Error::new(ErrorKind::InvalidOperation)));
     };
     Ok(Begun { code, place, items })
 }

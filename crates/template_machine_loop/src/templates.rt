@@ -1,7 +1,7 @@
 //! The templates that stand, and what runs.
-ghost use Rattle.std.specs.Prelude.{◌≡◌, ◌⊎◌, ℕ, Ok, Err, List, Option, IfOk, IfErr, IfSome, option_map, ⊤};
+ghost use Rattle.std.specs.Prelude.{◌≡◌, ℕ, Ok, Err, List, Option, IfOk, IfErr, IfSome, option_map, ⊤};
 ghost use Rattle.std.specs.Cow.{cow_str_bytes};
-ghost use Rattle.template_values_errors.specs.Memory.{NoMemory};
+ghost use Rattle.template_machine_going.specs.Told.{FaultsSo};
 
 use std::alloc::AllocError;
 use std::borrow::CowStr;
@@ -9,7 +9,8 @@ use template_callables::Callbacks;
 use template_code::Instructions;
 use template_code_blocks::CompiledBlock;
 use template_machine_calls::Rules;
-use template_values_errors::{AutoEscape, Error};
+use template_machine_going::Stop;
+use template_values_errors::AutoEscape;
 
 /// A template that stands, or the one that is rendered.
 #[derive(Clone, Copy)]
@@ -28,7 +29,6 @@ pub struct Compiled<'env> {
 /// answers where they call it.
 pub trait Templates: Callbacks {
     ghost use Rattle.template_callables.specs.Joins.{Joins};
-    ghost use Rattle.template_machine_loop.specs.Joining.{told_name};
     ghost use Rattle.template_machine_loop.specs.Programs.{Standing, standing_of};
 
     ghost standing: { Self → List ℕ → Option Standing };
@@ -44,10 +44,10 @@ pub trait Templates: Callbacks {
     ///
     /// # Errors
     ///
-    /// The fault that a user's own states, by the kinds that the machine tells of it; and `OutOfMemory`.
-    fn join<'a>(&self, name: &'a str, parent: &str) -> Result<CowStr<'a>, Error>
+    /// The fault that a user's own states; and want of memory.
+    fn join<'a>(&self, name: &'a str, parent: &str) -> Result<CowStr<'a>, Stop>
         ensures joined { IfOk result (λ joined. joins self.now name.now parent.now ≡ Ok (cow_str_bytes joined)) }
-        ensures refused { IfErr result (λ kinds. NoMemory kinds ⊎ (told_name (joins self.now name.now parent.now) ≡ Err kinds)) };
+        ensures refused { IfErr result (FaultsSo (λ kinds. joins self.now name.now parent.now ≡ Err kinds)) };
 }
 
 /// What runs: the templates that stand, with what a user's own answers; the one that is rendered, if one is; and the rules.

@@ -1,9 +1,9 @@
 //! The run of code with the templates that are extended.
 ghost use Rattle.std.specs.Prelude.{◌≡◌, ◌≤◌, length, Some, option_map};
 ghost use Rattle.template_code.specs.Listing.{code_in};
+ghost use Rattle.template_machine_going.specs.Told.{CountsFailures};
 ghost use Rattle.template_machine_meaning.specs.Keeps.{KeepsWorld};
 ghost use Rattle.template_machine_meaning.specs.Keys.{Stream, whole_of};
-ghost use Rattle.template_machine_operations.specs.Outcomes.{TellsFailures};
 ghost use Rattle.template_machine_loop.specs.Programs.{code_at, programs_under, standing_of};
 ghost use Rattle.template_machine_loop.specs.Runs.{KeyRuns};
 
@@ -11,6 +11,7 @@ use crate::running::run_to_end;
 use crate::templates::{Program, Templates};
 use std::alloc::Global;
 use template_code::Instructions;
+use template_machine_going::Stop;
 use template_machine_output::Sink;
 use template_machine_state::State;
 use template_values_errors::{Error, ErrorKind};
@@ -30,14 +31,14 @@ pub fn run_whole<'env, T: Templates, S: Sink>(
     left: &mut Option<u64>,
     scratch: &mut String,
     sink: &mut S,
-) -> Result<(), Error>
+) -> Result<(), Stop>
     requires { state.old.floor ≤ length state.old.frames }
     ensures runs { let templates = program.entry.templates.now in let root = option_map standing_of program.entry.root in
         (here : Stream) → code_at (T.standing templates) root here ≡ Some (code_in code.now) →
         KeyRuns (programs_under (T.standing templates) (T.joins templates) (T.callables templates) root program.entry.rules)
         (whole_of here) state.old left.old (S.taken sink.old) result state.new left.new (S.taken sink.new) }
     ensures keeps { KeepsWorld state.old state.new }
-    ensures failures { TellsFailures result (S.failures sink.old) (S.failures sink.new) }
+    ensures failures { CountsFailures result (S.failures sink.old) (S.failures sink.new) }
 {
     let _first = run_to_end(alloc, program, code, state, left, scratch, sink)?;
     for _ in 0..u64::MAX {
@@ -45,10 +46,10 @@ pub fn run_whole<'env, T: Templates, S: Sink>(
             return Ok(());
         };
         let Some(parent) = program.templates.get(name) else {
-            return Err(Error::new(ErrorKind::TemplateNotFound));
+            return Err(Stop::Fault(Error::new(ErrorKind::TemplateNotFound)));
         };
         state.restart(name);
         let _next = run_to_end(alloc, program, parent.code, state, left, scratch, sink)?;
     }
-    Err(Error::new(ErrorKind::OutOfMemory))
+    Err(Stop::Want(Error::new(ErrorKind::OutOfMemory)))
 }

@@ -9,7 +9,6 @@ use Rattle.template_values_errors.specs.declared.ErrorKind.TheVariants.{InvalidO
 use Rattle.template_values_model.specs.Val.{Val}
 use Rattle.template_values_core.specs.Answers.{text_in}
 use Rattle.template_values_operators.specs.Iterated.{iterated}
-use Rattle.template_callables.specs.Faults.{stated_kinds}
 use Rattle.template_process.specs.Process as events
 use Rattle.template_process.specs.Process.{Ask, begin_capture, end_capture, load_blocks, Answer, done, value, tells, fails, breaks_off, Process, step, asks, on_done, on_value}
 use Rattle.template_process.specs.Trace.{Reply}
@@ -300,7 +299,7 @@ module _ (names : List (List ℕ)) (s : Programs) (lists : (name : List ℕ) (h 
 
     as_settles : (r : Result (List ℕ) (List ErrorKind)) → LoadSettles (loaded_as s.around w r)
     as_settles (Ok name) = new_settles name (is_among name w.loaded) refl
-    as_settles (Err kinds) = load_failed (stated_kinds kinds)
+    as_settles (Err kinds) = load_failed kinds
 
     named_settles : (o : Option (List ℕ)) → LoadSettles (loaded_named s.around w o)
     named_settles None = load_refused InvalidOperation

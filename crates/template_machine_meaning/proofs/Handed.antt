@@ -55,9 +55,9 @@ meant_handed w (faults kinds) meant = meant
 meant_handed w _ meant = tt
 
 pub expression_faults_are_meant : ExpressionFaultsAreMeant
-expression_faults_are_meant setting id e context fuel =
+expression_faults_are_meant setting all id e context fuel =
     let w = first_world id setting.globals no_head context in
     let r = evaluation setting e w in
     let q = under fuel r in
     subst (λ (x : Run World). IsMeantEnd x.end) (sym (under_handed fuel r))
-    (meant_handed q.after q.end (faults_are_meant (walks_of setting None) 0 (standalone_walk e) w fuel))
+    (meant_handed q.after q.end (faults_are_meant (walks_of setting None) all 0 (standalone_walk e) w fuel))

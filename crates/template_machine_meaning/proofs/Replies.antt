@@ -18,7 +18,6 @@ use Rattle.template_values_operators.specs.Iterated.{iterated}
 use Rattle.template_values_operators.specs.Kinds.{list_made}
 use Rattle.template_values_operators.specs.Slices.{slice_of}
 use Rattle.template_callables.specs.Callables as callables
-use Rattle.template_callables.specs.Faults.{stated_kinds}
 use Rattle.template_callables.specs.Callables.{View, Formatted, writes, forbids, Asked, call, filter, test, lookup, call_macro, block, Stated, finishes, refuses, goes_on, Says}
 use Rattle.template_names.specs.Among.{Among, nothing}
 use Rattle.template_process.specs.Process.{Looping, Making, Ask, look_up, store, negate, invert, operate, compare, get_attribute, get_item, get_slice, set_attribute, build_list, build_tuple, build_map, build_kwargs, merge_kwargs, call_function, call_method, call_value, apply_filter, perform_test, truth_of, unpack, spread, write_raw, write_value, open_frame, close_frame, open_loop, next_item, did_not_iterate, close_loop, open_escape, close_escape, begin_capture, end_capture, enclose, get_closure, build_macro, recurse, call_block, super_block, load_blocks, export_locals, include, Answer, done, value, truth, items, closure, Told, tells, fails, breaks_off, leaves, Process, over, step, asks, amiss, cut_short, stuck}
@@ -29,7 +28,7 @@ use Rattle.template_walk.specs.Operators.{operated, compared, inverted, negated}
 use Rattle.template_walk.specs.Statements.{is_super_name}
 use Rattle.template_machine_meaning.specs.World.{Bindings, Rounds, Loop, Frame, Macro, Capture, World, local_at, closure_of, seen_frames, looked_up, value_named, given_at, put_given, drop_given, put_local, depth_of, has_room, loop_over, loop_frame, empty_frame}
 use Rattle.template_machine_meaning.specs.Captures.{with_text, captured, is_dropping}
-use Rattle.template_machine_meaning.specs.Closures.{held_by, put_in_closure, stands, writing, writes_of, enclosing}
+use Rattle.template_machine_meaning.specs.Closures.{put_in_closure, stands, writing, writes_of, enclosing}
 use Rattle.template_machine_meaning.specs.Closures as scopes
 use Rattle.template_machine_meaning.specs.Turnings.{Turning, to_truth, to_text, decided, worded, turned_value, turned_by, turned}
 use Rattle.template_machine_meaning.specs.Bodies.{Bodies, bodies_at}
@@ -42,7 +41,7 @@ use Rattle.template_machine_meaning.specs.Records.{loops_of, loop_numbered, know
 use Rattle.template_machine_meaning.specs.Undefined.{forbids_printing, forbids_iterating, forbids_truth, forbids_slicing, forbids_operator, forbids_link}
 use Rattle.template_machine_meaning.specs.Replies.{told, changed, refused, kinded, guarded, replied_with, changed_with}
 use Rattle.template_machine_meaning.specs.Keys as keys
-use Rattle.template_machine_meaning.specs.Keys.{Home, standing, Stream, block_of, Part, whole, body_of, rounds_of, Key, whole_of, Head, Around}
+use Rattle.template_machine_meaning.specs.Keys.{Home, standing, Stream, Part, whole, body_of, rounds_of, Key, whole_of, Head, Around}
 use Rattle.template_machine_meaning.specs.Plans as plans
 use Rattle.template_machine_meaning.specs.Plans.{Purpose, includes, calls_block, takes_block, calls_super, calls_macro, runs_rounds, Plan, replies, enters, room_for, with_turning, Caller, outermost, with_writes, caller_of, after_by, given, wrapped_by, told_by, came, Runners, restarted, beneath, with_beneath, parent_run, went_on, followed_at, followed, came_from, settled}
 use Rattle.template_machine_meaning.specs.Includes.{Found, Choice, choices_in, first_standing, include_levels, include_within, not_found, included_by, included_from}
@@ -667,7 +666,7 @@ module _ (names : List ℕ → Type 0) (uses : Stream → ℕ → Among) (d : Va
     formatted_so : (v : Val) (f : Formatted) → Now k (formatted_reply w v f) (formatted_reply other v f)
     formatted_so v (writes text) = text_so text w.captures
     formatted_so v (callables.escapes value_there) = escaped_so value_there
-    formatted_so v (forbids kinds) = failed_so begun start k w (stated_kinds kinds)
+    formatted_so v (forbids kinds) = failed_so begun start k w kinds
 
     format_so : (a : Around) (v : Val) (o : Option (View → Val → Formatted)) → Now k (format_reply a w v o) (format_reply a other v o)
     format_so a v None = escaped_so v
@@ -1038,7 +1037,7 @@ module _ (names : List ℕ → Type 0) (uses : Stream → ℕ → Among) (d : Va
     as_so a (Ok name) =
         either_so begun start k (is_among name w.loaded) (caller_of w) w.closures (replies (refused w InvalidOperation)) (loaded_head w name (a.head (standing name)))
         (replies (refused other InvalidOperation)) (loaded_head other name (a.head (standing name))) (refused_so begun start k w InvalidOperation) (head_so name (a.head (standing name)))
-    as_so a (Err kinds) = failed_so begun start k w (stated_kinds kinds)
+    as_so a (Err kinds) = failed_so begun start k w kinds
 
     loaded_so : (a : Around) (o : Option (List ℕ)) → Come k (loaded_named a w o) (loaded_named a other o)
     loaded_so a None = refused_so begun start k w InvalidOperation

@@ -380,14 +380,14 @@ tested_text : text_of (brought_run (testing (codes "double") 3 ∷ testing (code
 unfolding printed_forms.level_limit fmt.digits
 tested_text = refl
 
--- `{{ 1 is unpack }}` and `{{ 1|write }}`: no callable may tell that the sink failed
+-- `{{ 1 is unpack }}` and `{{ 1|write }}`: the kinds that a callable states are the run's, whatever they are
 stated_end : (brought_run (testing (codes "unpack") 1 ∷ [])).end ≡ faults (CannotUnpack ∷ [])
 unfolding printed_forms.level_limit fmt.digits
 stated_end = refl
 
-no_sink_end : (brought_run (filtering (codes "write") 1 ∷ [])).end ≡ faults (InvalidOperation ∷ [])
+stated_sink_end : (brought_run (filtering (codes "write") 1 ∷ [])).end ≡ faults (CannotUnpack ∷ WriteFailure ∷ [])
 unfolding printed_forms.level_limit fmt.digits
-no_sink_end = refl
+stated_sink_end = refl
 
 -- `{{ 2|down }}` and `{{ 3|down }}` under a limit of three levels, of which the template has one
 abbrev down_run : ℕ → Run World

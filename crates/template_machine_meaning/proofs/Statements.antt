@@ -11,7 +11,6 @@ use Rattle.template_values_forms.specs.Escaped.{escaped}
 use Rattle.template_values_operators.specs.Iterated.{iterated}
 use Rattle.template_callables.specs.Callables as callables
 use Rattle.template_callables.specs.Callables.{View, Formatted, writes, forbids}
-use Rattle.template_callables.specs.Faults.{stated_kinds}
 use Rattle.template_tree.specs.Tree as tree
 use Rattle.template_tree.specs.Kinds.{is_empty}
 use Rattle.template_tree.specs.Tree.{Expression, Expressions, no_expressions, expressions_more, Arguments, variable, positional, keyword, positional_spread, keyword_spread, no_arguments, arguments_more, macro, Statement, Statements, Imports, call, absent, given, raw, print, for_loop, if_condition, with_block, set, set_block, auto_escape, filter_block, block, import, from_import, extends, include, continue_loop, break_loop, do_call, no_statements, statements_more, no_imports, imports_more}
@@ -137,7 +136,7 @@ module _ (names : List (List ℕ)) (s : Programs) (depth : ℕ) (deeper : AllCom
     formatted_out : (f : Formatted) → ((n : ℕ) → answer s n w (write_value v) ≡ formatted_reply w v f) → Writes
     formatted_out (writes text) is = written_out looping base w kept (write_value v) text is w.captures refl
     formatted_out (callables.escapes other) is = text_out (kinded (escaped w.escape (known_of w) other)) is
-    formatted_out (forbids kinds) is = failed_out looping base w (write_value v) (stated_kinds kinds) is
+    formatted_out (forbids kinds) is = failed_out looping base w (write_value v) kinds is
 
     format_out : (o : Option (View → Val → Formatted)) → ((n : ℕ) → answer s n w (write_value v) ≡ format_reply s.around w v o) → Writes
     format_out None is = text_out (kinded (escaped w.escape (known_of w) v)) is

@@ -6,7 +6,6 @@ use Rattle.template_values_errors.specs.declared.ErrorKind.{ErrorKind}
 use Rattle.template_values_errors.specs.declared.ErrorKind.TheVariants.{InvalidOperation, TemplateNotFound, UnknownBlock, EvalBlock}
 use Rattle.template_values_model.specs.Val.{Val}
 use Rattle.template_values_core.specs.Answers.{text_in}
-use Rattle.template_callables.specs.Faults.{stated_kinds}
 use Rattle.template_process.specs.Process.{tells, fails, done}
 use Rattle.template_machine_meaning.specs.Keys.{Home, standing, Stream, block_of, whole_of, Head, Around}
 use Rattle.template_machine_meaning.specs.Bodies.{Bodies, bodies_at, with_bodies, with_place}
@@ -126,7 +125,7 @@ loaded_head w name (Some h) = replies (changed (record w {
 
 abbrev pub loaded_as : Around → World → Result (List ℕ) (List ErrorKind) → Plan
 loaded_as a w (Ok name) = if is_among name w.loaded then replies (refused w InvalidOperation) else loaded_head w name (a.head (standing name))
-loaded_as a w (Err kinds) = replies (told w (fails (stated_kinds kinds)))
+loaded_as a w (Err kinds) = replies (told w (fails kinds))
 
 abbrev pub loaded_named : Around → World → Option (List ℕ) → Plan
 loaded_named a w None = replies (refused w InvalidOperation)

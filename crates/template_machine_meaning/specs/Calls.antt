@@ -8,7 +8,6 @@ use Rattle.template_values_model.specs.Val.{Val, vals_of}
 use Rattle.template_values_core.specs.Order.{val_cmp}
 use Rattle.template_values_named.specs.Named.{with_all_named}
 use Rattle.template_callables.specs.Callables.{View, Asked, call, filter, test, lookup, call_macro, block, Stated, finishes, refuses, goes_on, Says, Callables}
-use Rattle.template_callables.specs.Faults.{stated_kinds}
 use Rattle.template_process.specs.Process.{tells, fails, value}
 use Rattle.template_machine_meaning.specs.World.{World, looked_up, value_named, given_at, put_given, depth_of}
 use Rattle.template_machine_meaning.specs.Records.{macro_of, loop_of}
@@ -59,7 +58,7 @@ unknown (method_of v name) = UnknownMethod
 -- what an answer comes to, where what it asks further comes to what `go` gives
 abbrev pub stated_plan : (World → Asked → Plan) → World → Stated → Plan
 stated_plan go w (finishes temps v) = replies (changed (with_temps temps w) (value v))
-stated_plan go w (refuses kinds) = replies (told w (fails (stated_kinds kinds)))
+stated_plan go w (refuses kinds) = replies (told w (fails kinds))
 stated_plan go w (goes_on temps asked) = go (with_temps temps w) asked
 
 -- the value of a test is taken for true or false, by what is known of records

@@ -3,7 +3,6 @@ use Rattle.std.proofs.Common.{◌≡◌, ℕ, ◌≤◌, List, [], ◌∷◌, Op
 use Rattle.template_values_errors.specs.declared.ErrorKind.{ErrorKind}
 use Rattle.template_process.specs.Approximants.{IsFinished}
 use Rattle.template_process.specs.Drive.{End, ends, faults, breaks, waits, mistaken, cuts, sticks}
-use Rattle.template_process.specs.Fuel.{under}
 use Rattle.template_process.specs.Process.{Answer, Told, tells, fails, breaks_off, leaves, done}
 use Rattle.template_process.specs.Trace.{Reply, Run}
 use Rattle.template_machine_meaning.specs.World.{World}
@@ -12,9 +11,7 @@ use Rattle.template_machine_meaning.specs.Plans.{Within, Plan, replies, enters, 
 use Rattle.template_machine_meaning.specs.Turnings.{Turning, turned}
 use Rattle.template_machine_meaning.specs.Surroundings.{Programs, runners}
 use Rattle.template_machine_meaning.specs.Meaning.{Standing, Setting, walks_of}
-use Rattle.template_machine_meaning.specs.Keeps.{IsMeantEnd}
 use Rattle.template_machine_meaning.proofs.Entering.{Finds, found_run}
-use Rattle.template_machine_meaning.proofs.RunsKept.{IsMeantTold, KeepsReply, block_keeps, meant_under}
 use Rattle.template_machine_codes.specs.Codes.{codes_of}
 use Rattle.template_machine_codes.proofs.Alike.{ProgramsFollow, codes_follow, runners_alike}
 use Rattle.template_machine_loop.specs.Plans.{Tells, end_of, replies_of, run_of}
@@ -70,19 +67,6 @@ module _ (s t : Programs) (follows : ProgramsFollow s t) where
       → ComeTo (λ m. run_of (replies_of t p w m)) (run_of (replies_of s p w n))
   plan_alike n w p finished = let same = replies_alike n w p finished in (same.0, λ m le. ap run_of (same.1 m le))
 
--- faults of blocks are those that templates mean
-pub told_meant : (told : Told) → IsMeantTold told → IsMeantEnd (end_of told)
-told_meant (tells a) meant = tt
-told_meant (fails kinds) meant = meant
-told_meant breaks_off meant = tt
-told_meant leaves meant = tt
-
-pub block_faults_are_meant : (s : Programs) (w : World) (block : List ℕ) (n : ℕ) (fuel : Option ℕ) → IsMeantEnd (under fuel (block_run s w block n)).end
-block_faults_are_meant s w block n fuel =
-    let kept : KeepsReply w (replies_of s (block_plan s.around w block) w n) = block_keeps s n w block in
-    meant_under w fuel (block_run s w block n)
-    (record { world = kept.world; end = told_meant (replies_of s (block_plan s.around w block) w n).told kept.told; wraps = kept.wraps })
-
 -- the code of all keys follows their trees, whatever the name is
 pub named_follow : (setting : Setting) (root : Option Standing) (name : List ℕ)
     → ProgramsFollow (named_so name (walks_of setting root)) (named_so name (codes_of setting root))
@@ -108,13 +92,13 @@ blocks_render X setting root name block w after fuel left before taken (Ok x) h 
     ends_meant (λ m. run_of (replies_of t p w m)) (block_run s w block n) after fuel left before taken
     (plan_alike s t (named_follow setting root name) n w p finished)
     (tells_ends (replies_of t p w) done after fuel left before taken h)
-blocks_render X setting root name block w after fuel left before taken (Err kinds) h n finished =
+blocks_render X setting root name block w after fuel left before taken (Err stop) h n finished =
     let s = named_so name (walks_of setting root) in
     let t = named_so name (codes_of setting root) in
     let p = block_plan s.around w block in
     let broke =
-    breaks_meant (λ m. run_of (replies_of t p w m)) (block_run s w block n) kinds fuel left before taken
+    breaks_meant (λ m. run_of (replies_of t p w m)) (block_run s w block n) stop fuel left before taken
     (plan_alike s t (named_follow setting root name) n w p finished) h in (
-      stops_there X (block_run s w block n) fuel left before taken kinds (block_faults_are_meant s w block n fuel) finished broke,
-      stops_leave X (block_run s w block n) fuel left before taken kinds finished broke,
+      stops_there X (block_run s w block n) fuel left before taken stop finished broke,
+      stops_leave X (block_run s w block n) fuel left before taken stop finished broke,
     )

@@ -2,8 +2,6 @@
 use Rattle.std.proofs.Common.{◌≡◌, ℕ, ◌+◌, ◌==◌, ◌⊎◌, inl, inr, Bool, true, false, if◌then◌else◌, List, [], ◌∷◌, length, map, Option, None, Some, option_map, Result, Ok, Err, refl, sym, ap, subst, ◌∙◌, arith}
 use Rattle.std.specs.Option.{option_and_then}
 use Rattle.std.proofs.KnownBytes.{Appends-nil}
-use Rattle.template_values_errors.specs.declared.ErrorKind.{ErrorKind}
-use Rattle.template_values_errors.specs.Memory.{NoMemory}
 use Rattle.template_values_model.specs.Val.{Val}
 use Rattle.template_tree.specs.Tree.{Statements}
 use Rattle.template_process.specs.Approximants.{IsFinished}
@@ -15,7 +13,9 @@ use Rattle.template_code.specs.Counting.{MacroPlace, macro_at, rounds_at}
 use Rattle.template_code.specs.Steps.{exec}
 use Rattle.template_compiler_codegen.specs.Statements.{template_code}
 use Rattle.template_machine_going.proofs.Paths.{paid_nothing}
-use Rattle.template_machine_meaning.specs.Keeps.{IsMeantEnd}
+use Rattle.template_machine_going.specs.Told.{FaultsSo}
+use Rattle.template_machine_going.specs.declared.stop.Stop.{Stop}
+use Rattle.template_machine_going.specs.declared.stop.Stop.TheVariants.{Fault, Want}
 use Rattle.template_machine_meaning.specs.Keys.{Key, Part, whole, body_of, rounds_of}
 use Rattle.template_machine_meaning.specs.Meaning.{Standing, Setting, tree_of, walks_of}
 use Rattle.template_machine_meaning.specs.Plans.{Plan, replies, Runners, settled, with_turning}
@@ -23,17 +23,16 @@ use Rattle.template_machine_meaning.specs.Replies.{changed, told}
 use Rattle.template_machine_meaning.specs.Surroundings.{Programs, runners}
 use Rattle.template_machine_meaning.specs.Turnings.{Turning, turned_by}
 use Rattle.template_machine_meaning.specs.World.{World}
-use Rattle.template_machine_meaning.proofs.RunsKept.{KeepsReply, PlanKeeps, kept_settled, meant_under, runners_keep}
 use Rattle.template_machine_calls.specs.Left.{Planned, KeptUnlessValue, entry_plan, reached_by, turnings_in, value_left, with_turnings}
 use Rattle.template_machine_calls.specs.declared.reached.Reached.{Reached}
 use Rattle.template_machine_calls.specs.declared.reached.Reached.TheVariants as reached
 use Rattle.template_machine_codes.specs.Codes.{body_coded, codes_of, part_coded}
 use Rattle.template_machine_loop.specs.Plans.{DoesPlan, Tells, replies_of, run_of}
-use Rattle.template_machine_loop.specs.Runs.{Breaks, faulting, wanting}
+use Rattle.template_machine_loop.specs.Runs.{Breaks, faulting}
 use Rattle.template_machine_loop.proofs.Turned.{does_from}
 use Rattle.template_machine_renders.specs.Laws.{named_so}
 use Rattle.template_machine_renders.specs.Renders.{IsDone, LeavesFuel, Renders}
-use Rattle.template_machine_renders.proofs.Blocks.{named_follow, plan_alike, replies_alike, tells_ends, told_meant}
+use Rattle.template_machine_renders.proofs.Blocks.{named_follow, plan_alike, replies_alike, tells_ends}
 use Rattle.template_machine_renders.proofs.Coming.{breaks_meant, ends_meant, stops_leave, stops_there}
 
 -- a key has a process under every bound, or under none
@@ -78,22 +77,9 @@ replied_anywhere : (f : Runners) (w v : World) (ts : List Turning) (r : Reply Wo
 replied_anywhere f w v ts r = let q = turned_again ts r in ap (settled f v) q.1 ∙ sym (ap (settled f w) q.1)
 
 -- what a call failed with is done, or no memory is left
-pub failed_does : (s : Programs) (p : Plan) (w after : World) (left : Option ℕ) (taken : Option (List ℕ)) (kinds : List ErrorKind)
-    → NoMemory kinds ⊎ (p ≡ replies (told after (fails kinds)))
-    → Breaks (λ n. run_of (replies_of s p w n)) kinds left left taken taken
-failed_does s p w after left taken kinds (inl why) =
-    wanting (inl why)
-    (record {
-      items = [];
-      least = 0;
-      rest = λ n. run_of (replies_of s p w n);
-      remained = left;
-      is = λ n le. refl;
-      pays = paid_nothing left;
-      stays = inl refl;
-      text = (0, Appends-nil taken);
-    })
-failed_does s p w after left taken kinds (inr fault) =
+pub failed_does : (s : Programs) (p : Plan) (w after : World) (left : Option ℕ) (taken : Option (List ℕ)) (stop : Stop)
+    → FaultsSo (λ kinds. p ≡ replies (told after (fails kinds))) stop → Breaks (λ n. run_of (replies_of s p w n)) stop left left taken taken
+failed_does s p w after left taken (Fault kinds) fault =
     faulting (record {
       items = [];
       least = 0;
@@ -102,9 +88,22 @@ failed_does s p w after left taken kinds (inr fault) =
       pays = paid_nothing left;
       text = Appends-nil taken;
     })
+failed_does s p w after left taken (Want kinds) why = (
+  inl why,
+  inl (record {
+    items = [];
+    least = 0;
+    rest = λ n. run_of (replies_of s p w n);
+    remained = left;
+    is = λ n le. refl;
+    pays = paid_nothing left;
+    stays = inl refl;
+    text = (0, Appends-nil taken);
+  }),
+)
 
 -- and so is a plan that comes to a value
-pub planned_does : (s : Programs) (p : Plan) (w after : World) (left : Option ℕ) (taken : Option (List ℕ)) (result : Result Val (List ErrorKind))
+pub planned_does : (s : Programs) (p : Plan) (w after : World) (left : Option ℕ) (taken : Option (List ℕ)) (result : Result Val Stop)
     → Planned value_left p result after → DoesPlan value s p w left taken result after left taken
 planned_does s p w after left taken (Ok v) planned = record {
   items = [];
@@ -113,19 +112,19 @@ planned_does s p w after left taken (Ok v) planned = record {
   pays = paid_nothing left;
   text = Appends-nil taken;
 }
-planned_does s p w after left taken (Err kinds) planned = failed_does s p w after left taken kinds planned
+planned_does s p w after left taken (Err stop) planned = failed_does s p w after left taken stop planned
 
 -- what is done of what a call came to, is done from where the call began
 value_anywhere : (s : Programs) (w v : World) (ts : List Turning) (r : Reply World) (left rest : Option ℕ) (taken written : Option (List ℕ))
-    (result : Result Val (List ErrorKind)) (after : World) → DoesPlan value s (with_turnings ts (replies r)) v left taken result after rest written
+    (result : Result Val Stop) (after : World) → DoesPlan value s (with_turnings ts (replies r)) v left taken result after rest written
     → DoesPlan value s (with_turnings ts (replies r)) w left taken result after rest written
 value_anywhere s w v ts r left rest taken written (Ok u) after does =
     subst (λ (f : ℕ → Reply World). Tells f (value u) after left rest taken written) (λ i n. replied_anywhere (runners s n) w v ts r i) does
-value_anywhere s w v ts r left rest taken written (Err kinds) after does =
-    subst (λ (f : ℕ → Reply World). Breaks (λ n. run_of (f n)) kinds left rest taken written) (λ i n. replied_anywhere (runners s n) w v ts r i) does
+value_anywhere s w v ts r left rest taken written (Err stop) after does =
+    subst (λ (f : ℕ → Reply World). Breaks (λ n. run_of (f n)) stop left rest taken written) (λ i n. replied_anywhere (runners s n) w v ts r i) does
 
 pub reached_does : (s : Programs) → Uniform s → (came : Reached) (w v : World) (left rest : Option ℕ) (taken written : Option (List ℕ))
-    (result : Result Val (List ErrorKind)) (after : World) → KeptUnlessValue (Ok came) w v
+    (result : Result Val Stop) (after : World) → KeptUnlessValue (Ok came) w v
     → DoesPlan value s (reached_by s.around came v) v left taken result after rest written
     → DoesPlan value s (reached_by s.around came v) w left taken result after rest written
 reached_does s even (reached.Value u turnings) w v left rest taken written result after kept does =
@@ -134,25 +133,19 @@ reached_does s even (reached.Enters entry) w v left rest taken written result af
     does_from value s (entry_plan s.around entry v) w v left rest taken written result after kept even does
 
 -- the call tells what its meaning tells, and leaves its world, or it answers as it ends
-abbrev pub TellsTo : Option ℕ → Reply World → Result Val (List ErrorKind) → World → Option ℕ → Option (List ℕ) → Option (List ℕ) → Type 0
+abbrev pub TellsTo : Option ℕ → Reply World → Result Val Stop → World → Option ℕ → Option (List ℕ) → Option (List ℕ) → Type 0
 TellsTo fuel r (Ok v) after left before taken = (r.told ≡ tells (value v)) × (r.after ≡ after) × IsDone fuel (run_of r) after left before taken
-TellsTo fuel r (Err kinds) after left before taken =
-    Renders {X = Val} (Err kinds) before taken (under fuel (run_of r)) × LeavesFuel {X = Val} fuel (run_of r) (Err kinds) left
+TellsTo fuel r (Err stop) after left before taken =
+    Renders {X = Val} (Err stop) before taken (under fuel (run_of r)) × LeavesFuel {X = Val} fuel (run_of r) (Err stop) left
 
-module _ (setting : Setting) (root : Option Standing) (name : List ℕ) (p : Plan) (w : World) (kept : PlanKeeps w p) (n : ℕ) where
+module _ (setting : Setting) (root : Option Standing) (name : List ℕ) (p : Plan) (w : World) (n : ℕ) where
   abbrev walks : Programs
   walks = named_so name (walks_of setting root)
 
   abbrev codes : Programs
   codes = named_so name (codes_of setting root)
 
-  faults_meant : (fuel : Option ℕ) → IsMeantEnd (under fuel (run_of (replies_of walks p w n))).end
-  faults_meant fuel =
-      let keeps : KeepsReply w (replies_of walks p w n) = kept_settled (runners walks n) (runners_keep walks n) w p kept in
-      meant_under w fuel (run_of (replies_of walks p w n))
-      (record { world = keeps.world; end = told_meant (replies_of walks p w n).told keeps.told; wraps = keeps.wraps })
-
-  pub calls_tell : (after : World) (fuel left : Option ℕ) (before taken : Option (List ℕ)) (result : Result Val (List ErrorKind))
+  pub calls_tell : (after : World) (fuel left : Option ℕ) (before taken : Option (List ℕ)) (result : Result Val Stop)
       → DoesPlan value codes p w fuel before result after left taken → IsFinished (run_of (replies_of walks p w n)).end
       → TellsTo fuel (replies_of walks p w n) result after left before taken
   calls_tell after fuel left before taken (Ok v) does finished =
@@ -166,10 +159,10 @@ module _ (setting : Setting) (root : Option Standing) (name : List ℕ) (p : Pla
             (plan_alike walks codes (named_follow setting root name) n w p finished)
             (tells_ends (replies_of codes p w) (value v) after fuel left before taken does),
       )
-  calls_tell after fuel left before taken (Err kinds) does finished =
+  calls_tell after fuel left before taken (Err stop) does finished =
       let broke =
-      breaks_meant (λ m. run_of (replies_of codes p w m)) (run_of (replies_of walks p w n)) kinds fuel left before taken
+      breaks_meant (λ m. run_of (replies_of codes p w m)) (run_of (replies_of walks p w n)) stop fuel left before taken
       (plan_alike walks codes (named_follow setting root name) n w p finished) does in (
-        stops_there Val (run_of (replies_of walks p w n)) fuel left before taken kinds (faults_meant fuel) finished broke,
-        stops_leave Val (run_of (replies_of walks p w n)) fuel left before taken kinds finished broke,
+        stops_there Val (run_of (replies_of walks p w n)) fuel left before taken stop finished broke,
+        stops_leave Val (run_of (replies_of walks p w n)) fuel left before taken stop finished broke,
       )

@@ -1,12 +1,10 @@
 -- From a run of a template's code to its render, and from one of an expression's code to its value.
-use Rattle.std.proofs.Common.{◌≡◌, ℕ, suc, ◌+◌, ◌≤◌, List, [], ◌∷◌, ◌++◌, Option, None, Some, Ok, Err, inl, inr, append-nil, refl, sym, ap, subst, ◌∙◌, arith}
+use Rattle.std.proofs.Common.{◌≡◌, ℕ, ◌+◌, ◌≤◌, List, [], ◌∷◌, ◌++◌, Option, None, Ok, Err, inl, inr, append-nil, refl, sym, ap, subst, ◌∙◌, arith}
 use Rattle.std.specs.Io.KnownBytes.{Appends}
-use Rattle.template_values_errors.specs.declared.ErrorKind.{ErrorKind}
 use Rattle.template_values_errors.specs.declared.ErrorKind.TheVariants.{OutOfFuel}
 use Rattle.template_values_model.specs.Val.{Val}
 use Rattle.template_tree.specs.Tree.{Expression}
 use Rattle.template_walk.specs.Runnable.{IsRunnable}
-use Rattle.template_walk.specs.Statements.{standalone_walk}
 use Rattle.template_code.specs.Code.{Operand, single, Code}
 use Rattle.template_code.specs.Steps.{values_in}
 use Rattle.template_compiler_codegen.specs.Statements.{standalone_code}
@@ -20,20 +18,20 @@ use Rattle.template_machine_output.specs.Writes.{AppendsBeginning}
 use Rattle.template_machine_output.proofs.Beginnings.{beginning_longer}
 use Rattle.template_machine_meaning.specs.World.{World}
 use Rattle.template_machine_meaning.specs.Surroundings.{answer}
-use Rattle.template_machine_meaning.specs.Meaning.{Setting, evaluation, meaning, walks_of, top}
+use Rattle.template_machine_meaning.specs.Meaning.{Setting, evaluation, meaning}
 use Rattle.template_machine_meaning.specs.Laws.{GivesOne, IsAlone}
-use Rattle.template_machine_meaning.specs.Keeps.{IsFault, IsMeantEnd}
-use Rattle.template_machine_meaning.proofs.RunsKept.{faults_are_meant, key_faults_are_meant}
 use Rattle.template_machine_meaning.proofs.Evaluating.{every_evaluation_gives}
 use Rattle.template_machine_codes.specs.Codes.{codes_of}
 use Rattle.template_machine_codes.proofs.Alike.{code_means_expression, code_means_tree}
 use Rattle.template_machine_going.specs.Spots.{Spot}
 use Rattle.template_machine_going.specs.Paying.{Paid}
-use Rattle.template_machine_going.specs.Outcomes.{Stops, faults, runs_out, wants, strays}
-use Rattle.template_machine_going.specs.Strays.{IsLost}
+use Rattle.template_machine_going.specs.Outcomes.{Stops, faults, runs_out, strays}
+use Rattle.template_machine_going.specs.Strays.{IsLost, Strays, StraysFrom}
+use Rattle.template_machine_going.specs.declared.stop.Stop.{Stop}
+use Rattle.template_machine_going.specs.declared.stop.Stop.TheVariants.{Fault, Want}
 use Rattle.template_machine_going.proofs.Paths.{behind-behind}
-use Rattle.template_machine_loop.specs.Runs.{Breaks, faulting, running_out, wanting, straying, EndsOver, EndsSo}
-use Rattle.template_machine_renders.specs.Renders.{at_start, GivesValue, IsOver, IsDone, LeavesFuel, Renders, leaves, whole, broken}
+use Rattle.template_machine_loop.specs.Runs.{Breaks, faulting, running_out, straying, EndsOver, EndsSo}
+use Rattle.template_machine_renders.specs.Renders.{at_start, GivesValue, IsOver, IsDone, LeavesFuel, Renders, leaves}
 use Rattle.template_machine_renders.specs.Laws.{EndsRender, ExpressionsEvaluate, StopsRender}
 use Rattle.template_machine_renders.proofs.Fuels.{lasts, rests, ends_spent, spent_leaves, begins}
 use Rattle.template_machine_renders.proofs.Meanings.{Means, ended_means, begun_means}
@@ -66,10 +64,21 @@ ends_meant runs meant after fuel left before taken come e =
     let means : meant ≡ r = sym (come.1 m (omega arith)) ∙ e.is m (omega arith) ∙ ended_there e.items (ends e.operands) after in
     subst (λ (q : Run World). IsDone fuel q after left before taken) (sym means) (done fuel left r before taken tt e.pays e.text)
 
+-- and runs that are lost are so
+strays_meant : (runs : ℕ → Run World) (meant : Run World) → ComeTo runs meant → Strays runs → Strays (λ n. meant)
+strays_meant runs meant come f = record {
+  items = f.items;
+  least = 0;
+  end = f.end;
+  world = f.world;
+  is = λ n le. sym (come.1 (come.0 + f.least) (omega arith)) ∙ f.is (come.0 + f.least) (omega arith);
+  lost = f.lost;
+}
+
 -- and runs that stopped are it up to there
-pub breaks_meant : (runs : ℕ → Run World) (meant : Run World) (kinds : List ErrorKind) (fuel left : Option ℕ) (before taken : Option (List ℕ)) → ComeTo runs meant
-    → Breaks runs kinds fuel left before taken → Breaks (λ n. meant) kinds fuel left before taken
-breaks_meant runs meant kinds fuel left before taken come (faulting f) = faulting (record {
+pub breaks_meant : (runs : ℕ → Run World) (meant : Run World) (stop : Stop) (fuel left : Option ℕ) (before taken : Option (List ℕ)) → ComeTo runs meant
+    → Breaks runs stop fuel left before taken → Breaks (λ n. meant) stop fuel left before taken
+breaks_meant runs meant (Fault kinds) fuel left before taken come (faulting f) = faulting (record {
   items = f.items;
   least = 0;
   world = f.world;
@@ -77,7 +86,7 @@ breaks_meant runs meant kinds fuel left before taken come (faulting f) = faultin
   pays = f.pays;
   text = f.text;
 })
-breaks_meant runs meant kinds fuel left before taken come (running_out f) = running_out (record {
+breaks_meant runs meant (Fault kinds) fuel left before taken come (running_out f) = running_out (record {
   items = f.items;
   least = 0;
   wraps = f.wraps;
@@ -90,24 +99,21 @@ breaks_meant runs meant kinds fuel left before taken come (running_out f) = runn
   nothing = f.nothing;
   text = f.text;
 })
-breaks_meant runs meant kinds fuel left before taken come (wanting why f) = wanting why (record {
-  items = f.items;
-  least = 0;
-  rest = λ n. f.rest (come.0 + f.least);
-  remained = f.remained;
-  is = λ n le. sym (come.1 (come.0 + f.least) (omega arith)) ∙ f.is (come.0 + f.least) (omega arith);
-  pays = f.pays;
-  stays = f.stays;
-  text = f.text;
-})
-breaks_meant runs meant kinds fuel left before taken come (straying bad f) = straying bad (record {
-  items = f.items;
-  least = 0;
-  end = f.end;
-  world = f.world;
-  is = λ n le. sym (come.1 (come.0 + f.least) (omega arith)) ∙ f.is (come.0 + f.least) (omega arith);
-  lost = f.lost;
-})
+breaks_meant runs meant (Fault kinds) fuel left before taken come (straying bad f) = straying bad (strays_meant runs meant come f)
+breaks_meant runs meant (Want kinds) fuel left before taken come (why, inl f) = (
+  why,
+  inl (record {
+    items = f.items;
+    least = 0;
+    rest = λ n. f.rest (come.0 + f.least);
+    remained = f.remained;
+    is = λ n le. sym (come.1 (come.0 + f.least) (omega arith)) ∙ f.is (come.0 + f.least) (omega arith);
+    pays = f.pays;
+    stays = f.stays;
+    text = f.text;
+  }),
+)
+breaks_meant runs meant (Want kinds) fuel left before taken come (why, inr f) = (why, inr (strays_meant runs meant come f))
 
 -- what is lost has no end, though no bound ran out
 lost_uncut : (e : End) → IsLost e → IsUncut e
@@ -133,59 +139,56 @@ text_behind : (items : List Item) (q : Run World) (before taken : Option (List �
 text_behind items q before taken begun =
     subst (AppendsBeginning before taken) (sym (text-append items q.items)) (beginning_longer before taken (text_of items) (text_of q.items) begun)
 
+-- a run that is finished is not lost
+strays_unfinished : (meant : Run World) → Strays (λ n. meant) → IsFinished meant.end → ⊥
+strays_unfinished meant o finished =
+    let same : meant ≡ record { items = o.items; end = o.end; after = o.world } = o.is o.least (omega arith) ∙ ended_there o.items o.end o.world in
+    lost_unfinished o.end o.lost (subst (λ (q : Run World). IsFinished q.end) same finished)
+
 -- a run that stopped, under its fuel
-pub stops_there : (X : Type 0) (meant : Run World) (fuel left : Option ℕ) (before taken : Option (List ℕ)) (kinds : List ErrorKind)
-    → IsMeantEnd (under fuel meant).end → IsFinished meant.end → Breaks (λ n. meant) kinds fuel left before taken
-    → Renders {X = X} (Err kinds) before taken (under fuel meant)
-stops_there X meant fuel left before taken kinds fault finished (faulting f) =
+pub stops_there : (X : Type 0) (meant : Run World) (fuel left : Option ℕ) (before taken : Option (List ℕ)) (stop : Stop)
+    → IsFinished meant.end → Breaks (λ n. meant) stop fuel left before taken → Renders {X = X} (Err stop) before taken (under fuel meant)
+stops_there X meant fuel left before taken (Fault kinds) finished (faulting f) =
     let r : Run World = record { items = f.items; end = drives.faults kinds; after = f.world } in
     let is : meant ≡ r = f.is f.least (omega arith) ∙ ended_there f.items (drives.faults kinds) f.world in
     let same = ap (under fuel) is ∙ lasts fuel left r f.pays in
-    subst (Renders {X = X} (Err kinds) before taken) (sym same)
-    (whole (refl, subst (λ (q : Run World). IsMeantEnd q.end) same fault) f.text)
-stops_there X meant fuel left before taken kinds fault finished (running_out o) =
+    subst (λ (q : Run World). Renders {X = X} (Err (Fault kinds)) before taken q) (sym same) (refl, f.text)
+stops_there X meant fuel left before taken (Fault kinds) finished (running_out o) =
     let rest = o.rest o.least in
     let r : Run World = record { items = o.items; end = drives.faults (o.wraps ++ OutOfFuel ∷ []); after = rest.after } in
     let same = ap (under fuel) (o.is o.least (omega arith)) ∙ ends_spent fuel o.remained o.items o.wraps rest o.pays o.spent
     ∙ ended_there o.items (drives.faults (o.wraps ++ OutOfFuel ∷ [])) rest.after in
-    subst (Renders {X = X} (Err kinds) before taken) (sym same) (whole (
-      ap (λ ks. drives.faults ks) (sym o.kinds_are),
-      subst IsFault (sym o.kinds_are) (subst (λ (q : Run World). IsMeantEnd q.end) same fault),
-    ) o.text)
-stops_there X meant fuel left before taken kinds fault finished (wanting why o) =
+    subst (λ (q : Run World). Renders {X = X} (Err (Fault kinds)) before taken q) (sym same) (ap (λ ks. drives.faults ks) (sym o.kinds_are), o.text)
+stops_there X meant fuel left before taken (Fault kinds) finished (straying is o) = absurd (strays_unfinished meant o finished)
+stops_there X meant fuel left before taken (Want kinds) finished (why, inr o) = absurd (strays_unfinished meant o finished)
+stops_there X meant fuel left before taken (Want kinds) finished (why, inl o) =
     let cut = begins fuel o.remained o.items (o.rest o.least) o.pays in
     let same = ap (under fuel) (o.is o.least (omega arith)) ∙ cut.1 in
-    subst (Renders {X = X} (Err kinds) before taken) (sym same) (broken why (text_behind o.items cut.0 before taken o.text))
-stops_there X meant fuel left before taken kinds fault finished (straying is o) =
-    let same : meant ≡ record { items = o.items; end = o.end; after = o.world } = o.is o.least (omega arith) ∙ ended_there o.items o.end o.world in
-    absurd (lost_unfinished o.end o.lost (subst (λ (q : Run World). IsFinished q.end) same finished))
+    subst (λ (q : Run World). Renders {X = X} (Err (Want kinds)) before taken q) (sym same) (why, text_behind o.items cut.0 before taken o.text)
 
 -- and what it leaves of the fuel
-pub stops_leave : (X : Type 0) (meant : Run World) (fuel left : Option ℕ) (before taken : Option (List ℕ)) (kinds : List ErrorKind)
-    → IsFinished meant.end → Breaks (λ n. meant) kinds fuel left before taken → LeavesFuel {X = X} fuel meant (Err kinds) left
-stops_leave X meant fuel left before taken kinds finished (faulting f) =
+pub stops_leave : (X : Type 0) (meant : Run World) (fuel left : Option ℕ) (before taken : Option (List ℕ)) (stop : Stop)
+    → IsFinished meant.end → Breaks (λ n. meant) stop fuel left before taken → LeavesFuel {X = X} fuel meant (Err stop) left
+stops_leave X meant fuel left before taken (Fault kinds) finished (faulting f) =
     let r : Run World = record { items = f.items; end = drives.faults kinds; after = f.world } in
     let is : meant ≡ r = f.is f.least (omega arith) ∙ ended_there f.items (drives.faults kinds) f.world in
-    inr (subst (λ (q : Run World). left ≡ leaves fuel q) (sym is) (rests fuel left r f.pays))
-stops_leave X meant fuel left before taken kinds finished (running_out o) =
+    subst (λ (q : Run World). left ≡ leaves fuel q) (sym is) (rests fuel left r f.pays)
+stops_leave X meant fuel left before taken (Fault kinds) finished (running_out o) =
     let there : Run World = behind o.items (behind (paid o.wraps ∷ []) (o.rest o.least)) in
     let is : meant ≡ there = o.is o.least (omega arith) in
-    inr (subst (λ (q : Run World). left ≡ leaves fuel q) (sym is)
-    (o.nothing ∙ sym (spent_leaves fuel o.remained o.items o.wraps (o.rest o.least) o.pays o.spent)))
-stops_leave X meant fuel left before taken kinds finished (wanting why o) = inl why
-stops_leave X meant fuel left before taken kinds finished (straying is o) =
-    let same : meant ≡ record { items = o.items; end = o.end; after = o.world } = o.is o.least (omega arith) ∙ ended_there o.items o.end o.world in
-    absurd (lost_unfinished o.end o.lost (subst (λ (q : Run World). IsFinished q.end) same finished))
+    subst (λ (q : Run World). left ≡ leaves fuel q) (sym is)
+    (o.nothing ∙ sym (spent_leaves fuel o.remained o.items o.wraps (o.rest o.least) o.pays o.spent))
+stops_leave X meant fuel left before taken (Fault kinds) finished (straying is o) = absurd (strays_unfinished meant o finished)
+stops_leave X meant fuel left before taken (Want kinds) finished broke = tt
 
 pub ends_render : EndsRender
 ends_render setting root w after fuel left before taken e n finished =
     ends_meant _ (meaning setting root n w) after fuel left before taken (code_means_tree setting root w n finished) e
 
 pub stops_render : (X : Type 0) → StopsRender X
-stops_render X setting root w fuel left before taken kinds stops n finished =
-    stops_there X (meaning setting root n w) fuel left before taken kinds
-    (key_faults_are_meant (walks_of setting (Some root)) (suc n) top w fuel) finished
-    (breaks_meant _ (meaning setting root n w) kinds fuel left before taken (code_means_tree setting root w n finished) stops)
+stops_render X setting root w fuel left before taken stop stops n finished =
+    stops_there X (meaning setting root n w) fuel left before taken stop finished
+    (breaks_meant _ (meaning setting root n w) stop fuel left before taken (code_means_tree setting root w n finished) stops)
 
 -- an expression's run leaves one value, or ends with a fault
 one_finished : (e : End) → GivesOne e → IsFinished e
@@ -215,11 +218,28 @@ evaluation_over setting e runs w after none fuel left before taken operands h =
       subst (λ (q : Run World). GivesOne q.end) is (every_evaluation_gives setting e runs w none),
     )
 
--- a run of code that stands alone, which stopped, is what the code means, up to there
-stops_meant : (setting : Setting) (code : List Code) (meant : Run World) (w : World) (fuel : Option ℕ) (before : Option (List ℕ)) (y : Spot World) (kinds : List ErrorKind)
-    → Means setting code w meant → Stops (answer (codes_of setting None)) code (at_start w fuel before) y kinds
-    → Breaks (λ n. meant) kinds fuel y.left before y.taken
-stops_meant setting code meant w fuel before y kinds means (faults f) =
+-- a run of code that stands alone, which is lost, is what the code means
+lost_meant : (setting : Setting) (code : List Code) (meant : Run World) (w : World) (fuel : Option ℕ) (before : Option (List ℕ)) → Means setting code w meant
+    → StraysFrom (answer (codes_of setting None)) code (at_start w fuel before) → Strays (λ n. meant)
+lost_meant setting code meant w fuel before means f =
+    let o = f.1 in
+    let r : Run World = record { items = o.items; end = o.end; after = o.world } in
+    let is = ended_means setting code meant (at_start w fuel before) o.least f.0 r refl refl means (lost_uncut o.end o.lost)
+    (λ m le. o.is m le ∙ ended_there o.items o.end o.world) in
+    record {
+      items = o.items;
+      least = 0;
+      end = o.end;
+      world = o.world;
+      is = λ n le. is ∙ sym (ended_there o.items o.end o.world);
+      lost = o.lost;
+    }
+
+-- and one which stopped is it up to there
+stops_meant : (setting : Setting) (code : List Code) (meant : Run World) (w : World) (fuel : Option ℕ) (before : Option (List ℕ)) (y : Spot World) (stop : Stop)
+    → Means setting code w meant → Stops (answer (codes_of setting None)) code (at_start w fuel before) y stop
+    → Breaks (λ n. meant) stop fuel y.left before y.taken
+stops_meant setting code meant w fuel before y (Fault kinds) means (faults f) =
     let r : Run World = record { items = f.1.items; end = drives.faults kinds; after = f.1.world } in
     let is = ended_means setting code meant (at_start w fuel before) f.1.least f.0 r refl refl means tt
     (λ m le. f.1.is m le ∙ ended_there f.1.items (drives.faults kinds) f.1.world) in
@@ -231,7 +251,7 @@ stops_meant setting code meant w fuel before y kinds means (faults f) =
       pays = f.1.pays;
       text = f.1.text;
     })
-stops_meant setting code meant w fuel before y kinds means (runs_out f) =
+stops_meant setting code meant w fuel before y (Fault kinds) means (runs_out f) =
     let o = f.1 in
     let is = begun_means setting code meant (at_start w fuel before) o.least f.0 (o.items ++ paid o.wraps ∷ []) o.rest refl refl means
     (λ m le. o.is m le ∙ behind-behind o.items (paid o.wraps ∷ []) (o.rest m)) in
@@ -248,47 +268,37 @@ stops_meant setting code meant w fuel before y kinds means (runs_out f) =
       nothing = o.nothing;
       text = o.text;
     })
-stops_meant setting code meant w fuel before y kinds means (wants why f) =
+stops_meant setting code meant w fuel before y (Fault kinds) means (strays bad f) = straying bad (lost_meant setting code meant w fuel before means f)
+stops_meant setting code meant w fuel before y (Want kinds) means (why, inl f) =
     let o = f.1 in
-    let is = begun_means setting code meant (at_start w fuel before) o.least f.0 o.items o.rest refl refl means o.is in
-    wanting why (record {
-      items = o.items;
-      least = 0;
-      rest = λ n. is.0;
-      remained = o.remained;
-      is = λ n le. is.1;
-      pays = o.pays;
-      stays = o.stays;
-      text = o.text;
-    })
-stops_meant setting code meant w fuel before y kinds means (strays bad f) =
-    let o = f.1 in
-    let r : Run World = record { items = o.items; end = o.end; after = o.world } in
-    let is = ended_means setting code meant (at_start w fuel before) o.least f.0 r refl refl means (lost_uncut o.end o.lost)
-    (λ m le. o.is m le ∙ ended_there o.items o.end o.world) in
-    straying bad (record {
-      items = o.items;
-      least = 0;
-      end = o.end;
-      world = o.world;
-      is = λ n le. is ∙ sym (ended_there o.items o.end o.world);
-      lost = o.lost;
-    })
+    let is = begun_means setting code meant (at_start w fuel before) o.least f.0 o.items o.rest refl refl means o.is in (
+      why,
+      inl (record {
+        items = o.items;
+        least = 0;
+        rest = λ n. is.0;
+        remained = o.remained;
+        is = λ n le. is.1;
+        pays = o.pays;
+        stays = o.stays;
+        text = o.text;
+      }),
+    )
+stops_meant setting code meant w fuel before y (Want kinds) means (why, inr f) = (why, inr (lost_meant setting code meant w fuel before means f))
 
-gives_fault : (kinds : List ErrorKind) (before taken : Option (List ℕ)) (after : World) (r : Run World) → Renders {X = Val} (Err kinds) before taken r
-    → GivesValue (Err kinds) after r
-gives_fault kinds before taken after r (whole ends_so text) = inl ends_so
-gives_fault kinds before taken after r (broken why text) = inr why
+gives_stop : (stop : Stop) (before taken : Option (List ℕ)) (after : World) (r : Run World) → Renders {X = Val} (Err stop) before taken r
+    → GivesValue (Err stop) after r
+gives_stop (Fault kinds) before taken after r renders = renders.0
+gives_stop (Want kinds) before taken after r renders = renders.0
 
 pub expressions_evaluate : ExpressionsEvaluate
 expressions_evaluate setting e runs w after none fuel left before taken (Ok v) (below, h) =
     let over = evaluation_over setting e runs w after none fuel left before taken (single v ∷ below) h in
     (over.0 ∙ only_one v (values_in below) over.2, over.1)
-expressions_evaluate setting e runs w after none fuel left before taken (Err kinds) (inl stops) =
-    gives_fault kinds before taken after (under fuel (evaluation setting e w))
-    (stops_there Val (evaluation setting e w) fuel left before taken kinds
-    (faults_are_meant (walks_of setting None) 0 (standalone_walk e) w fuel)
+expressions_evaluate setting e runs w after none fuel left before taken (Err stop) (inl stops) =
+    gives_stop stop before taken after (under fuel (evaluation setting e w))
+    (stops_there Val (evaluation setting e w) fuel left before taken stop
     (one_finished (evaluation setting e w).end (every_evaluation_gives setting e runs w none))
-    (stops_meant setting (standalone_code e) (evaluation setting e w) w fuel before (at_start after left taken) kinds (expression_means setting e runs w none) stops))
-expressions_evaluate setting e runs w after none fuel left before taken (Err kinds) (inr (bad, h)) =
+    (stops_meant setting (standalone_code e) (evaluation setting e w) w fuel before (at_start after left taken) stop (expression_means setting e runs w none) stops))
+expressions_evaluate setting e runs w after none fuel left before taken (Err stop) (inr (bad, h)) =
     absurd (evaluation_over setting e runs w after none fuel left before taken [] h).2

@@ -1,6 +1,5 @@
 -- The laws from runs of code to renders and to values.
 use Rattle.std.specs.Prelude.{ℕ, List, Option, None, Some, Result, Err}
-use Rattle.template_values_errors.specs.declared.ErrorKind.{ErrorKind}
 use Rattle.template_values_model.specs.Val.{Val}
 use Rattle.template_tree.specs.Tree.{Expression}
 use Rattle.template_process.specs.Approximants.{IsFinished}
@@ -16,6 +15,7 @@ use Rattle.template_machine_meaning.specs.Surroundings.{Programs, runners}
 use Rattle.template_machine_meaning.specs.Laws.{IsAlone}
 use Rattle.template_machine_meaning.specs.Meaning.{Standing, Setting, walks_of, evaluation, meaning, top}
 use Rattle.template_machine_codes.specs.Codes.{codes_of}
+use Rattle.template_machine_going.specs.declared.stop.Stop.{Stop}
 use Rattle.template_machine_loop.specs.Plans.{DoesPlan, replies_of, run_of}
 use Rattle.template_machine_loop.specs.Runs.{Breaks, EndsSo, Evaluates}
 use Rattle.template_machine_renders.specs.Renders.{GivesValue, IsDone, Renders, RendersTo}
@@ -33,15 +33,15 @@ EndsRender = (setting : Setting) (root : Standing) (w after : World) (fuel left 
 -- A run that stopped is it up to there.
 abbrev pub StopsRender : Type 0 → Type 0
 StopsRender X = (setting : Setting) (root : Standing) (w : World) (fuel left : Option ℕ) (before taken : Option (List ℕ))
-    (kinds : List ErrorKind) → Breaks (code_runs setting root w) kinds fuel left before taken
+    (stop : Stop) → Breaks (code_runs setting root w) stop fuel left before taken
     → (n : ℕ) → IsFinished (meaning setting root n w).end
-    → Renders {X = X} (Err kinds) before taken (under fuel (meaning setting root n w))
+    → Renders {X = X} (Err stop) before taken (under fuel (meaning setting root n w))
 
 -- What a run of an expression's code tells is what its tree means, cut by the fuel, and so is the world that it leaves with a value.
 -- There is nothing that runs which it could call.
 abbrev pub ExpressionsEvaluate : Type 0
 ExpressionsEvaluate = (setting : Setting) (e : Expression) → IsRunnable e → (w after : World) → IsAlone w → (fuel left : Option ℕ)
-    (before taken : Option (List ℕ)) (result : Result Val (List ErrorKind))
+    (before taken : Option (List ℕ)) (result : Result Val Stop)
     → Evaluates (codes_of setting None) (standalone_code e) w fuel before result after left taken
     → GivesValue result after (under fuel (evaluation setting e w))
 
@@ -56,7 +56,7 @@ block_run s w block n = run_of (replies_of s (block_plan s.around w block) w n)
 -- A run of a block's code is what the block means.
 abbrev pub BlocksRender : Type 0 → Type 0
 BlocksRender X = (setting : Setting) (root : Option Standing) (name block : List ℕ) (w after : World) (fuel left : Option ℕ) (before taken : Option (List ℕ))
-    (result : Result X (List ErrorKind))
+    (result : Result X Stop)
     → DoesPlan (λ x. done) (named_so name (codes_of setting root)) (block_plan (named_so name (codes_of setting root)).around w block) w fuel before result after left taken
     → (n : ℕ) → IsFinished (block_run (named_so name (walks_of setting root)) w block n).end
     → RendersTo fuel (block_run (named_so name (walks_of setting root)) w block n) result after left before taken

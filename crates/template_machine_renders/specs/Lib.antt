@@ -1,6 +1,5 @@
 pub mod Renders
 pub mod Laws
-pub use Rattle.template_machine_loop.specs.Joining
 pub use Rattle.template_machine_loop.specs.Outcomes
 pub use Rattle.template_machine_loop.specs.Plans
 pub use Rattle.template_machine_loop.specs.Programs

@@ -1,5 +1,5 @@
 -- How a render comes out, and how an expression does.
-use Rattle.std.specs.Prelude.{◌≡◌, ℕ, ◌⊎◌, List, [], ◌∷◌, Option, Result, Ok, Err, IsErrAnd}
+use Rattle.std.specs.Prelude.{◌≡◌, ℕ, List, [], ◌∷◌, Option, Result, Ok, Err}
 use Rattle.std.specs.Io.KnownBytes.{Appends}
 use Rattle.std.specs.Option.{option_map}
 use Rattle.template_values_errors.specs.declared.ErrorKind.{ErrorKind}
@@ -8,10 +8,11 @@ use Rattle.template_process.specs.Drive.{End, ends, faults}
 use Rattle.template_process.specs.Fuel.{remaining, under}
 use Rattle.template_process.specs.Trace.{Run, text_of}
 use Rattle.template_machine_output.specs.Writes.{AppendsBeginning}
-use Rattle.template_machine_meaning.specs.Keeps.{IsFault}
 use Rattle.template_machine_meaning.specs.World.{World}
 use Rattle.template_machine_going.specs.Spots.{Spot}
 use Rattle.template_machine_going.specs.Outcomes.{IsWanting}
+use Rattle.template_machine_going.specs.declared.stop.Stop.{Stop}
+use Rattle.template_machine_going.specs.declared.stop.Stop.TheVariants.{Fault, Want}
 use Rattle.template_machine_loop.specs.Performs.{spot}
 
 -- where the machine stands at the start of a run
@@ -23,20 +24,16 @@ abbrev pub IsOver : End → Type 0
 IsOver (ends operands) = Unit {0}
 IsOver _ = ⊥
 
--- the run ends with a fault of these kinds; no want of memory is among them, nor a failure of a sink, at any depth
+-- the run ends with a fault of these kinds
 abbrev pub FaultsAs : {S : Type 0} → Run S → List ErrorKind → Type 0
-FaultsAs r kinds = (r.end ≡ faults kinds) × IsFault kinds
-
--- a call answers as the run ends: `Ok` where that is over, else its fault
-abbrev pub EndsAs : {X S : Type 0} → Result X (List ErrorKind) → Run S → Type 0
-EndsAs (Ok _) r = IsOver r.end
-EndsAs (Err kinds) r = FaultsAs r kinds
+FaultsAs r kinds = r.end ≡ faults kinds
 
 -- The call answers as the run ends, and its sink took the text. Or a growth was refused, or the sink failed, and it took a
 -- beginning of the text.
-pub data Renders {X S : Type 0} (result : Result X (List ErrorKind)) (before after : Option (List ℕ)) (r : Run S) : Type 0 where
-  whole : EndsAs result r → Appends before after (text_of r.items) → Renders result before after r
-  broken : IsErrAnd result IsWanting → AppendsBeginning before after (text_of r.items) → Renders result before after r
+abbrev pub Renders : {X S : Type 0} → Result X Stop → Option (List ℕ) → Option (List ℕ) → Run S → Type 0
+Renders (Ok _) before after r = IsOver r.end × Appends before after (text_of r.items)
+Renders (Err (Fault kinds)) before after r = FaultsAs r kinds × Appends before after (text_of r.items)
+Renders (Err (Want kinds)) before after r = IsWanting kinds × AppendsBeginning before after (text_of r.items)
 
 -- what a run leaves of a fuel, if one is set
 abbrev pub leaves : {S : Type 0} → Option ℕ → Run S → Option ℕ
@@ -50,18 +47,20 @@ pub record IsDone (fuel : Option ℕ) (r : Run World) (after : World) (left : Op
   pub left_is : left ≡ leaves fuel r
 
 -- So much of the fuel is left as the run leaves, of one that is cut nothing; unless a growth was refused, or the sink failed.
-abbrev pub LeavesFuel : {X S : Type 0} → Option ℕ → Run S → Result X (List ErrorKind) → Option ℕ → Type 0
+abbrev pub LeavesFuel : {X S : Type 0} → Option ℕ → Run S → Result X Stop → Option ℕ → Type 0
 LeavesFuel fuel r (Ok _) left = left ≡ leaves fuel r
-LeavesFuel fuel r (Err kinds) left = IsWanting kinds ⊎ (left ≡ leaves fuel r)
+LeavesFuel fuel r (Err (Fault kinds)) left = left ≡ leaves fuel r
+LeavesFuel fuel r (Err (Want kinds)) left = Unit {0}
 
 -- The call comes to the end of the run, or answers as the run ends up to there.
-abbrev pub RendersTo : {X : Type 0} → Option ℕ → Run World → Result X (List ErrorKind) → World → Option ℕ → Option (List ℕ) → Option (List ℕ) → Type 0
+abbrev pub RendersTo : {X : Type 0} → Option ℕ → Run World → Result X Stop → World → Option ℕ → Option (List ℕ) → Option (List ℕ) → Type 0
 RendersTo fuel r (Ok _) after left before taken = IsDone fuel r after left before taken
-RendersTo {X = X} fuel r (Err kinds) after left before taken =
-    Renders {X = X} (Err kinds) before taken (under fuel r) × LeavesFuel {X = X} fuel r (Err kinds) left
+RendersTo {X = X} fuel r (Err stop) after left before taken =
+    Renders {X = X} (Err stop) before taken (under fuel r) × LeavesFuel {X = X} fuel r (Err stop) left
 
 -- The call tells the one value that the run leaves, in the world that it leaves; or it answers with the run's fault. Or a growth
 -- was refused, or the sink failed.
-abbrev pub GivesValue : {S : Type 0} → Result Val (List ErrorKind) → S → Run S → Type 0
+abbrev pub GivesValue : {S : Type 0} → Result Val Stop → S → Run S → Type 0
 GivesValue (Ok v) after r = (r.end ≡ ends (v ∷ [])) × (r.after ≡ after)
-GivesValue (Err kinds) after r = FaultsAs r kinds ⊎ IsWanting kinds
+GivesValue (Err (Fault kinds)) after r = FaultsAs r kinds
+GivesValue (Err (Want kinds)) after r = IsWanting kinds

@@ -1,13 +1,14 @@
 //! The run of a template's code, and of an expression's.
 ghost use Rattle.std.specs.Prelude.{◌≤◌, length, Option, None, option_map};
 ghost use Rattle.template_code.specs.Listing.{code_in};
+ghost use Rattle.template_machine_going.specs.Told.{CountsFailures};
 ghost use Rattle.template_machine_meaning.specs.Meaning.{top};
-ghost use Rattle.template_machine_loop.specs.Outcomes.{TellsFailures};
 ghost use Rattle.template_machine_loop.specs.Programs.{programs_under, standing_of};
 ghost use Rattle.template_machine_loop.specs.Runs.{Evaluates, KeyRuns};
 
 use std::alloc::Global;
 use template_code::Instructions;
+use template_machine_going::Stop;
 use template_machine_loop::{Program, Templates, run_to_end, run_whole};
 use template_machine_output::Sink;
 use template_machine_state::State;
@@ -22,7 +23,7 @@ use template_values_errors::{Error, ErrorKind};
 /// # Errors
 ///
 /// Those of [`run_to_end`]: the fault that the run ends with, behind a `BadInclude` for each include and an `EvalBlock` for each
-/// `super()` that it happened in; `OutOfMemory`, `WriteFailure`, and `BadStream`, also where no template is rendered.
+/// `super()` that it happened in, and `BadStream`, also where no template is rendered; the wants `OutOfMemory` and `WriteFailure`.
 pub fn run_template<'env, T: Templates, S: Sink>(
     alloc: Global,
     program: Program<'env, '_, T>,
@@ -30,16 +31,16 @@ pub fn run_template<'env, T: Templates, S: Sink>(
     left: &mut Option<u64>,
     scratch: &mut String,
     sink: &mut S,
-) -> Result<(), Error>
+) -> Result<(), Stop>
     requires { state.old.floor ≤ length state.old.frames }
     ensures runs { KeyRuns (programs_under (T.standing program.entry.templates.now) (T.joins program.entry.templates.now)
         (T.callables program.entry.templates.now) (option_map standing_of program.entry.root) program.entry.rules) top
         state.old left.old (S.taken sink.old) result state.new left.new (S.taken sink.new) }
-    ensures failures { TellsFailures result (S.failures sink.old) (S.failures sink.new) }
+    ensures failures { CountsFailures result (S.failures sink.old) (S.failures sink.new) }
 {
     match program.root {
         Some(root) => run_whole(alloc, program, root.code, state, left, scratch, sink),
-        None => Err(Error::new(ErrorKind::BadStream)),
+        None => Err(Stop::Fault(Error::new(ErrorKind::BadStream))),
     }
 }
 
@@ -58,13 +59,13 @@ pub fn run_expression<'env, T: Templates, S: Sink>(
     left: &mut Option<u64>,
     scratch: &mut String,
     sink: &mut S,
-) -> Result<Value, Error>
+) -> Result<Value, Stop>
     requires { state.old.floor ≤ length state.old.frames }
     ensures evaluates { Evaluates (programs_under (T.standing program.entry.templates.now) (T.joins program.entry.templates.now)
         (T.callables program.entry.templates.now) (option_map standing_of program.entry.root) program.entry.rules) (code_in code.now)
         state.old left.old (S.taken sink.old) result state.new left.new (S.taken sink.new) }
-    ensures failures { TellsFailures result (S.failures sink.old) (S.failures sink.new) }
+    ensures failures { CountsFailures result (S.failures sink.old) (S.failures sink.new) }
 {
     let mut operands = run_to_end(alloc, program, code, state, left, scratch, sink)?;
-    operands.take_uppermost()
+    Ok(operands.take_uppermost()?)
 }

@@ -2,6 +2,7 @@ pub mod Performing
 pub mod Keeping
 pub mod Lacking
 pub mod Stepping
+pub mod Hearing
 pub mod Gathering
 mod Counted
 pub mod Sparing

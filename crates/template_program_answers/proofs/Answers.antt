@@ -17,7 +17,7 @@ use Rattle.template_environment.proofs.Importing.{source_imports, standing_impor
 use Rattle.template_environment_settings.specs.Extras.{nothing_brought}
 use Rattle.template_environment_settings.specs.Isolation.{AgreesAt, ImportsNames, IsolatesNames}
 use Rattle.template_environment_settings.specs.Plain.{IsRefusedForRoom}
-use Rattle.template_environment_settings.specs.Renders.{Renders}
+use Rattle.template_environment_settings.specs.Renderings.{Renders}
 use Rattle.template_environment_settings.specs.Registry.{Registry}
 use Rattle.template_program_run.specs.Additions.{IsRefusedAddition, RefusesOne}
 use Rattle.template_program_run.specs.Answers.{HasNames, IsTemplateOf, IsUntouched, Performed, Rendered, TellsNames, definitions_of}
@@ -106,7 +106,7 @@ renders_alike isolates request additions a b e f made more t u imports standing 
     let ra = one.1 ua.second_id in
     let rb = other.1 ub.second_id in
     let id = a.next + 1 in
-    let n = ra.3.finished.0 in
+    let n = ra.2.finished.0 in
     let too = of_number request additions f (sym next) more in
     let setting = one_setting request additions a.next e f made too in
     let fuel = one_fuel request additions a.next e f made too in
@@ -114,14 +114,15 @@ renders_alike isolates request additions a b e f made more t u imports standing 
     let there : rendered (plain_setting e) id n t d ≡ rendered (plain_setting f) (b.next + 1) n u d =
     λ i. rendered (setting i) (next i + 1) n (standing i) d in
     let finished : IsFinished (rendered (plain_setting f) (b.next + 1) n u d).end =
-    subst (λ (r : Run World). IsFinished r.end) there (subst IsFinished (isolated None).1 ra.3.finished.1) in
-    let back : Renders rb.0 b.before b.after (under e.fuel (rendered (plain_setting e) id n t d)) =
-    subst (λ (r : Run World). Renders rb.0 b.before b.after r) (sym (λ i. under (fuel i) (there i))) (rb.3.renders n finished) in
+    subst (λ (r : Run World). IsFinished r.end) there (subst IsFinished (isolated None).1 ra.2.finished.1) in
+    let front : Renders ra.0 a.before a.after a.failed a.fails (under e.fuel (rendered (plain_setting e) id n t c)) = ra.2.renders n ra.2.finished.1 in
+    let back : Renders rb.0 b.before b.after b.failed b.fails (under e.fuel (rendered (plain_setting e) id n t d)) =
+    subst (λ (r : Run World). Renders rb.0 b.before b.after b.failed b.fails r) (sym (λ i. under (fuel i) (there i))) (rb.2.renders n finished) in
     rendered_alike a b (under e.fuel (rendered (plain_setting e) id n t c)) (under e.fuel (rendered (plain_setting e) id n t d)) (isolated e.fuel)
-    (whole_render a.outcome ra.0 a.before a.after (under e.fuel (rendered (plain_setting e) id n t c)) ra.1 ua.unwanted (ra.3.renders n ra.3.finished.1))
-    (whole_render b.outcome rb.0 b.before b.after (under e.fuel (rendered (plain_setting e) id n t d)) rb.1 ub.unwanted back)
-    (quiet_render a.outcome ra.0 a.failed a.fails ra.1 ua.unwanted ra.2)
-    (quiet_render b.outcome rb.0 b.failed b.fails rb.1 ub.unwanted rb.2)
+    (whole_render a.outcome ra.0 a.before a.after a.failed a.fails (under e.fuel (rendered (plain_setting e) id n t c)) ra.1 ua.unwanted front)
+    (whole_render b.outcome rb.0 b.before b.after b.failed b.fails (under e.fuel (rendered (plain_setting e) id n t d)) rb.1 ub.unwanted back)
+    (quiet_render a.outcome ra.0 a.before a.after a.failed a.fails (under e.fuel (rendered (plain_setting e) id n t c)) ra.1 ua.unwanted front)
+    (quiet_render b.outcome rb.0 b.before b.after b.failed b.fails (under e.fuel (rendered (plain_setting e) id n t d)) rb.1 ub.unwanted back)
 
 -- names that are told
 record IsTold (e : Registry) (t : Standing) (outcome : Outcome) (before after : Option (List ℕ)) (failed fails : ℕ) : Type 0 where

@@ -5,8 +5,9 @@ use Rattle.template_values_errors.specs.declared.ErrorKind.{ErrorKind}
 use Rattle.template_process.specs.Drive.{faults}
 use Rattle.template_process.specs.Fuel.{IsSameRun}
 use Rattle.template_process.specs.Trace.{Run, text_of}
-use Rattle.template_environment_settings.specs.Outcomes.{IsWant, TellsFailures}
-use Rattle.template_environment_settings.specs.Renders.{IsOver, Renders, whole, broken}
+use Rattle.template_environment_settings.specs.Outcomes.{IsWant}
+use Rattle.template_environment_settings.specs.Renderings.{IsCut, Renders, whole, broken}
+use Rattle.template_environment_settings.specs.Renders.{IsOver}
 use Rattle.template_program_run.specs.Answers.{IsOutcomeOf}
 use Rattle.template_program_parts.specs.declared.outcome.Outcome.{Outcome}
 use Rattle.template_program_parts.specs.declared.outcome.Outcome.TheVariants.{Done, Render, Context, Template}
@@ -20,33 +21,38 @@ pub record IsWhole {S : Type 0} (outcome : Outcome) (before after : Option (List
   pub end : ((outcome ≡ Done) × IsOver r.end) ⊎ ((kinds : List ErrorKind) × (outcome ≡ Render kinds) × (r.end ≡ faults kinds))
   pub text : Appends before after (text_of r.items)
 
-pub whole_render : {S : Type 0} (outcome : Outcome) (result : Came) (before after : Option (List ℕ)) (r : Run S) → IsOutcomeOf outcome result
-    → ¬ TellsWant outcome → Renders result before after r → IsWhole outcome before after r
-whole_render Done (Ok _) before after r is room (whole over text) = record { end = inl (refl, over); text = text }
-whole_render Done (Ok _) before after r is room (broken wants text) = absurd wants
-whole_render Done (Err others) before after r is room renders = absurd is
-whole_render (Render kinds) (Ok _) before after r is room renders = absurd is
-whole_render (Render kinds) (Err others) before after r is room (whole faulted text) =
-    record { end = inr (kinds, refl, faulted.0 ∙ ap (λ (ks : List ErrorKind). faults ks) (sym is)); text = text }
-whole_render (Render kinds) (Err others) before after r is room (broken wants text) =
-    absurd (room (subst IsWant (sym is) wants))
-whole_render (Context kinds) (Ok _) before after r is room renders = absurd is
-whole_render (Context kinds) (Err others) before after r is room renders = absurd is
-whole_render (Template kinds) (Ok _) before after r is room renders = absurd is
-whole_render (Template kinds) (Err others) before after r is room renders = absurd is
+-- a render that was cut short wants something
+wanted : (kinds others : List ErrorKind) (failed fails : ℕ) → kinds ≡ others → IsCut {X = Unit {0}} (Err others) failed fails → IsWant kinds
+wanted kinds others failed fails is (inl memory) = inl (is ∙ memory.0)
+wanted kinds others failed fails is (inr failure) = inr (is ∙ failure.0)
+
+pub whole_render : {S : Type 0} (outcome : Outcome) (result : Came) (before after : Option (List ℕ)) (failed fails : ℕ) (r : Run S) → IsOutcomeOf outcome result
+    → ¬ TellsWant outcome → Renders result before after failed fails r → IsWhole outcome before after r
+whole_render Done (Ok _) before after failed fails r is room (whole over text quiet) = record { end = inl (refl, over); text = text }
+whole_render Done (Ok _) before after failed fails r is room (broken cut text) = absurd cut
+whole_render Done (Err others) before after failed fails r is room renders = absurd is
+whole_render (Render kinds) (Ok _) before after failed fails r is room renders = absurd is
+whole_render (Render kinds) (Err others) before after failed fails r is room (whole faulted text quiet) =
+    record { end = inr (kinds, refl, faulted ∙ ap (λ (ks : List ErrorKind). faults ks) (sym is)); text = text }
+whole_render (Render kinds) (Err others) before after failed fails r is room (broken cut text) = absurd (room (wanted kinds others failed fails is cut))
+whole_render (Context kinds) (Ok _) before after failed fails r is room renders = absurd is
+whole_render (Context kinds) (Err others) before after failed fails r is room renders = absurd is
+whole_render (Template kinds) (Ok _) before after failed fails r is room renders = absurd is
+whole_render (Template kinds) (Err others) before after failed fails r is room renders = absurd is
 
 -- it counts no failure
-pub quiet_render : (outcome : Outcome) (result : Came) (failed fails : ℕ) → IsOutcomeOf outcome result → ¬ TellsWant outcome
-    → TellsFailures result failed fails → fails ≡ failed
-quiet_render Done (Ok _) failed fails is room tells = tells
-quiet_render Done (Err others) failed fails is room tells = absurd is
-quiet_render (Render kinds) (Ok _) failed fails is room tells = absurd is
-quiet_render (Render kinds) (Err others) failed fails is room (inl loud) = absurd (room (inr (is ∙ loud.0)))
-quiet_render (Render kinds) (Err others) failed fails is room (inr quiet) = quiet.1
-quiet_render (Context kinds) (Ok _) failed fails is room tells = absurd is
-quiet_render (Context kinds) (Err others) failed fails is room tells = absurd is
-quiet_render (Template kinds) (Ok _) failed fails is room tells = absurd is
-quiet_render (Template kinds) (Err others) failed fails is room tells = absurd is
+pub quiet_render : {S : Type 0} (outcome : Outcome) (result : Came) (before after : Option (List ℕ)) (failed fails : ℕ) (r : Run S) → IsOutcomeOf outcome result
+    → ¬ TellsWant outcome → Renders result before after failed fails r → fails ≡ failed
+quiet_render Done (Ok _) before after failed fails r is room (whole over text quiet) = quiet
+quiet_render Done (Ok _) before after failed fails r is room (broken cut text) = absurd cut
+quiet_render Done (Err others) before after failed fails r is room renders = absurd is
+quiet_render (Render kinds) (Ok _) before after failed fails r is room renders = absurd is
+quiet_render (Render kinds) (Err others) before after failed fails r is room (whole faulted text quiet) = quiet
+quiet_render (Render kinds) (Err others) before after failed fails r is room (broken cut text) = absurd (room (wanted kinds others failed fails is cut))
+quiet_render (Context kinds) (Ok _) before after failed fails r is room renders = absurd is
+quiet_render (Context kinds) (Err others) before after failed fails r is room renders = absurd is
+quiet_render (Template kinds) (Ok _) before after failed fails r is room renders = absurd is
+quiet_render (Template kinds) (Err others) before after failed fails r is room renders = absurd is
 
 faults_are : {kinds others : List ErrorKind} → faults kinds ≡ faults others → kinds ≡ others
 faults_are same = cc

@@ -1,17 +1,22 @@
 -- A render's outcome has status 6 only where a growth was refused.
-use Rattle.std.proofs.Common.{◌≡◌, ◌∙◌, ℕ, ◌+◌, List, [], ◌∷◌, ◌++◌, Option, Result, Ok, Err, inl, inr, sym, ap, subst, arith}
+use Rattle.std.proofs.Common.{◌≡◌, ◌∙◌, ℕ, suc, ◌+◌, List, [], ◌∷◌, ◌++◌, Option, Some, Result, Ok, Err, inl, inr, refl, sym, ap, subst, arith}
 use Rattle.std.proofs.lemmas.Bool.Decides.{eqb_tells}
 use Rattle.template_values_errors.specs.declared.ErrorKind.{ErrorKind}
 use Rattle.template_values_errors.specs.declared.ErrorKind.TheVariants.{OutOfMemory}
 use Rattle.template_values_errors.specs.Memory.{NoMemory}
 use Rattle.template_values_model.specs.Val.{Val}
+use Rattle.template_process.specs.Drive.{End}
+use Rattle.template_process.specs.Fuel.{under}
 use Rattle.template_process.specs.Trace.{Run}
-use Rattle.template_machine_meaning.specs.Keeps.{IsMeant, AreMeant, IsFault}
-use Rattle.template_machine_meaning.specs.Meaning.{Standing}
+use Rattle.template_machine_meaning.specs.Keeps.{IsMeant, AreMeant, IsFault, IsMeantEnd}
+use Rattle.template_machine_meaning.specs.Meaning.{Standing, head_of, rendered, top, walks_of}
+use Rattle.template_machine_meaning.specs.World.{first_world}
+use Rattle.template_machine_meaning.proofs.RunsKept.{key_faults_are_meant, nothing_brought_meant}
 use Rattle.template_environment_settings.specs.Outcomes.{IsWant}
 use Rattle.template_environment_settings.specs.Registry.{Registry}
-use Rattle.template_environment_settings.specs.Renders.{Renders, whole, broken}
+use Rattle.template_environment_settings.specs.Renderings.{Renders, whole, broken}
 use Rattle.template_program_run.specs.Answers.{AnswersRequest, IsOutcomeOf, Performed, Rendered}
+use Rattle.template_program_run.specs.Environments.{plain_setting}
 use Rattle.template_program_run.specs.Ids.{last_id}
 use Rattle.template_program_parts.specs.Status.{IsUnlessMemory}
 use Rattle.template_program_parts.specs.declared.outcome.Outcome.{Outcome}
@@ -57,12 +62,19 @@ wanted : (kinds : List ErrorKind) → IsWant kinds → IsUnlessMemory kinds 1 6 
 wanted kinds (inl memory) status = memory
 wanted kinds (inr failed) status = absurd (not_six kinds (subst NoneIsMemory (sym failed) (tt, tt)) status)
 
-render_wants : {S : Type 0} (kinds : List ErrorKind) (result : Result (Unit {0}) (List ErrorKind)) (before after : Option (List ℕ)) (r : Run S)
-    → IsOutcomeOf (Render kinds) result → Renders result before after r → IsUnlessMemory kinds 1 6 → NoMemory kinds
-render_wants kinds (Ok _) before after r is renders status = absurd is
-render_wants kinds (Err others) before after r is (whole faulted text) status =
-    absurd (not_six kinds (subst NoneIsMemory (sym is) (fault_kinds others faulted.1)) status)
-render_wants kinds (Err others) before after r is (broken wants text) status = wanted kinds (subst IsWant (sym is) wants) status
+render_wants : {S : Type 0} (kinds : List ErrorKind) (result : Result (Unit {0}) (List ErrorKind)) (before after : Option (List ℕ)) (failed fails : ℕ) (r : Run S)
+    → IsMeantEnd r.end → IsOutcomeOf (Render kinds) result → Renders result before after failed fails r → IsUnlessMemory kinds 1 6 → NoMemory kinds
+render_wants kinds (Ok _) before after failed fails r meant is renders status = absurd is
+render_wants kinds (Err others) before after failed fails r meant is (whole faulted text quiet) status =
+    absurd (not_six kinds (subst NoneIsMemory (sym is) (fault_kinds others (subst (λ (e : End). IsMeantEnd e) faulted meant))) status)
+render_wants kinds (Err others) before after failed fails r meant is (broken (inl memory) text) status = is ∙ memory.0
+render_wants kinds (Err others) before after failed fails r meant is (broken (inr failure) text) status = wanted kinds (inr (is ∙ failure.0)) status
+
+-- where nothing is brought, a render ends with no fault but those that a template means
+rendered_meant : (e : Registry) (t : Standing) (context : Val) (id n : ℕ) (fuel : Option ℕ) → IsMeantEnd (under fuel (rendered (plain_setting e) id n t context)).end
+rendered_meant e t context id n fuel =
+    key_faults_are_meant (walks_of (plain_setting e) (Some t)) (nothing_brought_meant (walks_of (plain_setting e) (Some t)).around refl refl) (suc n) top
+    (first_world id (plain_setting e).globals (head_of t) context) fuel
 
 kinds_are : {kinds others : List ErrorKind} → Render kinds ≡ Render others → kinds ≡ others
 kinds_are same = cc
@@ -79,7 +91,8 @@ rendered_wants e t context next kinds before after failed fails rendered status 
   | inl last ↦ absurd (not_six kinds (subst NoneIsMemory (sym (kinds_are (rendered.0 last.1).0)) (tt, tt)) status)
   | inr live ↦
       let came = rendered.1 live.1 in
-      render_wants kinds came.0 before after _ came.1 (came.3.renders came.3.finished.0 came.3.finished.1) status
+      render_wants kinds came.0 before after failed fails _ (rendered_meant e t context next came.2.finished.0 e.fuel) came.1
+      (came.2.renders came.2.finished.0 came.2.finished.1) status
 ]
 
 performed_wants : (command : Command) (request : Request) (additions : List (List ℕ × List ℕ)) (json : Option (List ℕ)) (next : ℕ)

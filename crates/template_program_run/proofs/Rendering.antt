@@ -7,36 +7,36 @@ use Rattle.template_process.specs.Fuel.{under}
 use Rattle.template_process.specs.Trace.{Run}
 use Rattle.template_environment_settings.specs.Extras.{Brought, nothing_brought}
 use Rattle.template_environment_settings.specs.Meaning.{Standing, rendered}
-use Rattle.template_environment_settings.specs.Renders.{Renders, whole, broken}
+use Rattle.template_environment_settings.specs.Renderings.{Renders, whole, broken}
 use Rattle.template_environment_settings.specs.Standing.{setting_of}
 use Rattle.template_environment_settings.specs.Registry.{Registry}
 use Rattle.template_program_run.specs.Answers.{IsRendered}
 
-renders_done : {X S : Type 0} (v : X) (before after : Option (List ℕ)) (r : Run S)
-    → Renders {X = X} (Ok v) before after r → Renders {X = Unit {0}} (Ok tt) before after r
-renders_done v before after r (whole ends text) = whole ends text
-renders_done v before after r (broken wants text) = broken wants text
+renders_done : {X S : Type 0} (v : X) (before after : Option (List ℕ)) (failed fails : ℕ) (r : Run S)
+    → Renders {X = X} (Ok v) before after failed fails r → Renders {X = Unit {0}} (Ok tt) before after failed fails r
+renders_done v before after failed fails r (whole ends text quiet) = whole ends text quiet
+renders_done v before after failed fails r (broken cut text) = broken cut text
 
-renders_failed : {X S : Type 0} (kinds : List ErrorKind) (before after : Option (List ℕ)) (r : Run S)
-    → Renders {X = X} (Err kinds) before after r → Renders {X = Unit {0}} (Err kinds) before after r
-renders_failed kinds before after r (whole ends text) = whole ends text
-renders_failed kinds before after r (broken wants text) = broken wants text
+renders_failed : {X S : Type 0} (kinds : List ErrorKind) (before after : Option (List ℕ)) (failed fails : ℕ) (r : Run S)
+    → Renders {X = X} (Err kinds) before after failed fails r → Renders {X = Unit {0}} (Err kinds) before after failed fails r
+renders_failed kinds before after failed fails r (whole ends text quiet) = whole ends text quiet
+renders_failed kinds before after failed fails r (broken cut text) = broken cut text
 
 -- what is told of a render where nothing is brought
-abbrev Tells : Brought → Registry → ℕ → Standing → Val → (X : Type 0) → Result X (List ErrorKind) → Option (List ℕ) → Option (List ℕ) → Type 0
-Tells k e id t context X result before after = ((n : ℕ) × IsFinished (rendered (setting_of k e) id n t context).end)
+abbrev Tells : Brought → Registry → ℕ → Standing → Val → (X : Type 0) → Result X (List ErrorKind) → Option (List ℕ) → Option (List ℕ) → ℕ → ℕ → Type 0
+Tells k e id t context X result before after failed fails = ((n : ℕ) × IsFinished (rendered (setting_of k e) id n t context).end)
     × ((n : ℕ) → IsFinished (rendered (setting_of k e) id n t context).end
-    → Renders {X = X} result before after (under e.fuel (rendered (setting_of k e) id n t context)))
+    → Renders {X = X} result before after failed fails (under e.fuel (rendered (setting_of k e) id n t context)))
 
-pub rendered_done : {X : Type 0} (v : X) (k : Brought) (e : Registry) (id : ℕ) (t : Standing) (context : Val) (before after : Option (List ℕ))
-    → k ≡ nothing_brought → Tells k e id t context X (Ok v) before after → IsRendered e id t context (Ok tt) before after
-rendered_done {X} v k e id t context before after none tells =
-    let told = subst (λ (b : Brought). Tells b e id t context X (Ok v) before after) none tells in
-    record { finished = told.0; renders = λ n done. renders_done v before after _ (told.1 n done) }
+pub rendered_done : {X : Type 0} (v : X) (k : Brought) (e : Registry) (id : ℕ) (t : Standing) (context : Val) (before after : Option (List ℕ)) (failed fails : ℕ)
+    → k ≡ nothing_brought → Tells k e id t context X (Ok v) before after failed fails → IsRendered e id t context (Ok tt) before after failed fails
+rendered_done {X} v k e id t context before after failed fails none tells =
+    let told = subst (λ (b : Brought). Tells b e id t context X (Ok v) before after failed fails) none tells in
+    record { finished = told.0; renders = λ n done. renders_done v before after failed fails _ (told.1 n done) }
 
 pub rendered_failed : (X : Type 0) (kinds : List ErrorKind) (k : Brought) (e : Registry) (id : ℕ) (t : Standing) (context : Val)
-    (before after : Option (List ℕ)) → k ≡ nothing_brought → Tells k e id t context X (Err kinds) before after
-    → IsRendered e id t context (Err kinds) before after
-rendered_failed X kinds k e id t context before after none tells =
-    let told = subst (λ (b : Brought). Tells b e id t context X (Err kinds) before after) none tells in
-    record { finished = told.0; renders = λ n done. renders_failed kinds before after _ (told.1 n done) }
+    (before after : Option (List ℕ)) (failed fails : ℕ) → k ≡ nothing_brought → Tells k e id t context X (Err kinds) before after failed fails
+    → IsRendered e id t context (Err kinds) before after failed fails
+rendered_failed X kinds k e id t context before after failed fails none tells =
+    let told = subst (λ (b : Brought). Tells b e id t context X (Err kinds) before after failed fails) none tells in
+    record { finished = told.0; renders = λ n done. renders_failed kinds before after failed fails _ (told.1 n done) }

@@ -15,7 +15,7 @@ use Rattle.template_machine_output.specs.Writes.{AppendsBeginning}
 use Rattle.template_environment_settings.specs.Outcomes.{IsWant, TellsFailures}
 use Rattle.template_environment_settings.specs.Meaning.{Standing, rendered}
 use Rattle.template_environment_settings.specs.Isolation.{IsContextName}
-use Rattle.template_environment_settings.specs.Renders.{Renders}
+use Rattle.template_environment_settings.specs.Renderings.{Renders}
 use Rattle.template_environment_settings.specs.Sources.{tree_in}
 use Rattle.template_environment_settings.specs.Isolated.{AgreeAmong}
 use Rattle.template_environment_settings.specs.Registry.{Registry}
@@ -55,10 +55,10 @@ pub record IsTemplateOf (name text : List ℕ) (t : Standing) : Type 0 where
 -- Its render, in the state of a number, ends: it is finished under some bound. Under each bound where it is, it decides,
 -- with the fuel, the text and the end.
 pub record IsRendered (e : Registry) (id : ℕ) (t : Standing) (context : Val) (result : Result (Unit {0}) (List ErrorKind))
-    (before after : Option (List ℕ)) : Type 0 where
+    (before after : Option (List ℕ)) (failed fails : ℕ) : Type 0 where
   pub finished : (n : ℕ) × IsFinished (rendered (plain_setting e) id n t context).end
   pub renders : (n : ℕ) → IsFinished (rendered (plain_setting e) id n t context).end
-      → Renders result before after (under e.fuel (rendered (plain_setting e) id n t context))
+      → Renders result before after failed fails (under e.fuel (rendered (plain_setting e) id n t context))
 
 -- A template that stands is rendered over the context, in the state of the next id. The render is refused where no state id
 -- is left.
@@ -66,7 +66,7 @@ abbrev pub Rendered : Registry → Standing → Val → ℕ → Outcome → Opti
 Rendered e t context next outcome before after failed fails =
     (IsLastId next → (outcome ≡ Render (InvalidOperation ∷ [])) × IsUntouched before after failed fails)
     × (¬ IsLastId next → (result : Result (Unit {0}) (List ErrorKind)) × IsOutcomeOf outcome result
-    × TellsFailures result failed fails × IsRendered e next t context result before after)
+    × IsRendered e next t context result before after failed fails)
 
 -- The set has just the names that can matter to a render of the template: contexts that agree at these make no difference, in
 -- no state, at no bound and under no fuel.

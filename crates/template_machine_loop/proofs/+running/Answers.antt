@@ -1,7 +1,6 @@
 use Rattle.std.proofs.Common.{rules, ◌≡◌, ◌==◌, ◌+◌, ◌-◌, ◌*◌, ◌≤◌, ◌<◌, refl, [], ◌∷◌, None, Ok, Err, true, false, option_map, length, suc, sym, ap, subst, ◌∙◌, arith, inl, inr, ℕ, Option}
-use Rattle.template_values_errors.specs.declared.ErrorKind.TheVariants.{OutOfMemory, OutOfFuel, BadStream, InvalidOperation, TemplateNotFound, BadInclude, EvalBlock, UnknownFunction}
+use Rattle.template_values_errors.specs.declared.ErrorKind.TheVariants.{OutOfMemory, InvalidOperation, BadInclude, EvalBlock}
 use Rattle.template_values_model.specs.Val.{Val}
-use Rattle.template_process.specs.Process as events
 use Rattle.template_process.specs.Process.{done, value}
 use Rattle.template_code.specs.Code as codes
 use Rattle.template_code.specs.Listing.{code_in}
@@ -22,26 +21,24 @@ use Rattle.template_machine_meaning.proofs.RunsKept.{block_begun, include_begun,
 use Rattle.template_machine_going.proofs.Going.{goes_nowhere}
 use Rattle.template_machine_steps.proofs.Keeping.{goes_keep, keeps_so}
 use Rattle.template_machine_steps.proofs.Stepping.{lost_one, lost_out}
-use Rattle.template_machine_perform.proofs.Lifting.{no_programs, spared_tells}
+use Rattle.template_machine_perform.proofs.Lifting.{no_programs}
 use Rattle.template_machine_meaning.specs.Captures.{captured, innermost}
 use Rattle.template_machine_calls.specs.Left.{entering_plan, entry_plan, turnings_in}
 use Rattle.template_machine_operands.specs.Operands.{operands_in}
 use Rattle.template_machine_operands.specs.declared.Operands.{Operands}
-use Rattle.template_machine_operations.specs.Outcomes.{TellsFailures}
-use Rattle.template_machine_loop.specs.Found.{name_in, found_of, FindsTemplateOrNone}
+use Rattle.template_machine_loop.specs.Found.{name_in, found_of, FindsTemplateOrNone, IsRefused}
 use Rattle.template_machine_loop.specs.Programs.{standing_of, programs_under, task_of}
 use Rattle.template_machine_loop.specs.Runs.{RunsFrom}
-use Rattle.template_machine_loop.proofs.Advancing.{advance_over, behind_on, ended_task, place_fits, goes_further, ends_keep, run_ended, run_over, run_stopped, run_wanting}
-use Rattle.template_machine_loop.proofs.Onward.{behind_lost, paid_leads, paid_onward, performs_behind, spared, steps_on_there, steps_over, steps_spent, steps_to, tells_on_led, tells_on_there, tells_onward}
-use Rattle.template_machine_loop.proofs.Entered.{recurse_lacks, call_done, call_enters, does_as, does_steps, block_does, printed_does, recurse_does, include_does, load_does, super_lost, named_refused, named_halted, named_does}
-use Rattle.template_machine_loop.proofs.Failing.{other, tells_other, tells_on, tells_wrapped}
+use Rattle.template_machine_loop.proofs.Advancing.{advance_over, ended_task, heard_acts, place_fits, goes_further, ends_keep, run_ended, run_over, run_stopped, run_wanting}
+use Rattle.template_machine_loop.proofs.Onward.{heard_lost, paid_leads, paid_onward, steps_on_there, steps_over, steps_spent, steps_to, tells_on_led, tells_on_there, tells_onward}
+use Rattle.template_machine_loop.proofs.Entered.{recurse_lacks, call_done, call_enters, does_as, does_lost, told_done, told_short, block_does, printed_does, recurse_does, include_does, load_does, super_lost, named_refused, named_halted, named_does}
+use Rattle.template_machine_loop.proofs.Failing.{counts_after, other, spared, tells_other, tells_on, tells_so, tells_spares, tells_wrapped}
 use Rattle.template_machine_loop.proofs.Followed.{comes_itself, key_stops, key_ends, key_lacks, key_lost, key_restarts}
-use Rattle.template_machine_loop.proofs.Within.{length-writes, keyed, refused_as, roomless, roomy, puts_back_itself, puts_back_same, stops_first, block_code, template_code, within_ends, within_breaks, within_does, within_gives, plan_as, refused_plan, tells_as, as_captured, as_innermost, as_kept, given_tells}
+use Rattle.template_machine_loop.proofs.Within.{length-writes, keyed, refused_as, roomless, roomy, puts_back_itself, puts_back_same, stops_first, stops_so, block_code, template_code, within_ends, within_breaks, within_does, within_gives, plan_as, refused_plan, tells_as, as_captured, as_innermost, as_kept, ended_tells, given_tells, tells_spared}
 use Rattle.template_machine_loop.proofs.Lasting.{comes_back, frames_back, restart_keeps, rounds_put_back, stays_same, super_begun}
 use Rattle.template_machine_loop.proofs.Parts.{again_refused, loop_known, loop_runs, macro_begins, macro_entered, macro_keyed, macro_runs, no_loop_known, no_loop_runs, not_recursive, rounds_entered, rounds_keyed, rounds_refused, rounds_runs}
 use Rattle.template_machine_loop.proofs.Turned.{call_gives, call_halts, halted_as, turned_does, turned_halts, turning_tells, uniform}
-use Rattle.template_machine_loop.proofs.Wrapping.{stop_spares}
-use Rattle.template_machine_loop.proofs.Doing.{answers}
+use Rattle.template_machine_loop.proofs.Doing.{answers, refuses}
 use Rattle.template_machine_loop.proofs.Finding.{passed_over, looked_for}
 use Rattle.template_machine_loop.proofs.+running.Goals as goal
 
@@ -55,7 +52,7 @@ running::step-returns-in_err-pay-clause-advances g t c at =
 
 pub running::step-returns-in_err-pay-clause-failures : goal.running::step-returns-in_err-pay-clause-failures
 running::step-returns-in_err-pay-clause-failures g t c =
-    tells_other c.from_residual.result _ (g.S.Sink.failures c.args.sink.now) c.from_residual.ensures.1 (other _ (OutOfFuel ∷ []) c.in_err-pay.ensures.kind tt)
+    tells_other c.from_residual.result c.in_err-pay.field-0.0 (g.S.Sink.failures c.args.sink.now) c.from_residual.ensures.1
 
 pub running::step-returns-in-Performs-clause-advances : goal.running::step-returns-in-Performs-clause-advances
 running::step-returns-in-Performs-clause-advances g t c at =
@@ -72,12 +69,12 @@ running::step-returns-in-Performs-clause-failures g t c =
 pub running::step-returns-in_err-called-in-Calls-clause-advances : goal.running::step-returns-in_err-called-in-Calls-clause-advances
 running::step-returns-in_err-called-in-Calls-clause-advances g t c at =
     let s = programs_under (g.T.Templates.standing c.args.program.templates.now) (g.T.Templates.joins c.args.program.templates.now) (g.T.Callbacks.callables c.args.program.templates.now) (option_map standing_of c.args.program.root) c.args.program.rules in
-    behind_lost s _ _ c.args.place _ _ _ _ _ c.from_residual-in_err-called-in-Calls.result (performs_behind _ s _ _ _ _ _ _ (c.in_err-called-in-Calls.ensures s)) c.from_residual-in_err-called-in-Calls.ensures.1 _ _ _ at
+    heard_lost s _ _ c.args.place _ _ _ _ _ c.from_residual-in_err-called-in-Calls.result (c.in_err-called-in-Calls.ensures s) c.from_residual-in_err-called-in-Calls.ensures.1 _ _ _ at
     c.in_ok-pay.ensures.paid
 
 pub running::step-returns-in_err-called-in-Calls-clause-failures : goal.running::step-returns-in_err-called-in-Calls-clause-failures
 running::step-returns-in_err-called-in-Calls-clause-failures g t c =
-    tells_other c.from_residual-in_err-called-in-Calls.result _ (g.S.Sink.failures c.args.sink.now) c.from_residual-in_err-called-in-Calls.ensures.1 (c.in_err-called-in-Calls.ensures no_programs).spares
+    tells_spares _ c.from_residual-in_err-called-in-Calls.result (g.S.Sink.failures c.args.sink.now) c.from_residual-in_err-called-in-Calls.ensures.1 (c.in_err-called-in-Calls.ensures no_programs).spares
 
 pub running::step-returns-in-Some-clause-advances : goal.running::step-returns-in-Some-clause-advances
 running::step-returns-in-Some-clause-advances g t c at =
@@ -106,8 +103,8 @@ running::step-enter_call-requires g t c κs within =
 pub running::step-returns-in-None-clause-advances : goal.running::step-returns-in-None-clause-advances
 running::step-returns-in-None-clause-advances g t c at =
     let s = programs_under (g.T.Templates.standing c.args.program.templates.now) (g.T.Templates.joins c.args.program.templates.now) (g.T.Callbacks.callables c.args.program.templates.now) (option_map standing_of c.args.program.root) c.args.program.rules in
-    behind_on (tt {0}) s _ _ c.args.place (c.args.place + 1) _ _ _ _ _ _ _ at c.in_ok-pay.ensures.paid
-    (performs_behind _ s _ _ _ _ _ _ (call_done s _ _ _ _ _ c.in-None.is (c.in_ok-called-in-Calls.ensures s))) (omega arith)
+    heard_acts (tt {0}) s _ _ c.args.place (c.args.place + 1) _ _ _ _ _ _ _ at c.in_ok-pay.ensures.paid
+    (call_done s _ _ _ _ _ c.in-None.is (c.in_ok-called-in-Calls.ensures s)) (omega arith)
 
 -- one that may enter a run within
 pub running::step-returns-in-Enters-clause-advances : goal.running::step-returns-in-Enters-clause-advances
@@ -266,14 +263,11 @@ running::run_to_end-returns-clause-runs g t c =
 pub blocks::run_body-returns-then-not-has_room-clause-plan : goal.blocks::run_body-returns-then-not-has_room-clause-plan
 blocks::run_body-returns-then-not-has_room-clause-plan g t c =
     let s = programs_under (g.T.Templates.standing c.args.program.templates.now) (g.T.Templates.joins c.args.program.templates.now) (g.T.Callbacks.callables c.args.program.templates.now) (option_map standing_of c.args.program.root) c.args.program.rules in
-    stops_first (λ (u : Unit {0}). done) s (room_for s.around.limit 1 c.args.state.now (block_within c.args.state.now (name_in c.args.found) (home_of c.args.found.home))) c.args.state.now c.args.left.now (g.S.Sink.taken c.args.sink.now) c.new.result (Err c.new.result) c.args.state.now refl
-    (inr (refused_as s (room_for s.around.limit 1 c.args.state.now (block_within c.args.state.now (name_in c.args.found) (home_of c.args.found.home))) c.args.state.now (InvalidOperation ∷ []) c.new.result c.new.ensures (roomless s 1 c.args.state.now (block_within c.args.state.now (name_in c.args.found) (home_of c.args.found.home)) (sym c.has_room.ensures ∙ c.if-not-has_room.true))))
+    refuses s (room_for s.around.limit 1 c.args.state.now (block_within c.args.state.now (name_in c.args.found) (home_of c.args.found.home))) c.args.state.now c.args.left.now (g.S.Sink.taken c.args.sink.now) (λ (u : Unit {0}). done) c.new.result c.args.state.now
+    (refused_as s (room_for s.around.limit 1 c.args.state.now (block_within c.args.state.now (name_in c.args.found) (home_of c.args.found.home))) c.args.state.now (InvalidOperation ∷ []) c.new.result c.new.ensures (roomless s 1 c.args.state.now (block_within c.args.state.now (name_in c.args.found) (home_of c.args.found.home)) (sym c.has_room.ensures ∙ c.if-not-has_room.true)))
 
 pub blocks::run_body-returns-then-not-has_room-clause-back : goal.blocks::run_body-returns-then-not-has_room-clause-back
 blocks::run_body-returns-then-not-has_room-clause-back g t c = puts_back_itself c.args.state.now
-
-pub blocks::run_body-returns-then-not-has_room-clause-failures : goal.blocks::run_body-returns-then-not-has_room-clause-failures
-blocks::run_body-returns-then-not-has_room-clause-failures g t c = inr (other c.new.result (InvalidOperation ∷ []) c.new.ensures tt, refl)
 
 pub blocks::run_body-returns-then-not-has_room-clause-keeps : goal.blocks::run_body-returns-then-not-has_room-clause-keeps
 blocks::run_body-returns-then-not-has_room-clause-keeps g t c = world_stays c.args.state.now
@@ -294,7 +288,7 @@ blocks::run_body-returns-in_err-caller-clause-back g t c = puts_back_same c.args
 
 pub blocks::run_body-returns-in_err-caller-clause-failures : goal.blocks::run_body-returns-in_err-caller-clause-failures
 blocks::run_body-returns-in_err-caller-clause-failures g t c =
-    tells_other c.from_residual.result _ (g.S.Sink.failures c.args.sink.now) c.from_residual.ensures.1 (other _ (OutOfMemory ∷ []) c.in_err-caller.ensures.refused tt)
+    tells_other c.from_residual.result c.in_err-caller.field-0.0 (g.S.Sink.failures c.args.sink.now) c.from_residual.ensures.1
 
 pub blocks::run_body-returns-in_err-caller-clause-keeps : goal.blocks::run_body-returns-in_err-caller-clause-keeps
 blocks::run_body-returns-in_err-caller-clause-keeps g t c = stays_same c.args.state.now c.enter_block.new.self c.in_err-caller.ensures.unchanged
@@ -360,7 +354,7 @@ blocks::run_block-returns-in_err-found-clause-back g t c = puts_back_itself c.ar
 
 pub blocks::run_block-returns-in_err-found-clause-failures : goal.blocks::run_block-returns-in_err-found-clause-failures
 blocks::run_block-returns-in_err-found-clause-failures g t c =
-    tells_other c.from_residual.result _ (g.S.Sink.failures c.args.sink.now) c.from_residual.ensures.1 c.in_err-found.ensures.spares
+    tells_other c.from_residual.result c.in_err-found.field-0.0 (g.S.Sink.failures c.args.sink.now) c.from_residual.ensures.1
 
 pub blocks::run_block-returns-in_err-found-clause-keeps : goal.blocks::run_block-returns-in_err-found-clause-keeps
 blocks::run_block-returns-in_err-found-clause-keeps g t c = world_stays c.args.state.now
@@ -402,11 +396,8 @@ blocks::call_block-returns-clause-plan g t c =
 pub blocks::print_super-returns-in_default-clause-plan : goal.blocks::print_super-returns-in_default-clause-plan
 blocks::print_super-returns-in_default-clause-plan g t c =
     let s = programs_under (g.T.Templates.standing c.args.program.templates.now) (g.T.Templates.joins c.args.program.templates.now) (g.T.Callbacks.callables c.args.program.templates.now) (option_map standing_of c.args.program.root) c.args.program.rules in
-    stops_first (λ (u : Unit {0}). done) s (super_plan s.around c.args.state.now false) c.args.state.now c.args.left.now (g.S.Sink.taken c.args.sink.now) c.new.result (Err c.new.result) c.args.state.now refl
-    (inr (refused_as s (super_plan s.around c.args.state.now false) c.args.state.now (InvalidOperation ∷ []) c.new.result c.new.ensures (c.in_default.ensures.none false)))
-
-pub blocks::print_super-returns-in_default-clause-failures : goal.blocks::print_super-returns-in_default-clause-failures
-blocks::print_super-returns-in_default-clause-failures g t c = inr (other c.new.result (InvalidOperation ∷ []) c.new.ensures tt, refl)
+    refuses s (super_plan s.around c.args.state.now false) c.args.state.now c.args.left.now (g.S.Sink.taken c.args.sink.now) (λ (u : Unit {0}). done) c.new.result c.args.state.now
+    (refused_as s (super_plan s.around c.args.state.now false) c.args.state.now (InvalidOperation ∷ []) c.new.result c.new.ensures (c.in_default.ensures.none false))
 
 pub blocks::print_super-returns-in_default-clause-keeps : goal.blocks::print_super-returns-in_default-clause-keeps
 blocks::print_super-returns-in_default-clause-keeps g t c = world_stays c.args.state.now
@@ -414,14 +405,10 @@ blocks::print_super-returns-in_default-clause-keeps g t c = world_stays c.args.s
 pub blocks::print_super-returns-then-not-has_room-clause-plan : goal.blocks::print_super-returns-then-not-has_room-clause-plan
 blocks::print_super-returns-then-not-has_room-clause-plan g t c =
     let s = programs_under (g.T.Templates.standing c.args.program.templates.now) (g.T.Templates.joins c.args.program.templates.now) (g.T.Callbacks.callables c.args.program.templates.now) (option_map standing_of c.args.program.root) c.args.program.rules in
-    stops_first (λ (u : Unit {0}). done) s (super_plan s.around c.args.state.now false) c.args.state.now c.args.left.now (g.S.Sink.taken c.args.sink.now) c.new-then-not-has_room.result (Err c.new-then-not-has_room.result) c.args.state.now refl
-    (inr
+    refuses s (super_plan s.around c.args.state.now false) c.args.state.now c.args.left.now (g.S.Sink.taken c.args.sink.now) (λ (u : Unit {0}). done) c.new-then-not-has_room.result c.args.state.now
     (refused_as s (super_plan s.around c.args.state.now false) c.args.state.now (InvalidOperation ∷ []) c.new-then-not-has_room.result c.new-then-not-has_room.ensures
     (refused_plan s (super_plan s.around c.args.state.now false) (room_for s.around.limit 1 c.args.state.now (super_within c.args.state.now false (name_in c.in-Some.found) c.in-Some.found.place (home_of c.in-Some.found.home))) c.args.state.now (InvalidOperation ∷ []) (c.in-Some.ensures.found.planned false)
-    (roomless s 1 c.args.state.now (super_within c.args.state.now false (name_in c.in-Some.found) c.in-Some.found.place (home_of c.in-Some.found.home)) (sym c.has_room.ensures ∙ c.if-not-has_room.true)))))
-
-pub blocks::print_super-returns-then-not-has_room-clause-failures : goal.blocks::print_super-returns-then-not-has_room-clause-failures
-blocks::print_super-returns-then-not-has_room-clause-failures g t c = inr (other c.new-then-not-has_room.result (InvalidOperation ∷ []) c.new-then-not-has_room.ensures tt, refl)
+    (roomless s 1 c.args.state.now (super_within c.args.state.now false (name_in c.in-Some.found) c.in-Some.found.place (home_of c.in-Some.found.home)) (sym c.has_room.ensures ∙ c.if-not-has_room.true))))
 
 pub blocks::print_super-returns-then-not-has_room-clause-keeps : goal.blocks::print_super-returns-then-not-has_room-clause-keeps
 blocks::print_super-returns-then-not-has_room-clause-keeps g t c = world_stays c.args.state.now
@@ -442,7 +429,7 @@ blocks::print_super-returns-in_err-caller-clause-plan g t c =
 
 pub blocks::print_super-returns-in_err-caller-clause-failures : goal.blocks::print_super-returns-in_err-caller-clause-failures
 blocks::print_super-returns-in_err-caller-clause-failures g t c =
-    tells_other c.from_residual.result _ (g.S.Sink.failures c.args.sink.now) c.from_residual.ensures.1 (other _ (OutOfMemory ∷ []) c.in_err-caller.ensures.refused tt)
+    tells_other c.from_residual.result c.in_err-caller.field-0.0 (g.S.Sink.failures c.args.sink.now) c.from_residual.ensures.1
 
 pub blocks::print_super-returns-in_err-caller-clause-keeps : goal.blocks::print_super-returns-in_err-caller-clause-keeps
 blocks::print_super-returns-in_err-caller-clause-keeps g t c = stays_same c.args.state.now c.enter_super.new.self c.in_err-caller.ensures.unchanged
@@ -486,10 +473,10 @@ blocks::print_super-returns-in-Err-clause-plan g t c =
     (g.T.Templates.standing c.args.program.templates.now) (g.T.Templates.joins c.args.program.templates.now) (g.T.Callbacks.callables c.args.program.templates.now) (option_map standing_of c.args.program.root) c.args.program.rules 1 c.args.state.now y
     (keyed (g.T.Templates.standing c.args.program.templates.now) (g.T.Templates.joins c.args.program.templates.now) (g.T.Callbacks.callables c.args.program.templates.now) (option_map standing_of c.args.program.root) c.args.program.rules y.key.stream stream.code at) refl
     (sym c.has_room.ensures ∙ c.if-not-has_room.false) c.args.left.now c.run_whole-ran.new.left (g.S.Sink.taken c.args.sink.now) (g.S.Sink.taken c.run_whole-ran.new.sink) c.enter_super.new.self c.run_whole-ran.new.state
-    (c.in_ok-caller.ensures.within ∙ ap (λ n. (super_within c.args.state.now false n c.in-Some.found.place home).begins) c.as_str-name.ensures.value) _ _ (λ (u : Unit {0}). done) c.in-Err.error c.wrapped.result c.run_whole-ran.result c.leave_super.new.self c.in-Err.is (c.run_whole-ran.ensures.runs y.key.stream at) c.wrapped.ensures)
+    (c.in_ok-caller.ensures.within ∙ ap (λ n. (super_within c.args.state.now false n c.in-Some.found.place home).begins) c.as_str-name.ensures.value) _ _ (λ (u : Unit {0}). done) c.in-Err.stop c.wrapped.result c.run_whole-ran.result c.leave_super.new.self c.in-Err.is (c.run_whole-ran.ensures.runs y.key.stream at) c.wrapped.ensures)
 
 pub blocks::print_super-returns-in-Ok-clause-failures : goal.blocks::print_super-returns-in-Ok-clause-failures
-blocks::print_super-returns-in-Ok-clause-failures g t c = subst (λ r. TellsFailures r (g.S.Sink.failures c.args.sink.now) (g.S.Sink.failures c.run_whole-ran.new.sink)) c.in-Ok.is c.run_whole-ran.ensures.failures
+blocks::print_super-returns-in-Ok-clause-failures g t c = ended_tells _ c.run_whole-ran.result (g.S.Sink.failures c.args.sink.now) (g.S.Sink.failures c.run_whole-ran.new.sink) c.in-Ok.is c.run_whole-ran.ensures.failures
 
 pub blocks::print_super-returns-in-Ok-clause-keeps : goal.blocks::print_super-returns-in-Ok-clause-keeps
 blocks::print_super-returns-in-Ok-clause-keeps g t c =
@@ -504,8 +491,8 @@ blocks::print_super-returns-in-Ok-clause-keeps g t c =
 
 pub blocks::print_super-returns-in-Err-clause-failures : goal.blocks::print_super-returns-in-Err-clause-failures
 blocks::print_super-returns-in-Err-clause-failures g t c =
-    tells_wrapped (Unit {0}) (Unit {0}) EvalBlock c.in-Err.error c.wrapped.result (g.S.Sink.failures c.args.sink.now) (g.S.Sink.failures c.run_whole-ran.new.sink) tt c.wrapped.ensures
-    (tells_as c.run_whole-ran.result c.in-Err.error (g.S.Sink.failures c.args.sink.now) (g.S.Sink.failures c.run_whole-ran.new.sink) c.in-Err.is c.run_whole-ran.ensures.failures)
+    tells_wrapped (Unit {0}) (Unit {0}) EvalBlock c.in-Err.stop c.wrapped.result (g.S.Sink.failures c.args.sink.now) (g.S.Sink.failures c.run_whole-ran.new.sink) c.wrapped.ensures
+    (tells_as c.run_whole-ran.result c.in-Err.stop (g.S.Sink.failures c.args.sink.now) (g.S.Sink.failures c.run_whole-ran.new.sink) c.in-Err.is c.run_whole-ran.ensures.failures)
 
 pub blocks::print_super-returns-in-Err-clause-keeps : goal.blocks::print_super-returns-in-Err-clause-keeps
 blocks::print_super-returns-in-Err-clause-keeps g t c =
@@ -522,11 +509,8 @@ blocks::print_super-returns-in-Err-clause-keeps g t c =
 pub blocks::call_super-returns-in_default-clause-plan : goal.blocks::call_super-returns-in_default-clause-plan
 blocks::call_super-returns-in_default-clause-plan g t c =
     let s = programs_under (g.T.Templates.standing c.args.program.templates.now) (g.T.Templates.joins c.args.program.templates.now) (g.T.Callbacks.callables c.args.program.templates.now) (option_map standing_of c.args.program.root) c.args.program.rules in
-    stops_first value s (super_plan s.around c.args.state.now true) c.args.state.now c.args.left.now (g.S.Sink.taken c.args.sink.now) c.new.result (Err c.new.result) c.args.state.now refl
-    (inr (refused_as s (super_plan s.around c.args.state.now true) c.args.state.now (InvalidOperation ∷ []) c.new.result c.new.ensures (c.in_default.ensures.none true)))
-
-pub blocks::call_super-returns-in_default-clause-failures : goal.blocks::call_super-returns-in_default-clause-failures
-blocks::call_super-returns-in_default-clause-failures g t c = inr (other c.new.result (InvalidOperation ∷ []) c.new.ensures tt, refl)
+    refuses s (super_plan s.around c.args.state.now true) c.args.state.now c.args.left.now (g.S.Sink.taken c.args.sink.now) value c.new.result c.args.state.now
+    (refused_as s (super_plan s.around c.args.state.now true) c.args.state.now (InvalidOperation ∷ []) c.new.result c.new.ensures (c.in_default.ensures.none true))
 
 pub blocks::call_super-returns-in_default-clause-keeps : goal.blocks::call_super-returns-in_default-clause-keeps
 blocks::call_super-returns-in_default-clause-keeps g t c = world_stays c.args.state.now
@@ -534,14 +518,10 @@ blocks::call_super-returns-in_default-clause-keeps g t c = world_stays c.args.st
 pub blocks::call_super-returns-then-not-has_room-clause-plan : goal.blocks::call_super-returns-then-not-has_room-clause-plan
 blocks::call_super-returns-then-not-has_room-clause-plan g t c =
     let s = programs_under (g.T.Templates.standing c.args.program.templates.now) (g.T.Templates.joins c.args.program.templates.now) (g.T.Callbacks.callables c.args.program.templates.now) (option_map standing_of c.args.program.root) c.args.program.rules in
-    stops_first value s (super_plan s.around c.args.state.now true) c.args.state.now c.args.left.now (g.S.Sink.taken c.args.sink.now) c.new-then-not-has_room.result (Err c.new-then-not-has_room.result) c.args.state.now refl
-    (inr
+    refuses s (super_plan s.around c.args.state.now true) c.args.state.now c.args.left.now (g.S.Sink.taken c.args.sink.now) value c.new-then-not-has_room.result c.args.state.now
     (refused_as s (super_plan s.around c.args.state.now true) c.args.state.now (InvalidOperation ∷ []) c.new-then-not-has_room.result c.new-then-not-has_room.ensures
     (refused_plan s (super_plan s.around c.args.state.now true) (room_for s.around.limit 1 c.args.state.now (super_within c.args.state.now true (name_in c.in-Some.found) c.in-Some.found.place (home_of c.in-Some.found.home))) c.args.state.now (InvalidOperation ∷ []) (c.in-Some.ensures.found.planned true)
-    (roomless s 1 c.args.state.now (super_within c.args.state.now true (name_in c.in-Some.found) c.in-Some.found.place (home_of c.in-Some.found.home)) (sym c.has_room.ensures ∙ c.if-not-has_room.true)))))
-
-pub blocks::call_super-returns-then-not-has_room-clause-failures : goal.blocks::call_super-returns-then-not-has_room-clause-failures
-blocks::call_super-returns-then-not-has_room-clause-failures g t c = inr (other c.new-then-not-has_room.result (InvalidOperation ∷ []) c.new-then-not-has_room.ensures tt, refl)
+    (roomless s 1 c.args.state.now (super_within c.args.state.now true (name_in c.in-Some.found) c.in-Some.found.place (home_of c.in-Some.found.home)) (sym c.has_room.ensures ∙ c.if-not-has_room.true))))
 
 pub blocks::call_super-returns-then-not-has_room-clause-keeps : goal.blocks::call_super-returns-then-not-has_room-clause-keeps
 blocks::call_super-returns-then-not-has_room-clause-keeps g t c = world_stays c.args.state.now
@@ -562,7 +542,7 @@ blocks::call_super-returns-in_err-caller-clause-plan g t c =
 
 pub blocks::call_super-returns-in_err-caller-clause-failures : goal.blocks::call_super-returns-in_err-caller-clause-failures
 blocks::call_super-returns-in_err-caller-clause-failures g t c =
-    tells_other c.from_residual.result _ (g.S.Sink.failures c.args.sink.now) c.from_residual.ensures.1 (other _ (OutOfMemory ∷ []) c.in_err-caller.ensures.refused tt)
+    tells_other c.from_residual.result c.in_err-caller.field-0.0 (g.S.Sink.failures c.args.sink.now) c.from_residual.ensures.1
 
 pub blocks::call_super-returns-in_err-caller-clause-keeps : goal.blocks::call_super-returns-in_err-caller-clause-keeps
 blocks::call_super-returns-in_err-caller-clause-keeps g t c = stays_same c.args.state.now c.enter_super.new.self c.in_err-caller.ensures.unchanged
@@ -585,17 +565,17 @@ blocks::call_super-returns-in-Ok-clause-plan g t c =
     let stream = stream_in c.in-Some.found.block.now in
     let y = super_within c.args.state.now true (name_in c.in-Some.found) c.in-Some.found.place home in
     let at = block_code (g.T.Templates.standing c.args.program.templates.now) (g.T.Templates.joins c.args.program.templates.now) (g.T.Callbacks.callables c.args.program.templates.now) (option_map standing_of c.args.program.root) c.args.program.rules home (name_in c.in-Some.found) stream c.in-Some.ensures.found.stands in
-    plan_as value s (super_plan s.around c.args.state.now true) _ c.args.state.now c.args.left.now (g.S.Sink.taken c.args.sink.now) c.leave_named_super.result c.leave_named_super.new.self c.run_whole-ran.new.left (g.S.Sink.taken c.run_whole-ran.new.sink)
+    plan_as value s (super_plan s.around c.args.state.now true) _ c.args.state.now c.args.left.now (g.S.Sink.taken c.args.sink.now) c.told_by.result c.leave_named_super.new.self c.run_whole-ran.new.left (g.S.Sink.taken c.run_whole-ran.new.sink)
     (c.in-Some.ensures.found.planned true)
     (within_gives
     (g.T.Templates.standing c.args.program.templates.now) (g.T.Templates.joins c.args.program.templates.now) (g.T.Callbacks.callables c.args.program.templates.now) (option_map standing_of c.args.program.root) c.args.program.rules 1 c.args.state.now y
     (keyed (g.T.Templates.standing c.args.program.templates.now) (g.T.Templates.joins c.args.program.templates.now) (g.T.Callbacks.callables c.args.program.templates.now) (option_map standing_of c.args.program.root) c.args.program.rules y.key.stream stream.code at) refl
     (sym c.has_room.ensures ∙ c.if-not-has_room.false) c.args.left.now c.run_whole-ran.new.left (g.S.Sink.taken c.args.sink.now) (g.S.Sink.taken c.run_whole-ran.new.sink) c.enter_super.new.self c.run_whole-ran.new.state
-    (c.in_ok-caller.ensures.within ∙ ap (λ n. (super_within c.args.state.now true n c.in-Some.found.place home).begins) c.as_str-name.ensures.value) _ (captured c.args.state.now.escape (innermost (outermost (suc (length c.args.state.now.captures)) c.run_whole-ran.new.state.captures))) c.run_whole-ran.result c.leave_named_super.result c.leave_named_super.new.self c.in-Ok.is
+    (c.in_ok-caller.ensures.within ∙ ap (λ n. (super_within c.args.state.now true n c.in-Some.found.place home).begins) c.as_str-name.ensures.value) _ (captured c.args.state.now.escape (innermost (outermost (suc (length c.args.state.now.captures)) c.run_whole-ran.new.state.captures))) c.run_whole-ran.result c.leave_named_super.result c.told_by.result c.leave_named_super.new.self c.in-Ok.is
     (c.run_whole-ran.ensures.runs y.key.stream at) refl
     (c.leave_named_super.ensures.ended ∙ ap (λ (k : Caller). after_by (calls_super true c.as_str-name.result.now c.in-Some.found.place) k c.run_whole-ran.new.state) c.in_ok-caller.ensures.kept
     ∙ ap (λ n. after_by (calls_super true n c.in-Some.found.place) (caller_of c.args.state.now) c.run_whole-ran.new.state) c.as_str-name.ensures.value)
-    (as_captured c.leave_named_super.result c.in_ok-caller.caller c.args.state.now c.run_whole-ran.new.state.captures c.in_ok-caller.ensures.kept c.leave_named_super.ensures.given) c.leave_named_super.ensures.refused)
+    (as_captured c.leave_named_super.result c.in_ok-caller.caller c.args.state.now c.run_whole-ran.new.state.captures c.in_ok-caller.ensures.kept c.leave_named_super.ensures.given) c.leave_named_super.ensures.refused c.told_by.ensures)
 
 pub blocks::call_super-returns-in-Err-clause-plan : goal.blocks::call_super-returns-in-Err-clause-plan
 blocks::call_super-returns-in-Err-clause-plan g t c =
@@ -609,11 +589,11 @@ blocks::call_super-returns-in-Err-clause-plan g t c =
     (g.T.Templates.standing c.args.program.templates.now) (g.T.Templates.joins c.args.program.templates.now) (g.T.Callbacks.callables c.args.program.templates.now) (option_map standing_of c.args.program.root) c.args.program.rules 1 c.args.state.now y
     (keyed (g.T.Templates.standing c.args.program.templates.now) (g.T.Templates.joins c.args.program.templates.now) (g.T.Callbacks.callables c.args.program.templates.now) (option_map standing_of c.args.program.root) c.args.program.rules y.key.stream stream.code at) refl
     (sym c.has_room.ensures ∙ c.if-not-has_room.false) c.args.left.now c.run_whole-ran.new.left (g.S.Sink.taken c.args.sink.now) (g.S.Sink.taken c.run_whole-ran.new.sink) c.enter_super.new.self c.run_whole-ran.new.state
-    (c.in_ok-caller.ensures.within ∙ ap (λ n. (super_within c.args.state.now true n c.in-Some.found.place home).begins) c.as_str-name.ensures.value) _ _ value c.in-Err.error c.wrapped.result c.run_whole-ran.result c.leave_super.new.self c.in-Err.is (c.run_whole-ran.ensures.runs y.key.stream at) c.wrapped.ensures)
+    (c.in_ok-caller.ensures.within ∙ ap (λ n. (super_within c.args.state.now true n c.in-Some.found.place home).begins) c.as_str-name.ensures.value) _ _ value c.in-Err.stop c.wrapped.result c.run_whole-ran.result c.leave_super.new.self c.in-Err.is (c.run_whole-ran.ensures.runs y.key.stream at) c.wrapped.ensures)
 
 pub blocks::call_super-returns-in-Ok-clause-failures : goal.blocks::call_super-returns-in-Ok-clause-failures
 blocks::call_super-returns-in-Ok-clause-failures g t c =
-    given_tells _ c.run_whole-ran.result c.leave_named_super.result (g.S.Sink.failures c.args.sink.now) (g.S.Sink.failures c.run_whole-ran.new.sink) c.in-Ok.is c.run_whole-ran.ensures.failures c.leave_named_super.ensures.refused
+    given_tells _ c.run_whole-ran.result c.leave_named_super.result c.told_by.result (g.S.Sink.failures c.args.sink.now) (g.S.Sink.failures c.run_whole-ran.new.sink) c.in-Ok.is c.run_whole-ran.ensures.failures c.leave_named_super.ensures.refused c.told_by.ensures
 
 pub blocks::call_super-returns-in-Ok-clause-keeps : goal.blocks::call_super-returns-in-Ok-clause-keeps
 blocks::call_super-returns-in-Ok-clause-keeps g t c =
@@ -628,8 +608,8 @@ blocks::call_super-returns-in-Ok-clause-keeps g t c =
 
 pub blocks::call_super-returns-in-Err-clause-failures : goal.blocks::call_super-returns-in-Err-clause-failures
 blocks::call_super-returns-in-Err-clause-failures g t c =
-    tells_wrapped (Unit {0}) Val EvalBlock c.in-Err.error c.wrapped.result (g.S.Sink.failures c.args.sink.now) (g.S.Sink.failures c.run_whole-ran.new.sink) tt c.wrapped.ensures
-    (tells_as c.run_whole-ran.result c.in-Err.error (g.S.Sink.failures c.args.sink.now) (g.S.Sink.failures c.run_whole-ran.new.sink) c.in-Err.is c.run_whole-ran.ensures.failures)
+    tells_wrapped (Unit {0}) Val EvalBlock c.in-Err.stop c.wrapped.result (g.S.Sink.failures c.args.sink.now) (g.S.Sink.failures c.run_whole-ran.new.sink) c.wrapped.ensures
+    (tells_as c.run_whole-ran.result c.in-Err.stop (g.S.Sink.failures c.args.sink.now) (g.S.Sink.failures c.run_whole-ran.new.sink) c.in-Err.is c.run_whole-ran.ensures.failures)
 
 pub blocks::call_super-returns-in-Err-clause-keeps : goal.blocks::call_super-returns-in-Err-clause-keeps
 blocks::call_super-returns-in-Err-clause-keeps g t c =
@@ -646,13 +626,13 @@ blocks::call_super-returns-in-Err-clause-keeps g t c =
 pub includes::include-returns-in_err-choice-clause-plan : goal.includes::include-returns-in_err-choice-clause-plan
 includes::include-returns-in_err-choice-clause-plan g t c =
     let s = programs_under (g.T.Templates.standing c.args.program.templates.now) (g.T.Templates.joins c.args.program.templates.now) (g.T.Callbacks.callables c.args.program.templates.now) (option_map standing_of c.args.program.root) c.args.program.rules in
-    stops_first (λ (u : Unit {0}). done) s (include_plan (known_of c.args.state.now) s.around c.args.state.now c.args.ignore_missing c.args.value) c.args.state.now c.args.left.now (g.S.Sink.taken c.args.sink.now) _ c.from_residual.result c.args.state.now c.from_residual.ensures.1 c.in_err-choice.ensures.refused
+    stops_so (λ (u : Unit {0}). done) s (include_plan (known_of c.args.state.now) s.around c.args.state.now c.args.ignore_missing c.args.value) c.args.state.now c.args.left.now (g.S.Sink.taken c.args.sink.now) _ c.from_residual.result c.args.state.now c.from_residual.ensures.1 c.in_err-choice.ensures.refused
 
 pub includes::include-returns-in_err-choice-clause-failures : goal.includes::include-returns-in_err-choice-clause-failures
 includes::include-returns-in_err-choice-clause-failures g t c =
     let s = programs_under (g.T.Templates.standing c.args.program.templates.now) (g.T.Templates.joins c.args.program.templates.now) (g.T.Callbacks.callables c.args.program.templates.now) (option_map standing_of c.args.program.root) c.args.program.rules in
-    tells_other c.from_residual.result _ (g.S.Sink.failures c.args.sink.now) c.from_residual.ensures.1
-    (stop_spares s c.args.state.now (events.include c.args.ignore_missing c.args.value) _ c.in_err-choice.ensures.refused)
+    tells_so (IsRefused s (include_plan (known_of c.args.state.now) s.around c.args.state.now c.args.ignore_missing c.args.value) c.args.state.now) _ c.from_residual.result (g.S.Sink.failures c.args.sink.now) c.from_residual.ensures.1
+    c.in_err-choice.ensures.refused
 
 pub includes::include-returns-in_err-choice-clause-keeps : goal.includes::include-returns-in_err-choice-clause-keeps
 includes::include-returns-in_err-choice-clause-keeps g t c = world_stays c.args.state.now
@@ -684,11 +664,8 @@ includes::include-returns-in-None-clause-keeps g t c = world_stays c.args.state.
 pub includes::run_included-returns-then-not-has_room-clause-plan : goal.includes::run_included-returns-then-not-has_room-clause-plan
 includes::run_included-returns-then-not-has_room-clause-plan g t c =
     let s = programs_under (g.T.Templates.standing c.args.program.templates.now) (g.T.Templates.joins c.args.program.templates.now) (g.T.Callbacks.callables c.args.program.templates.now) (option_map standing_of c.args.program.root) c.args.program.rules in
-    stops_first (λ (u : Unit {0}). done) s (room_for s.around.limit include_levels c.args.state.now (include_within c.args.state.now (found_of (standing_of c.args.found)))) c.args.state.now c.args.left.now (g.S.Sink.taken c.args.sink.now) c.new.result (Err c.new.result) c.args.state.now refl
-    (inr (refused_as s (room_for s.around.limit include_levels c.args.state.now (include_within c.args.state.now (found_of (standing_of c.args.found)))) c.args.state.now (InvalidOperation ∷ []) c.new.result c.new.ensures (roomless s include_levels c.args.state.now (include_within c.args.state.now (found_of (standing_of c.args.found))) (sym c.has_room.ensures ∙ c.if-not-has_room.true))))
-
-pub includes::run_included-returns-then-not-has_room-clause-failures : goal.includes::run_included-returns-then-not-has_room-clause-failures
-includes::run_included-returns-then-not-has_room-clause-failures g t c = inr (other c.new.result (InvalidOperation ∷ []) c.new.ensures tt, refl)
+    refuses s (room_for s.around.limit include_levels c.args.state.now (include_within c.args.state.now (found_of (standing_of c.args.found)))) c.args.state.now c.args.left.now (g.S.Sink.taken c.args.sink.now) (λ (u : Unit {0}). done) c.new.result c.args.state.now
+    (refused_as s (room_for s.around.limit include_levels c.args.state.now (include_within c.args.state.now (found_of (standing_of c.args.found)))) c.args.state.now (InvalidOperation ∷ []) c.new.result c.new.ensures (roomless s include_levels c.args.state.now (include_within c.args.state.now (found_of (standing_of c.args.found))) (sym c.has_room.ensures ∙ c.if-not-has_room.true)))
 
 pub includes::run_included-returns-then-not-has_room-clause-keeps : goal.includes::run_included-returns-then-not-has_room-clause-keeps
 includes::run_included-returns-then-not-has_room-clause-keeps g t c = world_stays c.args.state.now
@@ -706,7 +683,7 @@ includes::run_included-returns-in_err-caller-clause-plan g t c =
 
 pub includes::run_included-returns-in_err-caller-clause-failures : goal.includes::run_included-returns-in_err-caller-clause-failures
 includes::run_included-returns-in_err-caller-clause-failures g t c =
-    tells_other c.from_residual.result _ (g.S.Sink.failures c.args.sink.now) c.from_residual.ensures.1 (other _ (OutOfMemory ∷ []) c.in_err-caller.ensures.refused tt)
+    tells_other c.from_residual.result c.in_err-caller.field-0.0 (g.S.Sink.failures c.args.sink.now) c.from_residual.ensures.1
 
 pub includes::run_included-returns-in_err-caller-clause-keeps : goal.includes::run_included-returns-in_err-caller-clause-keeps
 includes::run_included-returns-in_err-caller-clause-keeps g t c = stays_same c.args.state.now c.enter_include.new.self c.in_err-caller.ensures.unchanged
@@ -744,10 +721,10 @@ includes::run_included-returns-in-Err-clause-plan g t c =
     (g.T.Templates.standing c.args.program.templates.now) (g.T.Templates.joins c.args.program.templates.now) (g.T.Callbacks.callables c.args.program.templates.now) (option_map standing_of c.args.program.root) c.args.program.rules include_levels c.args.state.now y
     (keyed (g.T.Templates.standing c.args.program.templates.now) (g.T.Templates.joins c.args.program.templates.now) (g.T.Callbacks.callables c.args.program.templates.now) (option_map standing_of c.args.program.root) c.args.program.rules y.key.stream (code_in c.args.found.code.now) at) refl
     (sym c.has_room.ensures ∙ c.if-not-has_room.false) c.args.left.now c.run_whole-ran.new.left (g.S.Sink.taken c.args.sink.now) (g.S.Sink.taken c.run_whole-ran.new.sink) c.enter_include.new.self c.run_whole-ran.new.state
-    c.in_ok-caller.ensures.within _ _ (λ (u : Unit {0}). done) c.in-Err.error c.wrapped.result c.run_whole-ran.result c.leave_include.new.self c.in-Err.is (c.run_whole-ran.ensures.runs y.key.stream at) c.wrapped.ensures
+    c.in_ok-caller.ensures.within _ _ (λ (u : Unit {0}). done) c.in-Err.stop c.wrapped.result c.run_whole-ran.result c.leave_include.new.self c.in-Err.is (c.run_whole-ran.ensures.runs y.key.stream at) c.wrapped.ensures
 
 pub includes::run_included-returns-in-Ok-clause-failures : goal.includes::run_included-returns-in-Ok-clause-failures
-includes::run_included-returns-in-Ok-clause-failures g t c = subst (λ r. TellsFailures r (g.S.Sink.failures c.args.sink.now) (g.S.Sink.failures c.run_whole-ran.new.sink)) c.in-Ok.is c.run_whole-ran.ensures.failures
+includes::run_included-returns-in-Ok-clause-failures g t c = ended_tells _ c.run_whole-ran.result (g.S.Sink.failures c.args.sink.now) (g.S.Sink.failures c.run_whole-ran.new.sink) c.in-Ok.is c.run_whole-ran.ensures.failures
 
 pub includes::run_included-returns-in-Ok-clause-keeps : goal.includes::run_included-returns-in-Ok-clause-keeps
 includes::run_included-returns-in-Ok-clause-keeps g t c =
@@ -758,8 +735,8 @@ includes::run_included-returns-in-Ok-clause-keeps g t c =
 
 pub includes::run_included-returns-in-Err-clause-failures : goal.includes::run_included-returns-in-Err-clause-failures
 includes::run_included-returns-in-Err-clause-failures g t c =
-    tells_wrapped (Unit {0}) (Unit {0}) BadInclude c.in-Err.error c.wrapped.result (g.S.Sink.failures c.args.sink.now) (g.S.Sink.failures c.run_whole-ran.new.sink) tt c.wrapped.ensures
-    (tells_as c.run_whole-ran.result c.in-Err.error (g.S.Sink.failures c.args.sink.now) (g.S.Sink.failures c.run_whole-ran.new.sink) c.in-Err.is c.run_whole-ran.ensures.failures)
+    tells_wrapped (Unit {0}) (Unit {0}) BadInclude c.in-Err.stop c.wrapped.result (g.S.Sink.failures c.args.sink.now) (g.S.Sink.failures c.run_whole-ran.new.sink) c.wrapped.ensures
+    (tells_as c.run_whole-ran.result c.in-Err.stop (g.S.Sink.failures c.args.sink.now) (g.S.Sink.failures c.run_whole-ran.new.sink) c.in-Err.is c.run_whole-ran.ensures.failures)
 
 pub includes::run_included-returns-in-Err-clause-keeps : goal.includes::run_included-returns-in-Err-clause-keeps
 includes::run_included-returns-in-Err-clause-keeps g t c =
@@ -806,7 +783,7 @@ whole::run_whole-returns-in_default-get-clause-runs g t c here at =
     key_lost (g.T.Templates.standing c.args.program.templates.now) (g.T.Templates.joins c.args.program.templates.now) (g.T.Callbacks.callables c.args.program.templates.now) (option_map standing_of c.args.program.root) c.args.program.rules (whole_of here) c.args.state.now c.args.left.now (g.S.Sink.taken c.args.sink.now) h.code h.world h.mid h.reached h.come h.operands c.loop.state c.loop.left (g.S.Sink.taken c.loop.sink) h.ends (Unit {0}) c.in-Some.name.now c.new.result c.loop.state (sym c.in-Some.ensures) (sym c.in_default-get.ensures.found) c.new.ensures
 
 pub whole::run_whole-returns-in_default-get-clause-failures : goal.whole::run_whole-returns-in_default-get-clause-failures
-whole::run_whole-returns-in_default-get-clause-failures g t c = inr (other c.new.result (TemplateNotFound ∷ []) c.new.ensures tt, c.loop.invariant.2)
+whole::run_whole-returns-in_default-get-clause-failures g t c = c.loop.invariant.2
 
 pub whole::run_whole-returns-in_default-get-clause-keeps : goal.whole::run_whole-returns-in_default-get-clause-keeps
 whole::run_whole-returns-in_default-get-clause-keeps g t c = c.loop.invariant.1
@@ -907,13 +884,13 @@ pub entering::enter-returns-in_err-value-in-FastRecurse-clause-does : goal.enter
 entering::enter-returns-in_err-value-in-FastRecurse-clause-does g t c =
     let s = programs_under (g.T.Templates.standing c.args.program.templates.now) (g.T.Templates.joins c.args.program.templates.now) (g.T.Callbacks.callables c.args.program.templates.now) (option_map standing_of c.args.program.root) c.args.program.rules in
     does_as s codes.fast_recurse (code_of c.args.instruction.now) _ _ _ _ c.from_residual-in_err-value-in-FastRecurse.result _ _ _ _ (ap code_of c.in-FastRecurse.is)
-    (does_steps s codes.fast_recurse _ _ _ _ c.from_residual-in_err-value-in-FastRecurse.result _ _
-    (lost_out s codes.fast_recurse _ _ c.from_residual-in_err-value-in-FastRecurse.result suc _ _ _ (world_stays c.args.state.now)
-    (λ next before place. recurse_lacks next before place _ c.in_err-value-in-FastRecurse.ensures.none) c.in_err-value-in-FastRecurse.ensures.kind c.from_residual-in_err-value-in-FastRecurse.ensures.1))
+    (does_lost s codes.fast_recurse _ _ _ _ _ c.from_residual-in_err-value-in-FastRecurse.result _ _ c.from_residual-in_err-value-in-FastRecurse.ensures.1
+    (lost_out s codes.fast_recurse _ _ (Err _) suc _ _ _ (world_stays c.args.state.now)
+    (λ next before place. recurse_lacks next before place _ c.in_err-value-in-FastRecurse.ensures.none) c.in_err-value-in-FastRecurse.ensures.kind refl))
 
 pub entering::enter-returns-in_err-value-in-FastRecurse-clause-failures : goal.entering::enter-returns-in_err-value-in-FastRecurse-clause-failures
 entering::enter-returns-in_err-value-in-FastRecurse-clause-failures g t c =
-    tells_other c.from_residual-in_err-value-in-FastRecurse.result _ (g.S.Sink.failures c.args.sink.now) c.from_residual-in_err-value-in-FastRecurse.ensures.1 (other _ (BadStream ∷ []) c.in_err-value-in-FastRecurse.ensures.kind tt)
+    tells_other c.from_residual-in_err-value-in-FastRecurse.result c.in_err-value-in-FastRecurse.field-0.0 (g.S.Sink.failures c.args.sink.now) c.from_residual-in_err-value-in-FastRecurse.ensures.1
 
 pub entering::enter-returns-in_ok-value-in-FastRecurse-clause-does : goal.entering::enter-returns-in_ok-value-in-FastRecurse-clause-does
 entering::enter-returns-in_ok-value-in-FastRecurse-clause-does g t c =
@@ -924,12 +901,12 @@ pub entering::enter-returns-in_err-value-in-Include-clause-does : goal.entering:
 entering::enter-returns-in_err-value-in-Include-clause-does g t c =
     let s = programs_under (g.T.Templates.standing c.args.program.templates.now) (g.T.Templates.joins c.args.program.templates.now) (g.T.Callbacks.callables c.args.program.templates.now) (option_map standing_of c.args.program.root) c.args.program.rules in
     does_as s (codes.include c.in-Include.ignore_missing) (code_of c.args.instruction.now) _ _ _ _ c.from_residual.result _ _ _ _ (ap code_of c.in-Include.is)
-    (does_steps s (codes.include c.in-Include.ignore_missing) _ _ _ _ c.from_residual.result _ _
-    (lost_one s (codes.include c.in-Include.ignore_missing) _ _ c.from_residual.result suc _ _ _ (world_stays c.args.state.now) tt c.in_err-value-in-Include.ensures.none c.in_err-value-in-Include.ensures.kind c.from_residual.ensures.1))
+    (does_lost s (codes.include c.in-Include.ignore_missing) _ _ _ _ _ c.from_residual.result _ _ c.from_residual.ensures.1
+    (lost_one s (codes.include c.in-Include.ignore_missing) _ _ (Err _) suc _ _ _ (world_stays c.args.state.now) tt c.in_err-value-in-Include.ensures.none c.in_err-value-in-Include.ensures.kind refl))
 
 pub entering::enter-returns-in_err-value-in-Include-clause-failures : goal.entering::enter-returns-in_err-value-in-Include-clause-failures
 entering::enter-returns-in_err-value-in-Include-clause-failures g t c =
-    tells_other c.from_residual.result _ (g.S.Sink.failures c.args.sink.now) c.from_residual.ensures.1 (other _ (BadStream ∷ []) c.in_err-value-in-Include.ensures.kind tt)
+    tells_other c.from_residual.result c.in_err-value-in-Include.field-0.0 (g.S.Sink.failures c.args.sink.now) c.from_residual.ensures.1
 
 pub entering::enter-returns-in_ok-value-in-Include-clause-does : goal.entering::enter-returns-in_ok-value-in-Include-clause-does
 entering::enter-returns-in_ok-value-in-Include-clause-does g t c =
@@ -950,12 +927,12 @@ pub entering::enter-returns-in_err-value-in-LoadBlocks-clause-does : goal.enteri
 entering::enter-returns-in_err-value-in-LoadBlocks-clause-does g t c =
     let s = programs_under (g.T.Templates.standing c.args.program.templates.now) (g.T.Templates.joins c.args.program.templates.now) (g.T.Callbacks.callables c.args.program.templates.now) (option_map standing_of c.args.program.root) c.args.program.rules in
     does_as s codes.load_blocks (code_of c.args.instruction.now) _ _ _ _ c.from_residual-in_err-value-in-LoadBlocks.result _ _ _ _ (ap code_of c.in-LoadBlocks.is)
-    (does_steps s codes.load_blocks _ _ _ _ c.from_residual-in_err-value-in-LoadBlocks.result _ _
-    (lost_one s codes.load_blocks _ _ c.from_residual-in_err-value-in-LoadBlocks.result suc _ _ _ (world_stays c.args.state.now) tt c.in_err-value-in-LoadBlocks.ensures.none c.in_err-value-in-LoadBlocks.ensures.kind c.from_residual-in_err-value-in-LoadBlocks.ensures.1))
+    (does_lost s codes.load_blocks _ _ _ _ _ c.from_residual-in_err-value-in-LoadBlocks.result _ _ c.from_residual-in_err-value-in-LoadBlocks.ensures.1
+    (lost_one s codes.load_blocks _ _ (Err _) suc _ _ _ (world_stays c.args.state.now) tt c.in_err-value-in-LoadBlocks.ensures.none c.in_err-value-in-LoadBlocks.ensures.kind refl))
 
 pub entering::enter-returns-in_err-value-in-LoadBlocks-clause-failures : goal.entering::enter-returns-in_err-value-in-LoadBlocks-clause-failures
 entering::enter-returns-in_err-value-in-LoadBlocks-clause-failures g t c =
-    tells_other c.from_residual-in_err-value-in-LoadBlocks.result _ (g.S.Sink.failures c.args.sink.now) c.from_residual-in_err-value-in-LoadBlocks.ensures.1 (other _ (BadStream ∷ []) c.in_err-value-in-LoadBlocks.ensures.kind tt)
+    tells_other c.from_residual-in_err-value-in-LoadBlocks.result c.in_err-value-in-LoadBlocks.field-0.0 (g.S.Sink.failures c.args.sink.now) c.from_residual-in_err-value-in-LoadBlocks.ensures.1
 
 pub entering::enter-returns-in_ok-value-in-LoadBlocks-clause-does : goal.entering::enter-returns-in_ok-value-in-LoadBlocks-clause-does
 entering::enter-returns-in_ok-value-in-LoadBlocks-clause-does g t c =
@@ -963,13 +940,17 @@ entering::enter-returns-in_ok-value-in-LoadBlocks-clause-does g t c =
     load_does s (code_of c.args.instruction.now) c.in_ok-value-in-LoadBlocks.value _ _ _ _ _ c.extend.result _ _ _ c.extend.ensures.keeps (ap code_of c.in-LoadBlocks.is) c.in_ok-value-in-LoadBlocks.ensures.taken (c.extend.ensures.plan c.args.left.now (g.S.Sink.taken c.args.sink.now))
 
 pub entering::enter-returns-in_ok-value-in-LoadBlocks-clause-failures : goal.entering::enter-returns-in_ok-value-in-LoadBlocks-clause-failures
-entering::enter-returns-in_ok-value-in-LoadBlocks-clause-failures g t c = spared_tells c.extend.result (g.S.Sink.failures c.args.sink.now) c.extend.ensures.spares
+entering::enter-returns-in_ok-value-in-LoadBlocks-clause-failures g t c = spared c.extend.result (g.S.Sink.failures c.args.sink.now) c.extend.ensures.spares
 
 pub entering::enter-returns-in_err-args-in-CallFunction-clause-does : goal.entering::enter-returns-in_err-args-in-CallFunction-clause-does
 entering::enter-returns-in_err-args-in-CallFunction-clause-does g t c =
     let s = programs_under (g.T.Templates.standing c.args.program.templates.now) (g.T.Templates.joins c.args.program.templates.now) (g.T.Callbacks.callables c.args.program.templates.now) (option_map standing_of c.args.program.root) c.args.program.rules in
     super_lost s (code_of c.args.instruction.now) _ c.in-CallFunction.count c.widened.result (ap code_of c.in-CallFunction.is) c.widened.ensures _ c.args.state.now c.args.left.now (g.S.Sink.taken c.args.sink.now) _
     c.from_residual-in_err-args-in-CallFunction.result _ c.args.state.now (world_stays c.args.state.now) c.in_err-args-in-CallFunction.ensures.refused c.from_residual-in_err-args-in-CallFunction.ensures.1
+
+pub entering::enter-returns-in_err-args-in-CallFunction-clause-failures : goal.entering::enter-returns-in_err-args-in-CallFunction-clause-failures
+entering::enter-returns-in_err-args-in-CallFunction-clause-failures g t c =
+    tells_other c.from_residual-in_err-args-in-CallFunction.result c.in_err-args-in-CallFunction.field-0.0 (g.S.Sink.failures c.args.sink.now) c.from_residual-in_err-args-in-CallFunction.ensures.1
 
 pub entering::enter-returns-then-not-is_none-clause-does : goal.entering::enter-returns-then-not-is_none-clause-does
 entering::enter-returns-then-not-is_none-clause-does g t c =
@@ -984,12 +965,21 @@ entering::enter-returns-in_err-text-in-CallFunction-clause-does g t c =
     (ap (λ vs. length vs == 0) (sym c.as_slice.ensures.value) ∙ sym c.is_none.ensures ∙ c.if-not-is_none.false) c.call_super.new.state c.call_super.new.left (g.S.Sink.taken c.call_super.new.sink) _ _
     c.from_residual-in_err-text-in-CallFunction.result _ c.in_err-text-in-CallFunction.ensures.keeps c.in_err-text-in-CallFunction.ensures.plan c.from_residual-in_err-text-in-CallFunction.ensures.1
 
+pub entering::enter-returns-in_err-text-in-CallFunction-clause-failures : goal.entering::enter-returns-in_err-text-in-CallFunction-clause-failures
+entering::enter-returns-in_err-text-in-CallFunction-clause-failures g t c =
+    tells_on Val c.from_residual-in_err-text-in-CallFunction.result _ (g.S.Sink.failures c.args.sink.now) (g.S.Sink.failures c.args.sink.now) (g.S.Sink.failures c.call_super.new.sink)
+    c.from_residual-in_err-text-in-CallFunction.ensures.1 refl c.in_err-text-in-CallFunction.ensures.failures
+
+pub entering::enter-returns-in_ok-text-in-CallFunction-clause-failures : goal.entering::enter-returns-in_ok-text-in-CallFunction-clause-failures
+entering::enter-returns-in_ok-text-in-CallFunction-clause-failures g t c =
+    counts_after c.push.result c.told_by.result (g.S.Sink.failures c.args.sink.now) (g.S.Sink.failures c.call_super.new.sink) c.in_ok-text-in-CallFunction.ensures.failures c.told_by.ensures
+
 pub entering::enter-returns-in_ok-text-in-CallFunction-clause-does : goal.entering::enter-returns-in_ok-text-in-CallFunction-clause-does
 entering::enter-returns-in_ok-text-in-CallFunction-clause-does g t c =
     let s = programs_under (g.T.Templates.standing c.args.program.templates.now) (g.T.Templates.joins c.args.program.templates.now) (g.T.Callbacks.callables c.args.program.templates.now) (option_map standing_of c.args.program.root) c.args.program.rules in
     named_does s (code_of c.args.instruction.now) _ c.in-CallFunction.count c.widened.result (ap code_of c.in-CallFunction.is) c.widened.ensures (sym (ap task_of (ap code_of c.in-CallFunction.is)) ∙ c.requires) _ _ c.args.state.now c.args.left.now (g.S.Sink.taken c.args.sink.now) c.in_ok-args-in-CallFunction.args.items c.in_ok-args-in-CallFunction.ensures.taken
     (ap (λ vs. length vs == 0) (sym c.as_slice.ensures.value) ∙ sym c.is_none.ensures ∙ c.if-not-is_none.false) c.call_super.new.state c.call_super.new.left (g.S.Sink.taken c.call_super.new.sink)
-    c.in_ok-text-in-CallFunction.text c.push.result _ c.in_ok-text-in-CallFunction.ensures.keeps c.in_ok-text-in-CallFunction.ensures.plan c.push.ensures.pushed c.push.ensures.refused
+    c.in_ok-text-in-CallFunction.text c.push.result c.told_by.result _ c.in_ok-text-in-CallFunction.ensures.keeps c.in_ok-text-in-CallFunction.ensures.plan c.push.ensures.pushed c.push.ensures.refused c.told_by.ensures
 
 -- macros that are called
 pub macros::call_macro-returns-in_err-begun-clause-plan : goal.macros::call_macro-returns-in_err-begun-clause-plan
@@ -999,7 +989,7 @@ macros::call_macro-returns-in_err-begun-clause-plan g t c =
 
 pub macros::call_macro-returns-in_err-begun-clause-failures : goal.macros::call_macro-returns-in_err-begun-clause-failures
 macros::call_macro-returns-in_err-begun-clause-failures g t c =
-    tells_other c.from_residual.result _ (g.S.Sink.failures c.args.sink.now) c.from_residual.ensures.1 c.in_err-begun.ensures.spares
+    tells_other c.from_residual.result c.in_err-begun.field-0.0 (g.S.Sink.failures c.args.sink.now) c.from_residual.ensures.1
 
 pub macros::call_macro-returns-in_err-begun-clause-keeps : goal.macros::call_macro-returns-in_err-begun-clause-keeps
 macros::call_macro-returns-in_err-begun-clause-keeps g t c = world_stays c.args.state.now
@@ -1017,7 +1007,7 @@ macros::call_macro-returns-in_err-caller-clause-plan g t c =
 
 pub macros::call_macro-returns-in_err-caller-clause-failures : goal.macros::call_macro-returns-in_err-caller-clause-failures
 macros::call_macro-returns-in_err-caller-clause-failures g t c =
-    tells_other c.from_residual-in_err-caller.result _ (g.S.Sink.failures c.args.sink.now) c.from_residual-in_err-caller.ensures.1 (other _ (OutOfMemory ∷ []) c.in_err-caller.ensures.refused tt)
+    tells_other c.from_residual-in_err-caller.result c.in_err-caller.field-0.0 (g.S.Sink.failures c.args.sink.now) c.from_residual-in_err-caller.ensures.1
 
 pub macros::call_macro-returns-in_err-caller-clause-keeps : goal.macros::call_macro-returns-in_err-caller-clause-keeps
 macros::call_macro-returns-in_err-caller-clause-keeps g t c = stays_same c.args.state.now c.enter_macro.new.self c.in_err-caller.ensures.unchanged
@@ -1043,14 +1033,14 @@ macros::call_macro-returns-in-Ok-clause-plan g t c =
     let begun = c.in_ok-begun.begun in
     let found = c.in_ok-begun.ensures.begun in
     let y = macro_entered (g.T.Templates.standing c.args.program.templates.now) (g.T.Templates.joins c.args.program.templates.now) (g.T.Callbacks.callables c.args.program.templates.now) (option_map standing_of c.args.program.root) c.args.program.rules c.args.state.now c.args.pending (macro_plan s.around.limit c.args.pending c.args.state.now c.args.args.items (macro_of c.args.state.now c.args.id c.args.number)) begun found in
-    plan_as value s (macro_plan s.around.limit c.args.pending c.args.state.now c.args.args.items (macro_of c.args.state.now c.args.id c.args.number)) _ c.args.state.now c.args.left.now (g.S.Sink.taken c.args.sink.now) c.leave_macro_text.result c.leave_macro_text.new.self c.run_from-ran.new.left (g.S.Sink.taken c.run_from-ran.new.sink) found.planned
+    plan_as value s (macro_plan s.around.limit c.args.pending c.args.state.now c.args.args.items (macro_of c.args.state.now c.args.id c.args.number)) _ c.args.state.now c.args.left.now (g.S.Sink.taken c.args.sink.now) c.told_by.result c.leave_macro_text.new.self c.run_from-ran.new.left (g.S.Sink.taken c.run_from-ran.new.sink) found.planned
     (within_gives (g.T.Templates.standing c.args.program.templates.now) (g.T.Templates.joins c.args.program.templates.now) (g.T.Callbacks.callables c.args.program.templates.now) (option_map standing_of c.args.program.root) c.args.program.rules (macro_levels + c.args.pending) c.args.state.now y
     (macro_keyed (g.T.Templates.standing c.args.program.templates.now) (g.T.Templates.joins c.args.program.templates.now) (g.T.Callbacks.callables c.args.program.templates.now) (option_map standing_of c.args.program.root) c.args.program.rules c.args.state.now c.args.pending (macro_plan s.around.limit c.args.pending c.args.state.now c.args.args.items (macro_of c.args.state.now c.args.id c.args.number)) begun found) refl found.room c.args.left.now c.run_from-ran.new.left (g.S.Sink.taken c.args.sink.now) (g.S.Sink.taken c.run_from-ran.new.sink) c.enter_macro.new.self c.run_from-ran.new.state
     (macro_begins (g.T.Templates.standing c.args.program.templates.now) (g.T.Templates.joins c.args.program.templates.now) (g.T.Callbacks.callables c.args.program.templates.now) (option_map standing_of c.args.program.root) c.args.program.rules c.args.state.now c.args.pending (macro_plan s.around.limit c.args.pending c.args.state.now c.args.args.items (macro_of c.args.state.now c.args.id c.args.number)) begun found c.enter_macro.new.self c.in_ok-caller.ensures.within) _ (captured c.args.state.now.escape (innermost (outermost (suc (length c.args.state.now.captures)) c.run_from-ran.new.state.captures)))
-    c.run_from-ran.result c.leave_macro_text.result c.leave_macro_text.new.self c.in-Ok.is
+    c.run_from-ran.result c.leave_macro_text.result c.told_by.result c.leave_macro_text.new.self c.in-Ok.is
     (macro_runs (g.T.Templates.standing c.args.program.templates.now) (g.T.Templates.joins c.args.program.templates.now) (g.T.Callbacks.callables c.args.program.templates.now) (option_map standing_of c.args.program.root) c.args.program.rules c.args.state.now c.args.pending (macro_plan s.around.limit c.args.pending c.args.state.now c.args.args.items (macro_of c.args.state.now c.args.id c.args.number)) begun found c.enter_macro.new.self c.args.left.now c.run_from-ran.new.left (g.S.Sink.taken c.args.sink.now) (g.S.Sink.taken c.run_from-ran.new.sink) c.run_from-ran.result c.run_from-ran.new.state c.run_from-ran.ensures.runs) refl
     (c.leave_macro_text.ensures.ended ∙ ap (λ (k : Caller). after_by calls_macro k c.run_from-ran.new.state) c.in_ok-caller.ensures.kept)
-    (as_kept c.leave_macro_text.result c.in_ok-caller.caller c.args.state.now c.run_from-ran.new.state.captures c.in_ok-caller.ensures.kept c.leave_macro_text.ensures.given) c.leave_macro_text.ensures.refused)
+    (as_kept c.leave_macro_text.result c.in_ok-caller.caller c.args.state.now c.run_from-ran.new.state.captures c.in_ok-caller.ensures.kept c.leave_macro_text.ensures.given) c.leave_macro_text.ensures.refused c.told_by.ensures)
 
 pub macros::call_macro-returns-clause-plan : goal.macros::call_macro-returns-clause-plan
 macros::call_macro-returns-clause-plan g t c =
@@ -1058,16 +1048,16 @@ macros::call_macro-returns-clause-plan g t c =
     let begun = c.in_ok-begun.begun in
     let found = c.in_ok-begun.ensures.begun in
     let y = macro_entered (g.T.Templates.standing c.args.program.templates.now) (g.T.Templates.joins c.args.program.templates.now) (g.T.Callbacks.callables c.args.program.templates.now) (option_map standing_of c.args.program.root) c.args.program.rules c.args.state.now c.args.pending (macro_plan s.around.limit c.args.pending c.args.state.now c.args.args.items (macro_of c.args.state.now c.args.id c.args.number)) begun found in
-    plan_as value s (macro_plan s.around.limit c.args.pending c.args.state.now c.args.args.items (macro_of c.args.state.now c.args.id c.args.number)) _ c.args.state.now c.args.left.now (g.S.Sink.taken c.args.sink.now) (Err c.in-Err.error) c.leave_macro.new.self c.run_from-ran.new.left (g.S.Sink.taken c.run_from-ran.new.sink) found.planned
+    plan_as value s (macro_plan s.around.limit c.args.pending c.args.state.now c.args.args.items (macro_of c.args.state.now c.args.id c.args.number)) _ c.args.state.now c.args.left.now (g.S.Sink.taken c.args.sink.now) (Err c.in-Err.stop) c.leave_macro.new.self c.run_from-ran.new.left (g.S.Sink.taken c.run_from-ran.new.sink) found.planned
     (within_breaks (g.T.Templates.standing c.args.program.templates.now) (g.T.Templates.joins c.args.program.templates.now) (g.T.Callbacks.callables c.args.program.templates.now) (option_map standing_of c.args.program.root) c.args.program.rules (macro_levels + c.args.pending) c.args.state.now y
     (macro_keyed (g.T.Templates.standing c.args.program.templates.now) (g.T.Templates.joins c.args.program.templates.now) (g.T.Callbacks.callables c.args.program.templates.now) (option_map standing_of c.args.program.root) c.args.program.rules c.args.state.now c.args.pending (macro_plan s.around.limit c.args.pending c.args.state.now c.args.args.items (macro_of c.args.state.now c.args.id c.args.number)) begun found) refl found.room c.args.left.now c.run_from-ran.new.left (g.S.Sink.taken c.args.sink.now) (g.S.Sink.taken c.run_from-ran.new.sink) c.enter_macro.new.self c.run_from-ran.new.state
-    (macro_begins (g.T.Templates.standing c.args.program.templates.now) (g.T.Templates.joins c.args.program.templates.now) (g.T.Callbacks.callables c.args.program.templates.now) (option_map standing_of c.args.program.root) c.args.program.rules c.args.state.now c.args.pending (macro_plan s.around.limit c.args.pending c.args.state.now c.args.args.items (macro_of c.args.state.now c.args.id c.args.number)) begun found c.enter_macro.new.self c.in_ok-caller.ensures.within) _ _ value c.in-Err.error c.in-Err.error
+    (macro_begins (g.T.Templates.standing c.args.program.templates.now) (g.T.Templates.joins c.args.program.templates.now) (g.T.Callbacks.callables c.args.program.templates.now) (option_map standing_of c.args.program.root) c.args.program.rules c.args.state.now c.args.pending (macro_plan s.around.limit c.args.pending c.args.state.now c.args.args.items (macro_of c.args.state.now c.args.id c.args.number)) begun found c.enter_macro.new.self c.in_ok-caller.ensures.within) _ _ value c.in-Err.stop c.in-Err.stop
     c.run_from-ran.result c.leave_macro.new.self c.in-Err.is
     (macro_runs (g.T.Templates.standing c.args.program.templates.now) (g.T.Templates.joins c.args.program.templates.now) (g.T.Callbacks.callables c.args.program.templates.now) (option_map standing_of c.args.program.root) c.args.program.rules c.args.state.now c.args.pending (macro_plan s.around.limit c.args.pending c.args.state.now c.args.args.items (macro_of c.args.state.now c.args.id c.args.number)) begun found c.enter_macro.new.self c.args.left.now c.run_from-ran.new.left (g.S.Sink.taken c.args.sink.now) (g.S.Sink.taken c.run_from-ran.new.sink) c.run_from-ran.result c.run_from-ran.new.state c.run_from-ran.ensures.runs) refl)
 
 pub macros::call_macro-returns-in-Ok-clause-failures : goal.macros::call_macro-returns-in-Ok-clause-failures
 macros::call_macro-returns-in-Ok-clause-failures g t c =
-    given_tells _ c.run_from-ran.result c.leave_macro_text.result (g.S.Sink.failures c.args.sink.now) (g.S.Sink.failures c.run_from-ran.new.sink) c.in-Ok.is c.run_from-ran.ensures.failures c.leave_macro_text.ensures.refused
+    given_tells _ c.run_from-ran.result c.leave_macro_text.result c.told_by.result (g.S.Sink.failures c.args.sink.now) (g.S.Sink.failures c.run_from-ran.new.sink) c.in-Ok.is c.run_from-ran.ensures.failures c.leave_macro_text.ensures.refused c.told_by.ensures
 
 pub macros::call_macro-returns-in-Ok-clause-keeps : goal.macros::call_macro-returns-in-Ok-clause-keeps
 macros::call_macro-returns-in-Ok-clause-keeps g t c =
@@ -1092,7 +1082,7 @@ macros::call_macro-returns-in-Ok-clause-frames g t c =
 
 pub macros::call_macro-returns-clause-failures : goal.macros::call_macro-returns-clause-failures
 macros::call_macro-returns-clause-failures g t c =
-    tells_as c.run_from-ran.result c.in-Err.error (g.S.Sink.failures c.args.sink.now) (g.S.Sink.failures c.run_from-ran.new.sink) c.in-Err.is c.run_from-ran.ensures.failures
+    tells_as c.run_from-ran.result c.in-Err.stop (g.S.Sink.failures c.args.sink.now) (g.S.Sink.failures c.run_from-ran.new.sink) c.in-Err.is c.run_from-ran.ensures.failures
 
 pub macros::call_macro-returns-clause-keeps : goal.macros::call_macro-returns-clause-keeps
 macros::call_macro-returns-clause-keeps g t c =
@@ -1124,7 +1114,7 @@ blocks::run_block_text-returns-in_err-found-clause-plan g t c =
 
 pub blocks::run_block_text-returns-in_err-found-clause-failures : goal.blocks::run_block_text-returns-in_err-found-clause-failures
 blocks::run_block_text-returns-in_err-found-clause-failures g t c =
-    tells_other c.from_residual.result _ (g.S.Sink.failures c.args.sink.now) c.from_residual.ensures.1 c.in_err-found.ensures.spares
+    tells_other c.from_residual.result c.in_err-found.field-0.0 (g.S.Sink.failures c.args.sink.now) c.from_residual.ensures.1
 
 pub blocks::run_block_text-returns-in_err-found-clause-keeps : goal.blocks::run_block_text-returns-in_err-found-clause-keeps
 blocks::run_block_text-returns-in_err-found-clause-keeps g t c = world_stays c.args.state.now
@@ -1132,14 +1122,10 @@ blocks::run_block_text-returns-in_err-found-clause-keeps g t c = world_stays c.a
 pub blocks::run_block_text-returns-then-not-has_room_beside-clause-plan : goal.blocks::run_block_text-returns-then-not-has_room_beside-clause-plan
 blocks::run_block_text-returns-then-not-has_room_beside-clause-plan g t c =
     let s = programs_under (g.T.Templates.standing c.args.program.templates.now) (g.T.Templates.joins c.args.program.templates.now) (g.T.Callbacks.callables c.args.program.templates.now) (option_map standing_of c.args.program.root) c.args.program.rules in
-    stops_first value s (text_plan s.around c.args.pending c.args.state.now c.args.name.now) c.args.state.now c.args.left.now (g.S.Sink.taken c.args.sink.now) c.new.result (Err c.new.result) c.args.state.now refl
-    (inr (refused_as s (text_plan s.around c.args.pending c.args.state.now c.args.name.now) c.args.state.now (InvalidOperation ∷ []) c.new.result c.new.ensures
+    refuses s (text_plan s.around c.args.pending c.args.state.now c.args.name.now) c.args.state.now c.args.left.now (g.S.Sink.taken c.args.sink.now) value c.new.result c.args.state.now
+    (refused_as s (text_plan s.around c.args.pending c.args.state.now c.args.name.now) c.args.state.now (InvalidOperation ∷ []) c.new.result c.new.ensures
     (refused_plan s (text_plan s.around c.args.pending c.args.state.now c.args.name.now) (room_for s.around.limit (1 + c.args.pending) c.args.state.now (text_within c.args.state.now c.args.pending (name_in c.in_ok-found.found) (home_of c.in_ok-found.found.home))) c.args.state.now (InvalidOperation ∷ []) (c.in_ok-found.ensures.found.planned (1 + c.args.pending) (text_within c.args.state.now c.args.pending))
-    (roomless s (1 + c.args.pending) c.args.state.now (text_within c.args.state.now c.args.pending (name_in c.in_ok-found.found) (home_of c.in_ok-found.found.home)) (sym c.has_room_beside.ensures ∙ c.if-not-has_room_beside.true)))))
-
-pub blocks::run_block_text-returns-then-not-has_room_beside-clause-failures : goal.blocks::run_block_text-returns-then-not-has_room_beside-clause-failures
-blocks::run_block_text-returns-then-not-has_room_beside-clause-failures g t c =
-    inr (other c.new.result (InvalidOperation ∷ []) c.new.ensures tt, refl)
+    (roomless s (1 + c.args.pending) c.args.state.now (text_within c.args.state.now c.args.pending (name_in c.in_ok-found.found) (home_of c.in_ok-found.found.home)) (sym c.has_room_beside.ensures ∙ c.if-not-has_room_beside.true))))
 
 pub blocks::run_block_text-returns-then-not-has_room_beside-clause-keeps : goal.blocks::run_block_text-returns-then-not-has_room_beside-clause-keeps
 blocks::run_block_text-returns-then-not-has_room_beside-clause-keeps g t c = world_stays c.args.state.now
@@ -1156,7 +1142,7 @@ blocks::run_block_text-returns-in_err-caller-clause-plan g t c =
 
 pub blocks::run_block_text-returns-in_err-caller-clause-failures : goal.blocks::run_block_text-returns-in_err-caller-clause-failures
 blocks::run_block_text-returns-in_err-caller-clause-failures g t c =
-    tells_other c.from_residual-in_err-caller.result _ (g.S.Sink.failures c.args.sink.now) c.from_residual-in_err-caller.ensures.1 (other _ (OutOfMemory ∷ []) c.in_err-caller.ensures.refused tt)
+    tells_other c.from_residual-in_err-caller.result c.in_err-caller.field-0.0 (g.S.Sink.failures c.args.sink.now) c.from_residual-in_err-caller.ensures.1
 
 pub blocks::run_block_text-returns-in_err-caller-clause-keeps : goal.blocks::run_block_text-returns-in_err-caller-clause-keeps
 blocks::run_block_text-returns-in_err-caller-clause-keeps g t c = stays_same c.args.state.now c.enter_block_text.new.self c.in_err-caller.ensures.unchanged
@@ -1182,14 +1168,14 @@ blocks::run_block_text-returns-in-Ok-clause-plan g t c =
     let stream = stream_in c.in_ok-found.found.block.now in
     let y = (text_within c.args.state.now c.args.pending (name_in c.in_ok-found.found) (home_of c.in_ok-found.found.home)) in
     let at = block_code (g.T.Templates.standing c.args.program.templates.now) (g.T.Templates.joins c.args.program.templates.now) (g.T.Callbacks.callables c.args.program.templates.now) (option_map standing_of c.args.program.root) c.args.program.rules home (name_in c.in_ok-found.found) stream c.in_ok-found.ensures.found.stands in
-    plan_as value s (text_plan s.around c.args.pending c.args.state.now c.args.name.now) _ c.args.state.now c.args.left.now (g.S.Sink.taken c.args.sink.now) c.leave_block_text.result c.leave_block_text.new.self c.run_whole-ran.new.left (g.S.Sink.taken c.run_whole-ran.new.sink)
+    plan_as value s (text_plan s.around c.args.pending c.args.state.now c.args.name.now) _ c.args.state.now c.args.left.now (g.S.Sink.taken c.args.sink.now) c.told_by.result c.leave_block_text.new.self c.run_whole-ran.new.left (g.S.Sink.taken c.run_whole-ran.new.sink)
     (c.in_ok-found.ensures.found.planned (1 + c.args.pending) (text_within c.args.state.now c.args.pending))
     (within_gives (g.T.Templates.standing c.args.program.templates.now) (g.T.Templates.joins c.args.program.templates.now) (g.T.Callbacks.callables c.args.program.templates.now) (option_map standing_of c.args.program.root) c.args.program.rules (1 + c.args.pending) c.args.state.now y (keyed (g.T.Templates.standing c.args.program.templates.now) (g.T.Templates.joins c.args.program.templates.now) (g.T.Callbacks.callables c.args.program.templates.now) (option_map standing_of c.args.program.root) c.args.program.rules y.key.stream stream.code at) refl
     (sym c.has_room_beside.ensures ∙ c.if-not-has_room_beside.false) c.args.left.now c.run_whole-ran.new.left (g.S.Sink.taken c.args.sink.now) (g.S.Sink.taken c.run_whole-ran.new.sink) c.enter_block_text.new.self c.run_whole-ran.new.state
     (c.in_ok-caller.ensures.within ∙ ap (λ n. (text_within c.args.state.now c.args.pending n home).begins) c.as_str-name.ensures.value) _ (captured c.args.state.now.escape (innermost (outermost (suc (length c.args.state.now.captures)) c.run_whole-ran.new.state.captures)))
-    c.run_whole-ran.result c.leave_block_text.result c.leave_block_text.new.self c.in-Ok.is (c.run_whole-ran.ensures.runs y.key.stream at) refl
+    c.run_whole-ran.result c.leave_block_text.result c.told_by.result c.leave_block_text.new.self c.in-Ok.is (c.run_whole-ran.ensures.runs y.key.stream at) refl
     (c.leave_block_text.ensures.ended ∙ ap (λ (k : Caller). after_by takes_block k c.run_whole-ran.new.state) c.in_ok-caller.ensures.kept)
-    (as_captured c.leave_block_text.result c.in_ok-caller.caller c.args.state.now c.run_whole-ran.new.state.captures c.in_ok-caller.ensures.kept c.leave_block_text.ensures.given) c.leave_block_text.ensures.refused)
+    (as_captured c.leave_block_text.result c.in_ok-caller.caller c.args.state.now c.run_whole-ran.new.state.captures c.in_ok-caller.ensures.kept c.leave_block_text.ensures.given) c.leave_block_text.ensures.refused c.told_by.ensures)
 
 pub blocks::run_block_text-returns-in-Err-clause-plan : goal.blocks::run_block_text-returns-in-Err-clause-plan
 blocks::run_block_text-returns-in-Err-clause-plan g t c =
@@ -1198,16 +1184,16 @@ blocks::run_block_text-returns-in-Err-clause-plan g t c =
     let stream = stream_in c.in_ok-found.found.block.now in
     let y = (text_within c.args.state.now c.args.pending (name_in c.in_ok-found.found) (home_of c.in_ok-found.found.home)) in
     let at = block_code (g.T.Templates.standing c.args.program.templates.now) (g.T.Templates.joins c.args.program.templates.now) (g.T.Callbacks.callables c.args.program.templates.now) (option_map standing_of c.args.program.root) c.args.program.rules home (name_in c.in_ok-found.found) stream c.in_ok-found.ensures.found.stands in
-    plan_as value s (text_plan s.around c.args.pending c.args.state.now c.args.name.now) _ c.args.state.now c.args.left.now (g.S.Sink.taken c.args.sink.now) (Err c.in-Err.error) c.leave_block.new.self c.run_whole-ran.new.left (g.S.Sink.taken c.run_whole-ran.new.sink)
+    plan_as value s (text_plan s.around c.args.pending c.args.state.now c.args.name.now) _ c.args.state.now c.args.left.now (g.S.Sink.taken c.args.sink.now) (Err c.in-Err.stop) c.leave_block.new.self c.run_whole-ran.new.left (g.S.Sink.taken c.run_whole-ran.new.sink)
     (c.in_ok-found.ensures.found.planned (1 + c.args.pending) (text_within c.args.state.now c.args.pending))
     (within_breaks (g.T.Templates.standing c.args.program.templates.now) (g.T.Templates.joins c.args.program.templates.now) (g.T.Callbacks.callables c.args.program.templates.now) (option_map standing_of c.args.program.root) c.args.program.rules (1 + c.args.pending) c.args.state.now y (keyed (g.T.Templates.standing c.args.program.templates.now) (g.T.Templates.joins c.args.program.templates.now) (g.T.Callbacks.callables c.args.program.templates.now) (option_map standing_of c.args.program.root) c.args.program.rules y.key.stream stream.code at) refl
     (sym c.has_room_beside.ensures ∙ c.if-not-has_room_beside.false) c.args.left.now c.run_whole-ran.new.left (g.S.Sink.taken c.args.sink.now) (g.S.Sink.taken c.run_whole-ran.new.sink) c.enter_block_text.new.self c.run_whole-ran.new.state
-    (c.in_ok-caller.ensures.within ∙ ap (λ n. (text_within c.args.state.now c.args.pending n home).begins) c.as_str-name.ensures.value) _ _ value c.in-Err.error c.in-Err.error
+    (c.in_ok-caller.ensures.within ∙ ap (λ n. (text_within c.args.state.now c.args.pending n home).begins) c.as_str-name.ensures.value) _ _ value c.in-Err.stop c.in-Err.stop
     c.run_whole-ran.result c.leave_block.new.self c.in-Err.is (c.run_whole-ran.ensures.runs y.key.stream at) refl)
 
 pub blocks::run_block_text-returns-in-Ok-clause-failures : goal.blocks::run_block_text-returns-in-Ok-clause-failures
 blocks::run_block_text-returns-in-Ok-clause-failures g t c =
-    given_tells _ c.run_whole-ran.result c.leave_block_text.result (g.S.Sink.failures c.args.sink.now) (g.S.Sink.failures c.run_whole-ran.new.sink) c.in-Ok.is c.run_whole-ran.ensures.failures c.leave_block_text.ensures.refused
+    given_tells _ c.run_whole-ran.result c.leave_block_text.result c.told_by.result (g.S.Sink.failures c.args.sink.now) (g.S.Sink.failures c.run_whole-ran.new.sink) c.in-Ok.is c.run_whole-ran.ensures.failures c.leave_block_text.ensures.refused c.told_by.ensures
 
 pub blocks::run_block_text-returns-in-Ok-clause-keeps : goal.blocks::run_block_text-returns-in-Ok-clause-keeps
 blocks::run_block_text-returns-in-Ok-clause-keeps g t c =
@@ -1228,7 +1214,7 @@ blocks::run_block_text-returns-in-Ok-clause-frames g t c =
 
 pub blocks::run_block_text-returns-in-Err-clause-failures : goal.blocks::run_block_text-returns-in-Err-clause-failures
 blocks::run_block_text-returns-in-Err-clause-failures g t c =
-    tells_as c.run_whole-ran.result c.in-Err.error (g.S.Sink.failures c.args.sink.now) (g.S.Sink.failures c.run_whole-ran.new.sink) c.in-Err.is c.run_whole-ran.ensures.failures
+    tells_as c.run_whole-ran.result c.in-Err.stop (g.S.Sink.failures c.args.sink.now) (g.S.Sink.failures c.run_whole-ran.new.sink) c.in-Err.is c.run_whole-ran.ensures.failures
 
 pub blocks::run_block_text-returns-in-Err-clause-keeps : goal.blocks::run_block_text-returns-in-Err-clause-keeps
 blocks::run_block_text-returns-in-Err-clause-keeps g t c =
@@ -1251,11 +1237,8 @@ blocks::run_block_text-returns-in-Err-clause-frames g t c =
 pub rounds::print_rounds-returns-in_default-clause-plan : goal.rounds::print_rounds-returns-in_default-clause-plan
 rounds::print_rounds-returns-in_default-clause-plan g t c =
     let s = programs_under (g.T.Templates.standing c.args.program.templates.now) (g.T.Templates.joins c.args.program.templates.now) (g.T.Callbacks.callables c.args.program.templates.now) (option_map standing_of c.args.program.root) c.args.program.rules in
-    stops_first (λ (u : Unit {0}). done) s (recurse_plan s.around c.args.state.now c.args.over) c.args.state.now c.args.left.now (g.S.Sink.taken c.args.sink.now) c.new.result (Err c.new.result) c.args.state.now refl (inr (no_loop_runs s c.args.state.now c.args.over c.new.result c.in_default.ensures c.new.ensures))
-
-pub rounds::print_rounds-returns-in_default-clause-failures : goal.rounds::print_rounds-returns-in_default-clause-failures
-rounds::print_rounds-returns-in_default-clause-failures g t c =
-    inr (other c.new.result (UnknownFunction ∷ []) c.new.ensures tt, refl)
+    refuses s (recurse_plan s.around c.args.state.now c.args.over) c.args.state.now c.args.left.now (g.S.Sink.taken c.args.sink.now) (λ (u : Unit {0}). done) c.new.result c.args.state.now
+    (no_loop_runs s c.args.state.now c.args.over c.new.result c.in_default.ensures c.new.ensures)
 
 pub rounds::print_rounds-returns-in_default-clause-keeps : goal.rounds::print_rounds-returns-in_default-clause-keeps
 rounds::print_rounds-returns-in_default-clause-keeps g t c = world_stays c.args.state.now
@@ -1268,7 +1251,7 @@ rounds::print_rounds-returns-in_err-again-clause-plan g t c =
 
 pub rounds::print_rounds-returns-in_err-again-clause-failures : goal.rounds::print_rounds-returns-in_err-again-clause-failures
 rounds::print_rounds-returns-in_err-again-clause-failures g t c =
-    tells_other c.from_residual.result _ (g.S.Sink.failures c.args.sink.now) c.from_residual.ensures.1 (other _ (InvalidOperation ∷ []) c.in_err-again.ensures.refused.1 tt)
+    tells_other c.from_residual.result c.in_err-again.field-0.0 (g.S.Sink.failures c.args.sink.now) c.from_residual.ensures.1
 
 pub rounds::print_rounds-returns-in_err-again-clause-keeps : goal.rounds::print_rounds-returns-in_err-again-clause-keeps
 rounds::print_rounds-returns-in_err-again-clause-keeps g t c = world_stays c.args.state.now
@@ -1281,7 +1264,7 @@ rounds::print_rounds-returns-in_err-begun-clause-plan g t c =
 
 pub rounds::print_rounds-returns-in_err-begun-clause-failures : goal.rounds::print_rounds-returns-in_err-begun-clause-failures
 rounds::print_rounds-returns-in_err-begun-clause-failures g t c =
-    tells_other c.from_residual-in_err-begun.result _ (g.S.Sink.failures c.args.sink.now) c.from_residual-in_err-begun.ensures.1 c.in_err-begun.ensures.spares
+    tells_spared c.from_residual-in_err-begun.result _ (g.S.Sink.failures c.args.sink.now) c.from_residual-in_err-begun.ensures.1 c.in_err-begun.ensures.spares
 
 pub rounds::print_rounds-returns-in_err-begun-clause-keeps : goal.rounds::print_rounds-returns-in_err-begun-clause-keeps
 rounds::print_rounds-returns-in_err-begun-clause-keeps g t c = world_stays c.args.state.now
@@ -1299,7 +1282,7 @@ rounds::print_rounds-returns-in_err-caller-clause-plan g t c =
 
 pub rounds::print_rounds-returns-in_err-caller-clause-failures : goal.rounds::print_rounds-returns-in_err-caller-clause-failures
 rounds::print_rounds-returns-in_err-caller-clause-failures g t c =
-    tells_other c.from_residual-in_err-caller.result _ (g.S.Sink.failures c.args.sink.now) c.from_residual-in_err-caller.ensures.1 (other _ (OutOfMemory ∷ []) c.in_err-caller.ensures.refused tt)
+    tells_other c.from_residual-in_err-caller.result c.in_err-caller.field-0.0 (g.S.Sink.failures c.args.sink.now) c.from_residual-in_err-caller.ensures.1
 
 pub rounds::print_rounds-returns-in_err-caller-clause-keeps : goal.rounds::print_rounds-returns-in_err-caller-clause-keeps
 rounds::print_rounds-returns-in_err-caller-clause-keeps g t c = stays_same c.args.state.now c.enter_rounds.new.self c.in_err-caller.ensures.unchanged
@@ -1334,15 +1317,15 @@ rounds::print_rounds-returns-clause-plan g t c =
     let s = programs_under (g.T.Templates.standing c.args.program.templates.now) (g.T.Templates.joins c.args.program.templates.now) (g.T.Callbacks.callables c.args.program.templates.now) (option_map standing_of c.args.program.root) c.args.program.rules in
     let found = (c.in_ok-begun.ensures.begun false c.in-Some.current.now c.in_ok-again.ensures.again.0) in
     let y = rounds_entered (g.T.Templates.standing c.args.program.templates.now) (g.T.Templates.joins c.args.program.templates.now) (g.T.Callbacks.callables c.args.program.templates.now) (option_map standing_of c.args.program.root) c.args.program.rules c.args.state.now false c.in-Some.current.now (rounds_in c.in_ok-again.again.rounds) c.args.over c.in_ok-begun.begun found in
-    plan_as (λ (u : Unit {0}). done) s (recurse_plan s.around c.args.state.now c.args.over) _ c.args.state.now c.args.left.now (g.S.Sink.taken c.args.sink.now) (Err c.in-Err.error) c.leave_block.new.self c.run_from-ran.new.left (g.S.Sink.taken c.run_from-ran.new.sink) (loop_runs s c.args.state.now c.args.over c.in-Some.current.now c.in-Some.ensures ∙ found.planned)
+    plan_as (λ (u : Unit {0}). done) s (recurse_plan s.around c.args.state.now c.args.over) _ c.args.state.now c.args.left.now (g.S.Sink.taken c.args.sink.now) (Err c.in-Err.stop) c.leave_block.new.self c.run_from-ran.new.left (g.S.Sink.taken c.run_from-ran.new.sink) (loop_runs s c.args.state.now c.args.over c.in-Some.current.now c.in-Some.ensures ∙ found.planned)
     (within_breaks (g.T.Templates.standing c.args.program.templates.now) (g.T.Templates.joins c.args.program.templates.now) (g.T.Callbacks.callables c.args.program.templates.now) (option_map standing_of c.args.program.root) c.args.program.rules 1 c.args.state.now y
     (rounds_keyed (g.T.Templates.standing c.args.program.templates.now) (g.T.Templates.joins c.args.program.templates.now) (g.T.Callbacks.callables c.args.program.templates.now) (option_map standing_of c.args.program.root) c.args.program.rules c.args.state.now false c.in-Some.current.now (rounds_in c.in_ok-again.again.rounds) c.args.over c.in_ok-begun.begun found) refl found.room c.args.left.now c.run_from-ran.new.left (g.S.Sink.taken c.args.sink.now) (g.S.Sink.taken c.run_from-ran.new.sink) c.enter_rounds.new.self c.run_from-ran.new.state
-    (c.in_ok-caller.ensures.within c.in-Some.current.now c.in_ok-again.ensures.again.1) _ _ (λ (u : Unit {0}). done) c.in-Err.error c.in-Err.error c.run_from-ran.result c.leave_block.new.self c.in-Err.is
+    (c.in_ok-caller.ensures.within c.in-Some.current.now c.in_ok-again.ensures.again.1) _ _ (λ (u : Unit {0}). done) c.in-Err.stop c.in-Err.stop c.run_from-ran.result c.leave_block.new.self c.in-Err.is
     (rounds_runs (g.T.Templates.standing c.args.program.templates.now) (g.T.Templates.joins c.args.program.templates.now) (g.T.Callbacks.callables c.args.program.templates.now) (option_map standing_of c.args.program.root) c.args.program.rules c.args.state.now false c.in-Some.current.now (rounds_in c.in_ok-again.again.rounds) c.args.over c.in_ok-begun.begun found c.enter_rounds.new.self c.args.left.now c.run_from-ran.new.left (g.S.Sink.taken c.args.sink.now) (g.S.Sink.taken c.run_from-ran.new.sink) (operands_in c.new-operands.result) c.run_from-ran.result c.run_from-ran.new.state c.new-operands.ensures c.run_from-ran.ensures.runs) refl)
 
 pub rounds::print_rounds-returns-in-Ok-clause-failures : goal.rounds::print_rounds-returns-in-Ok-clause-failures
 rounds::print_rounds-returns-in-Ok-clause-failures g t c =
-    given_tells {Y = Unit {0}} _ c.run_from-ran.result (Ok tt) (g.S.Sink.failures c.args.sink.now) (g.S.Sink.failures c.run_from-ran.new.sink) c.in-Ok.is c.run_from-ran.ensures.failures tt
+    ended_tells _ c.run_from-ran.result (g.S.Sink.failures c.args.sink.now) (g.S.Sink.failures c.run_from-ran.new.sink) c.in-Ok.is c.run_from-ran.ensures.failures
 
 pub rounds::print_rounds-returns-in-Ok-clause-keeps : goal.rounds::print_rounds-returns-in-Ok-clause-keeps
 rounds::print_rounds-returns-in-Ok-clause-keeps g t c =
@@ -1354,7 +1337,7 @@ rounds::print_rounds-returns-in-Ok-clause-keeps g t c =
 
 pub rounds::print_rounds-returns-clause-failures : goal.rounds::print_rounds-returns-clause-failures
 rounds::print_rounds-returns-clause-failures g t c =
-    tells_as c.run_from-ran.result c.in-Err.error (g.S.Sink.failures c.args.sink.now) (g.S.Sink.failures c.run_from-ran.new.sink) c.in-Err.is c.run_from-ran.ensures.failures
+    tells_as c.run_from-ran.result c.in-Err.stop (g.S.Sink.failures c.args.sink.now) (g.S.Sink.failures c.run_from-ran.new.sink) c.in-Err.is c.run_from-ran.ensures.failures
 
 pub rounds::print_rounds-returns-clause-keeps : goal.rounds::print_rounds-returns-clause-keeps
 rounds::print_rounds-returns-clause-keeps g t c =
@@ -1373,7 +1356,7 @@ rounds::call_rounds-returns-in_err-over-clause-plan g t c =
 
 pub rounds::call_rounds-returns-in_err-over-clause-failures : goal.rounds::call_rounds-returns-in_err-over-clause-failures
 rounds::call_rounds-returns-in_err-over-clause-failures g t c =
-    tells_other c.from_residual.result _ (g.S.Sink.failures c.args.sink.now) c.from_residual.ensures.1 (other _ (InvalidOperation ∷ []) c.in_err-over.ensures.refused.0 tt)
+    tells_other c.from_residual.result c.in_err-over.field-0.0 (g.S.Sink.failures c.args.sink.now) c.from_residual.ensures.1
 
 pub rounds::call_rounds-returns-in_err-over-clause-keeps : goal.rounds::call_rounds-returns-in_err-over-clause-keeps
 rounds::call_rounds-returns-in_err-over-clause-keeps g t c = world_stays c.args.state.now
@@ -1381,12 +1364,8 @@ rounds::call_rounds-returns-in_err-over-clause-keeps g t c = world_stays c.args.
 pub rounds::call_rounds-returns-in_default-clause-plan : goal.rounds::call_rounds-returns-in_default-clause-plan
 rounds::call_rounds-returns-in_default-clause-plan g t c =
     let s = programs_under (g.T.Templates.standing c.args.program.templates.now) (g.T.Templates.joins c.args.program.templates.now) (g.T.Callbacks.callables c.args.program.templates.now) (option_map standing_of c.args.program.root) c.args.program.rules in
-    stops_first value s (again_plan s.around c.args.state.now c.args.args.items (loop_of c.args.state.now c.args.id c.args.number)) c.args.state.now c.args.left.now (g.S.Sink.taken c.args.sink.now) c.new.result (Err c.new.result) c.args.state.now refl
-    (inr (again_refused s c.args.state.now c.args.args.items (loop_of c.args.state.now c.args.id c.args.number) c.new.result (no_loop_known s c.args.state.now c.args.args.items c.in_ok-over.over (loop_of c.args.state.now c.args.id c.args.number) c.in_ok-over.ensures.only c.in_default.ensures) c.new.ensures))
-
-pub rounds::call_rounds-returns-in_default-clause-failures : goal.rounds::call_rounds-returns-in_default-clause-failures
-rounds::call_rounds-returns-in_default-clause-failures g t c =
-    inr (other c.new.result (InvalidOperation ∷ []) c.new.ensures tt, refl)
+    refuses s (again_plan s.around c.args.state.now c.args.args.items (loop_of c.args.state.now c.args.id c.args.number)) c.args.state.now c.args.left.now (g.S.Sink.taken c.args.sink.now) value c.new.result c.args.state.now
+    (again_refused s c.args.state.now c.args.args.items (loop_of c.args.state.now c.args.id c.args.number) c.new.result (no_loop_known s c.args.state.now c.args.args.items c.in_ok-over.over (loop_of c.args.state.now c.args.id c.args.number) c.in_ok-over.ensures.only c.in_default.ensures) c.new.ensures)
 
 pub rounds::call_rounds-returns-in_default-clause-keeps : goal.rounds::call_rounds-returns-in_default-clause-keeps
 rounds::call_rounds-returns-in_default-clause-keeps g t c = world_stays c.args.state.now
@@ -1399,7 +1378,7 @@ rounds::call_rounds-returns-in_err-again-clause-plan g t c =
 
 pub rounds::call_rounds-returns-in_err-again-clause-failures : goal.rounds::call_rounds-returns-in_err-again-clause-failures
 rounds::call_rounds-returns-in_err-again-clause-failures g t c =
-    tells_other c.from_residual-in_err-again.result _ (g.S.Sink.failures c.args.sink.now) c.from_residual-in_err-again.ensures.1 (other _ (InvalidOperation ∷ []) c.in_err-again.ensures.refused.1 tt)
+    tells_other c.from_residual-in_err-again.result c.in_err-again.field-0.0 (g.S.Sink.failures c.args.sink.now) c.from_residual-in_err-again.ensures.1
 
 pub rounds::call_rounds-returns-in_err-again-clause-keeps : goal.rounds::call_rounds-returns-in_err-again-clause-keeps
 rounds::call_rounds-returns-in_err-again-clause-keeps g t c = world_stays c.args.state.now
@@ -1412,7 +1391,7 @@ rounds::call_rounds-returns-in_err-begun-clause-plan g t c =
 
 pub rounds::call_rounds-returns-in_err-begun-clause-failures : goal.rounds::call_rounds-returns-in_err-begun-clause-failures
 rounds::call_rounds-returns-in_err-begun-clause-failures g t c =
-    tells_other c.from_residual-in_err-begun.result _ (g.S.Sink.failures c.args.sink.now) c.from_residual-in_err-begun.ensures.1 c.in_err-begun.ensures.spares
+    tells_spared c.from_residual-in_err-begun.result _ (g.S.Sink.failures c.args.sink.now) c.from_residual-in_err-begun.ensures.1 c.in_err-begun.ensures.spares
 
 pub rounds::call_rounds-returns-in_err-begun-clause-keeps : goal.rounds::call_rounds-returns-in_err-begun-clause-keeps
 rounds::call_rounds-returns-in_err-begun-clause-keeps g t c = world_stays c.args.state.now
@@ -1430,7 +1409,7 @@ rounds::call_rounds-returns-in_err-caller-clause-plan g t c =
 
 pub rounds::call_rounds-returns-in_err-caller-clause-failures : goal.rounds::call_rounds-returns-in_err-caller-clause-failures
 rounds::call_rounds-returns-in_err-caller-clause-failures g t c =
-    tells_other c.from_residual-in_err-caller.result _ (g.S.Sink.failures c.args.sink.now) c.from_residual-in_err-caller.ensures.1 (other _ (OutOfMemory ∷ []) c.in_err-caller.ensures.refused tt)
+    tells_other c.from_residual-in_err-caller.result c.in_err-caller.field-0.0 (g.S.Sink.failures c.args.sink.now) c.from_residual-in_err-caller.ensures.1
 
 pub rounds::call_rounds-returns-in_err-caller-clause-keeps : goal.rounds::call_rounds-returns-in_err-caller-clause-keeps
 rounds::call_rounds-returns-in_err-caller-clause-keeps g t c = stays_same c.args.state.now c.enter_rounds.new.self c.in_err-caller.ensures.unchanged
@@ -1456,28 +1435,28 @@ rounds::call_rounds-returns-in-Ok-clause-plan g t c =
     let s = programs_under (g.T.Templates.standing c.args.program.templates.now) (g.T.Templates.joins c.args.program.templates.now) (g.T.Callbacks.callables c.args.program.templates.now) (option_map standing_of c.args.program.root) c.args.program.rules in
     let found = (c.in_ok-begun.ensures.begun true c.in-Some.current.now c.in_ok-again.ensures.again.0) in
     let y = rounds_entered (g.T.Templates.standing c.args.program.templates.now) (g.T.Templates.joins c.args.program.templates.now) (g.T.Callbacks.callables c.args.program.templates.now) (option_map standing_of c.args.program.root) c.args.program.rules c.args.state.now true c.in-Some.current.now (rounds_in c.in_ok-again.again.rounds) c.in_ok-over.over c.in_ok-begun.begun found in
-    plan_as value s (again_plan s.around c.args.state.now c.args.args.items (loop_of c.args.state.now c.args.id c.args.number)) _ c.args.state.now c.args.left.now (g.S.Sink.taken c.args.sink.now) c.leave_rounds_text.result c.leave_rounds_text.new.self c.run_from-ran.new.left (g.S.Sink.taken c.run_from-ran.new.sink) (loop_known s c.args.state.now c.args.args.items c.in_ok-over.over c.in-Some.current.now (loop_of c.args.state.now c.args.id c.args.number) c.in_ok-over.ensures.only c.in-Some.ensures ∙ found.planned)
+    plan_as value s (again_plan s.around c.args.state.now c.args.args.items (loop_of c.args.state.now c.args.id c.args.number)) _ c.args.state.now c.args.left.now (g.S.Sink.taken c.args.sink.now) c.told_by.result c.leave_rounds_text.new.self c.run_from-ran.new.left (g.S.Sink.taken c.run_from-ran.new.sink) (loop_known s c.args.state.now c.args.args.items c.in_ok-over.over c.in-Some.current.now (loop_of c.args.state.now c.args.id c.args.number) c.in_ok-over.ensures.only c.in-Some.ensures ∙ found.planned)
     (within_gives (g.T.Templates.standing c.args.program.templates.now) (g.T.Templates.joins c.args.program.templates.now) (g.T.Callbacks.callables c.args.program.templates.now) (option_map standing_of c.args.program.root) c.args.program.rules 1 c.args.state.now y
     (rounds_keyed (g.T.Templates.standing c.args.program.templates.now) (g.T.Templates.joins c.args.program.templates.now) (g.T.Callbacks.callables c.args.program.templates.now) (option_map standing_of c.args.program.root) c.args.program.rules c.args.state.now true c.in-Some.current.now (rounds_in c.in_ok-again.again.rounds) c.in_ok-over.over c.in_ok-begun.begun found) refl found.room c.args.left.now c.run_from-ran.new.left (g.S.Sink.taken c.args.sink.now) (g.S.Sink.taken c.run_from-ran.new.sink) c.enter_rounds.new.self c.run_from-ran.new.state
-    (c.in_ok-caller.ensures.within c.in-Some.current.now c.in_ok-again.ensures.again.1) _ (captured c.args.state.now.escape (innermost c.run_from-ran.new.state.captures)) c.run_from-ran.result c.leave_rounds_text.result c.leave_rounds_text.new.self c.in-Ok.is
+    (c.in_ok-caller.ensures.within c.in-Some.current.now c.in_ok-again.ensures.again.1) _ (captured c.args.state.now.escape (innermost c.run_from-ran.new.state.captures)) c.run_from-ran.result c.leave_rounds_text.result c.told_by.result c.leave_rounds_text.new.self c.in-Ok.is
     (rounds_runs (g.T.Templates.standing c.args.program.templates.now) (g.T.Templates.joins c.args.program.templates.now) (g.T.Callbacks.callables c.args.program.templates.now) (option_map standing_of c.args.program.root) c.args.program.rules c.args.state.now true c.in-Some.current.now (rounds_in c.in_ok-again.again.rounds) c.in_ok-over.over c.in_ok-begun.begun found c.enter_rounds.new.self c.args.left.now c.run_from-ran.new.left (g.S.Sink.taken c.args.sink.now) (g.S.Sink.taken c.run_from-ran.new.sink) (operands_in c.new-operands.result) c.run_from-ran.result c.run_from-ran.new.state c.new-operands.ensures c.run_from-ran.ensures.runs) refl
     (c.leave_rounds_text.ensures.ended ∙ ap (λ (k : Caller). after_by (runs_rounds true) k c.run_from-ran.new.state) c.in_ok-caller.ensures.kept)
-    (as_innermost c.leave_rounds_text.result c.in_ok-caller.caller c.args.state.now c.run_from-ran.new.state.captures c.in_ok-caller.ensures.kept c.leave_rounds_text.ensures.given) c.leave_rounds_text.ensures.refused)
+    (as_innermost c.leave_rounds_text.result c.in_ok-caller.caller c.args.state.now c.run_from-ran.new.state.captures c.in_ok-caller.ensures.kept c.leave_rounds_text.ensures.given) c.leave_rounds_text.ensures.refused c.told_by.ensures)
 
 pub rounds::call_rounds-returns-clause-plan : goal.rounds::call_rounds-returns-clause-plan
 rounds::call_rounds-returns-clause-plan g t c =
     let s = programs_under (g.T.Templates.standing c.args.program.templates.now) (g.T.Templates.joins c.args.program.templates.now) (g.T.Callbacks.callables c.args.program.templates.now) (option_map standing_of c.args.program.root) c.args.program.rules in
     let found = (c.in_ok-begun.ensures.begun true c.in-Some.current.now c.in_ok-again.ensures.again.0) in
     let y = rounds_entered (g.T.Templates.standing c.args.program.templates.now) (g.T.Templates.joins c.args.program.templates.now) (g.T.Callbacks.callables c.args.program.templates.now) (option_map standing_of c.args.program.root) c.args.program.rules c.args.state.now true c.in-Some.current.now (rounds_in c.in_ok-again.again.rounds) c.in_ok-over.over c.in_ok-begun.begun found in
-    plan_as value s (again_plan s.around c.args.state.now c.args.args.items (loop_of c.args.state.now c.args.id c.args.number)) _ c.args.state.now c.args.left.now (g.S.Sink.taken c.args.sink.now) (Err c.in-Err.error) c.leave_block.new.self c.run_from-ran.new.left (g.S.Sink.taken c.run_from-ran.new.sink) (loop_known s c.args.state.now c.args.args.items c.in_ok-over.over c.in-Some.current.now (loop_of c.args.state.now c.args.id c.args.number) c.in_ok-over.ensures.only c.in-Some.ensures ∙ found.planned)
+    plan_as value s (again_plan s.around c.args.state.now c.args.args.items (loop_of c.args.state.now c.args.id c.args.number)) _ c.args.state.now c.args.left.now (g.S.Sink.taken c.args.sink.now) (Err c.in-Err.stop) c.leave_block.new.self c.run_from-ran.new.left (g.S.Sink.taken c.run_from-ran.new.sink) (loop_known s c.args.state.now c.args.args.items c.in_ok-over.over c.in-Some.current.now (loop_of c.args.state.now c.args.id c.args.number) c.in_ok-over.ensures.only c.in-Some.ensures ∙ found.planned)
     (within_breaks (g.T.Templates.standing c.args.program.templates.now) (g.T.Templates.joins c.args.program.templates.now) (g.T.Callbacks.callables c.args.program.templates.now) (option_map standing_of c.args.program.root) c.args.program.rules 1 c.args.state.now y
     (rounds_keyed (g.T.Templates.standing c.args.program.templates.now) (g.T.Templates.joins c.args.program.templates.now) (g.T.Callbacks.callables c.args.program.templates.now) (option_map standing_of c.args.program.root) c.args.program.rules c.args.state.now true c.in-Some.current.now (rounds_in c.in_ok-again.again.rounds) c.in_ok-over.over c.in_ok-begun.begun found) refl found.room c.args.left.now c.run_from-ran.new.left (g.S.Sink.taken c.args.sink.now) (g.S.Sink.taken c.run_from-ran.new.sink) c.enter_rounds.new.self c.run_from-ran.new.state
-    (c.in_ok-caller.ensures.within c.in-Some.current.now c.in_ok-again.ensures.again.1) _ _ value c.in-Err.error c.in-Err.error c.run_from-ran.result c.leave_block.new.self c.in-Err.is
+    (c.in_ok-caller.ensures.within c.in-Some.current.now c.in_ok-again.ensures.again.1) _ _ value c.in-Err.stop c.in-Err.stop c.run_from-ran.result c.leave_block.new.self c.in-Err.is
     (rounds_runs (g.T.Templates.standing c.args.program.templates.now) (g.T.Templates.joins c.args.program.templates.now) (g.T.Callbacks.callables c.args.program.templates.now) (option_map standing_of c.args.program.root) c.args.program.rules c.args.state.now true c.in-Some.current.now (rounds_in c.in_ok-again.again.rounds) c.in_ok-over.over c.in_ok-begun.begun found c.enter_rounds.new.self c.args.left.now c.run_from-ran.new.left (g.S.Sink.taken c.args.sink.now) (g.S.Sink.taken c.run_from-ran.new.sink) (operands_in c.new-operands.result) c.run_from-ran.result c.run_from-ran.new.state c.new-operands.ensures c.run_from-ran.ensures.runs) refl)
 
 pub rounds::call_rounds-returns-in-Ok-clause-failures : goal.rounds::call_rounds-returns-in-Ok-clause-failures
 rounds::call_rounds-returns-in-Ok-clause-failures g t c =
-    given_tells _ c.run_from-ran.result c.leave_rounds_text.result (g.S.Sink.failures c.args.sink.now) (g.S.Sink.failures c.run_from-ran.new.sink) c.in-Ok.is c.run_from-ran.ensures.failures c.leave_rounds_text.ensures.refused
+    given_tells _ c.run_from-ran.result c.leave_rounds_text.result c.told_by.result (g.S.Sink.failures c.args.sink.now) (g.S.Sink.failures c.run_from-ran.new.sink) c.in-Ok.is c.run_from-ran.ensures.failures c.leave_rounds_text.ensures.refused c.told_by.ensures
 
 pub rounds::call_rounds-returns-in-Ok-clause-keeps : goal.rounds::call_rounds-returns-in-Ok-clause-keeps
 rounds::call_rounds-returns-in-Ok-clause-keeps g t c =
@@ -1498,7 +1477,7 @@ rounds::call_rounds-returns-in-Ok-clause-frames g t c =
 
 pub rounds::call_rounds-returns-clause-failures : goal.rounds::call_rounds-returns-clause-failures
 rounds::call_rounds-returns-clause-failures g t c =
-    tells_as c.run_from-ran.result c.in-Err.error (g.S.Sink.failures c.args.sink.now) (g.S.Sink.failures c.run_from-ran.new.sink) c.in-Err.is c.run_from-ran.ensures.failures
+    tells_as c.run_from-ran.result c.in-Err.stop (g.S.Sink.failures c.args.sink.now) (g.S.Sink.failures c.run_from-ran.new.sink) c.in-Err.is c.run_from-ran.ensures.failures
 
 pub rounds::call_rounds-returns-clause-keeps : goal.rounds::call_rounds-returns-clause-keeps
 rounds::call_rounds-returns-clause-keeps g t c =
@@ -1598,4 +1577,9 @@ entries::enter_call-returns-in_err-value-clause-failures g t c =
 pub entries::enter_call-returns-clause-does : goal.entries::enter_call-returns-clause-does
 entries::enter_call-returns-clause-does g t c code start w entered =
     let s = programs_under (g.T.Templates.standing c.args.program.templates.now) (g.T.Templates.joins c.args.program.templates.now) (g.T.Callbacks.callables c.args.program.templates.now) (option_map standing_of c.args.program.root) c.args.program.rules in
-    call_gives s (uniform (g.T.Templates.standing c.args.program.templates.now) (g.T.Templates.joins c.args.program.templates.now) (g.T.Callbacks.callables c.args.program.templates.now) (option_map standing_of c.args.program.root) c.args.program.rules) code start w c.args.state.now c.args.entry (operands_in c.args.operands.now) entered c.args.left.now c.run_entry.new.left (g.S.Sink.taken c.args.sink.now) (g.S.Sink.taken c.run_entry.new.sink) c.in_ok-value.value c.push.result _ c.run_entry.new.state c.in_ok-value.ensures.keeps c.in_ok-value.ensures.plan c.push.ensures.pushed c.push.ensures.refused
+    call_gives s (uniform (g.T.Templates.standing c.args.program.templates.now) (g.T.Templates.joins c.args.program.templates.now) (g.T.Callbacks.callables c.args.program.templates.now) (option_map standing_of c.args.program.root) c.args.program.rules) code start w c.args.state.now c.args.entry (operands_in c.args.operands.now) entered c.args.left.now c.run_entry.new.left (g.S.Sink.taken c.args.sink.now) (g.S.Sink.taken c.run_entry.new.sink) c.in_ok-value.value c.told_by.result _ c.run_entry.new.state c.in_ok-value.ensures.keeps c.in_ok-value.ensures.plan
+    (told_done c.push.result c.told_by.result _ c.push.ensures.pushed c.told_by.ensures) (told_short c.push.result c.told_by.result c.push.ensures.refused c.told_by.ensures)
+
+pub entries::enter_call-returns-clause-failures : goal.entries::enter_call-returns-clause-failures
+entries::enter_call-returns-clause-failures g t c =
+    counts_after c.push.result c.told_by.result (g.S.Sink.failures c.args.sink.now) (g.S.Sink.failures c.run_entry.new.sink) c.in_ok-value.ensures.failures c.told_by.ensures

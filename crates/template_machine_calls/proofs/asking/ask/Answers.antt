@@ -18,12 +18,12 @@ pub returns-in_err-called-in-Call-clause-comes : goal.returns-in_err-called-in-C
 returns-in_err-called-in-Call-clause-comes g c a pending go =
     let around : Around = around_under c.args.rules (g.H.Callbacks.callables c.args.host.now) a in
     let w = c.args.state.now in
-    err_planned (left_by around pending go) (asked_plan around pending go w (asked_by c.args.further)) _ _ _
-    (planned_as (left_by around pending go) (asked_plan around pending go w (asked_by c.args.further)) (called_plan around pending go w (value_called w.globals c.in-Call.callee c.in-Call.args.items)) (Err _) w
+    planned_as (left_by around pending go) (asked_plan around pending go w (asked_by c.args.further)) (called_plan around pending go w (value_called w.globals c.in-Call.callee c.in-Call.args.items)) _ w
     (ap (λ f. asked_plan around pending go w (asked_by f)) c.in-Call.is)
+    (err_planned (left_by around pending go) (called_plan around pending go w (value_called w.globals c.in-Call.callee c.in-Call.args.items)) _ _ w
     (refused_planned around pending go w (value_called w.globals c.in-Call.callee c.in-Call.args.items) _
-    (value_as (Err _) _ w.globals c.in-Call.callee _ c.in-Call.args.items c.globals.ensures c.as_slice.ensures.value c.in_err-called-in-Call.ensures)))
-    c.from_residual.ensures.1
+    (value_as (Err _) _ w.globals c.in-Call.callee _ c.in-Call.args.items c.globals.ensures c.as_slice.ensures.value c.in_err-called-in-Call.ensures))
+    c.from_residual.ensures.1)
 
 pub returns-in_ok-called-in-Call-clause-comes : goal.returns-in_ok-called-in-Call-clause-comes
 returns-in_ok-called-in-Call-clause-comes g c a pending go =
@@ -81,13 +81,13 @@ returns-in_err-called-in-Macro-clause-comes g c a pending go =
     let around : Around = around_under c.args.rules (g.H.Callbacks.callables c.args.host.now) a in
     let w = c.args.state.now in
     let named = looked_up (string_bytes c.in-Macro.name) w in
-    err_planned (left_by around pending go) (asked_plan around pending go w (asked_by c.args.further)) _ _ _
-    (planned_as (left_by around pending go) (asked_plan around pending go w (asked_by c.args.further)) (called_plan around pending go w (found_called w.globals named c.in-Macro.args.items)) (Err _) w
+    planned_as (left_by around pending go) (asked_plan around pending go w (asked_by c.args.further)) (called_plan around pending go w (found_called w.globals named c.in-Macro.args.items)) _ w
     (ap (λ f. asked_plan around pending go w (asked_by f)) c.in-Macro.is)
+    (err_planned (left_by around pending go) (called_plan around pending go w (found_called w.globals named c.in-Macro.args.items)) _ _ w
     (refused_planned around pending go w (found_called w.globals named c.in-Macro.args.items) _
     (found_as (Err _) _ w.globals _ named _ c.in-Macro.args.items c.globals-in-Macro.ensures
-    (c.in_ok-found-in-Macro.ensures.found ∙ ap (λ name. looked_up name w) c.as_str-in-Macro.ensures.value) c.as_slice-in-Macro.ensures.value c.in_err-called-in-Macro.ensures)))
-    c.from_residual-in_err-called-in-Macro.ensures.1
+    (c.in_ok-found-in-Macro.ensures.found ∙ ap (λ name. looked_up name w) c.as_str-in-Macro.ensures.value) c.as_slice-in-Macro.ensures.value c.in_err-called-in-Macro.ensures))
+    c.from_residual-in_err-called-in-Macro.ensures.1)
 
 pub returns-in_ok-called-in-Macro-clause-comes : goal.returns-in_ok-called-in-Macro-clause-comes
 returns-in_ok-called-in-Macro-clause-comes g c a pending go =

@@ -4,14 +4,14 @@ use Rattle.template_machine_meaning.specs.Keys.{Around}
 use Rattle.template_machine_meaning.specs.World.{depth_of}
 use Rattle.template_machine_calls.specs.Hosted.{around_under}
 use Rattle.template_machine_calls.specs.Left.{Going, left_by, reached_by, turnings_in, with_turnings}
-use Rattle.template_machine_calls.proofs.Chaining.{err_kept, err_planned, planned_as, turned_none}
+use Rattle.template_machine_calls.proofs.Chaining.{err_kept, planned_as, stop_planned, turned_none}
 use Rattle.template_machine_calls.proofs.calls.call.Goals as goal
 
 pub returns-in_err-outcome-clause-told : goal.returns-in_err-outcome-clause-told
 returns-in_err-outcome-clause-told g c a came comes =
     let around : Around = around_under c.args.rules (g.H.Callbacks.callables c.args.host.now) a in
     let go : Going = beyond around 0 (around.limit - depth_of c.args.state.now) in
-    err_planned (reached_by around) (call_plan around c.args.state.now came) _ _ _ (c.in_err-outcome.ensures.comes a 0 go came comes) c.from_residual.ensures.1
+    stop_planned (reached_by around) (call_plan around c.args.state.now came) _ _ _ (c.in_err-outcome.ensures.comes a 0 go came comes) c.from_residual.ensures.1
 
 pub returns-clause-told : goal.returns-clause-told
 returns-clause-told g c a came comes =

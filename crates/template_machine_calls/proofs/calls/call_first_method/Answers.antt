@@ -1,12 +1,13 @@
-use Rattle.std.proofs.Common.{List, Result, inr, refl, sym, ap, subst}
-use Rattle.template_values_errors.specs.declared.ErrorKind.{ErrorKind}
+use Rattle.std.proofs.Common.{sym, ap, ◌∙◌}
+use Rattle.template_process.specs.Process.{fails}
 use Rattle.template_machine_meaning.specs.Calls.{call_plan}
 use Rattle.template_machine_meaning.specs.Functions.{first_method, method_called}
 use Rattle.template_machine_meaning.specs.Keys.{Around}
+use Rattle.template_machine_meaning.specs.Plans.{replies}
 use Rattle.template_machine_meaning.specs.Records.{known_of}
+use Rattle.template_machine_meaning.specs.Replies.{told}
 use Rattle.template_machine_calls.specs.Hosted.{around_under}
-use Rattle.template_machine_calls.specs.Left.{KeptUnlessValue, Planned, reached_by}
-use Rattle.template_machine_calls.specs.declared.reached.Reached.{Reached}
+use Rattle.template_machine_calls.specs.Left.{reached_by}
 use Rattle.template_machine_calls.proofs.Chaining.{planned_as}
 use Rattle.template_machine_calls.proofs.calls.call_first_method.Goals as goal
 
@@ -21,8 +22,4 @@ pub returns-in-None-clause-told : goal.returns-in-None-clause-told
 returns-in-None-clause-told g c a =
     let around : Around = around_under c.args.rules (g.H.Callbacks.callables c.args.host.now) a in
     let w = c.args.state.now in
-    subst (λ (r : Result Reached (List ErrorKind)). Planned (reached_by around) (call_plan around w (first_method w.globals (known_of w) c.args.name.now c.args.taken.items)) r w) (sym c.refusal.ensures)
-    (inr (ap (λ vs. call_plan around w (first_method w.globals (known_of w) c.args.name.now vs)) c.in-None.ensures.none))
-
-pub returns-in-None-clause-kept : goal.returns-in-None-clause-kept
-returns-in-None-clause-kept g c = subst (λ (r : Result Reached (List ErrorKind)). KeptUnlessValue r c.args.state.now c.args.state.now) (sym c.refusal.ensures) refl
+    ap (λ vs. call_plan around w (first_method w.globals (known_of w) c.args.name.now vs)) c.in-None.ensures.none ∙ ap (λ ks. replies (told w (fails ks))) (sym c.new.ensures)

@@ -5,14 +5,14 @@ use Rattle.template_machine_meaning.specs.Keys.{Around}
 use Rattle.template_machine_meaning.specs.World.{depth_of}
 use Rattle.template_machine_calls.specs.Hosted.{around_under}
 use Rattle.template_machine_calls.specs.Left.{Going, left_by, raw_plan, reached_by, turnings_in, with_turnings}
-use Rattle.template_machine_calls.proofs.Chaining.{answered_raw, err_kept, err_planned, keeps_any, planned_as, turned_none}
+use Rattle.template_machine_calls.proofs.Chaining.{answered_raw, err_kept, keeps_any, planned_as, stop_planned, turned_none}
 use Rattle.template_machine_calls.proofs.calls.call_missing.Goals as goal
 
 pub returns-in_err-outcome-clause-told : goal.returns-in_err-outcome-clause-told
 returns-in_err-outcome-clause-told g c a =
     let around : Around = around_under c.args.rules (g.H.Callbacks.callables c.args.host.now) a in
     let go : Going = beyond around 0 (around.limit - depth_of c.args.state.now) in
-    err_planned (reached_by around) (call_plan around c.args.state.now (invokes (method_of c.args.object.now c.args.name.now) c.args.args.now)) _ _ _
+    stop_planned (reached_by around) (call_plan around c.args.state.now (invokes (method_of c.args.object.now c.args.name.now) c.args.args.now)) _ _ _
     (planned_as (reached_by around) (call_plan around c.args.state.now (invokes (method_of c.args.object.now c.args.name.now) c.args.args.now)) (raw_plan around go c.args.state.now (method_of c.args.object.now c.args.name.now) c.args.args.now) (Err _) _
     (answered_raw around go c.args.state.now (method_of c.args.object.now c.args.name.now) c.args.args.now (said around.callables (method_of c.args.object.now c.args.name.now)))
     (c.in_err-outcome.ensures.comes a 0 go))

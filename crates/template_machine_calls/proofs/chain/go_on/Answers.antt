@@ -1,14 +1,14 @@
-use Rattle.std.proofs.Common.{◌+◌, ◌-◌, List, Result, Ok, inl, inr, sym, ap, subst, ◌∙◌, arith}
-use Rattle.template_values_errors.specs.declared.ErrorKind.{ErrorKind}
+use Rattle.std.proofs.Common.{◌+◌, ◌-◌, Ok, inl, sym, ap, subst, ◌∙◌, arith}
 use Rattle.template_callables.specs.Answers.{asked_by}
+use Rattle.template_process.specs.Process.{fails}
 use Rattle.template_machine_meaning.specs.Calls.{beyond}
 use Rattle.template_machine_meaning.specs.Keys.{Around}
-use Rattle.template_machine_meaning.specs.Plans.{Plan}
+use Rattle.template_machine_meaning.specs.Plans.{Plan, replies}
+use Rattle.template_machine_meaning.specs.Replies.{told}
 use Rattle.template_machine_calls.specs.Hosted.{around_under}
-use Rattle.template_machine_calls.specs.Left.{KeepsWorld, KeptUnlessValue, Planned, entering_plan, left_by, reached_by, turnings_in, value_left, with_turnings}
+use Rattle.template_machine_calls.specs.Left.{KeepsWorld, entering_plan, left_by, reached_by, turnings_in, value_left, with_turnings}
 use Rattle.template_machine_calls.specs.declared.outcome.Outcome.{Outcome}
-use Rattle.template_machine_calls.specs.declared.reached.Reached.{Reached}
-use Rattle.template_machine_calls.proofs.Chaining.{err_kept, err_planned, further_failed, none_further, one_further, only_temps_on, open_behind}
+use Rattle.template_machine_calls.proofs.Chaining.{err_kept, err_planned, further_failed, none_further, one_further, only_temps_on, open_behind, stop_planned}
 use Rattle.template_machine_calls.proofs.chain.go_on.Goals as goal
 
 pub loop-pending-preserved : goal.loop-pending-preserved
@@ -40,8 +40,8 @@ returns-in_err-outcome-clause-comes g c a =
     let onward = c.loop-pending.pending + 1 in
     let later = c.args.levels - onward in
     let plan : Plan = with_turnings (turnings_in c.args.turnings.items) (beyond around 0 c.args.levels c.args.state.now (asked_by c.args.further)) in
-    err_planned (reached_by around) plan _ _ _
-    (further_failed around plan (turnings_in c.loop-pending.turnings.items) (turnings_in c.note.new.turnings.items) c.loop-pending.pending onward left later c.loop-pending.state _ (asked_by c.loop-pending.next) _
+    stop_planned (reached_by around) plan _ _ c.ask.new.state
+    (further_failed around plan (turnings_in c.loop-pending.turnings.items) (turnings_in c.note.new.turnings.items) c.loop-pending.pending onward left later c.loop-pending.state c.ask.new.state (asked_by c.loop-pending.next) _
     (c.loop-pending.invariant.plan a) (omega arith) (omega arith) c.in_ok-note.ensures.noted (c.in_err-outcome.ensures.comes a onward (beyond around onward later)))
     c.from_residual-in_err-outcome.ensures.1
 
@@ -86,10 +86,9 @@ pub returns-clause-comes : goal.returns-clause-comes
 returns-clause-comes g c a =
     let around : Around = around_under c.args.rules (g.H.Callbacks.callables c.args.host.now) a in
     let plan : Plan = with_turnings (turnings_in c.args.turnings.items) (beyond around 0 c.args.levels c.args.state.now (asked_by c.args.further)) in
-    subst (λ (r : Result Reached (List ErrorKind)). Planned (reached_by around) plan r c.loop-pending.state) (sym c.refusal.ensures)
-    (inr (none_further around plan (turnings_in c.loop-pending.turnings.items) c.loop-pending.pending (c.args.levels - c.loop-pending.pending) c.loop-pending.state (asked_by c.loop-pending.next)
-    (c.loop-pending.invariant.plan a) (omega arith)))
+    none_further around plan (turnings_in c.loop-pending.turnings.items) c.loop-pending.pending (c.args.levels - c.loop-pending.pending) c.loop-pending.state (asked_by c.loop-pending.next)
+    (c.loop-pending.invariant.plan a) (omega arith)
+    ∙ ap (λ ks. replies (told c.loop-pending.state (fails ks))) (sym c.new.ensures)
 
 pub returns-clause-kept : goal.returns-clause-kept
-returns-clause-kept g c =
-    subst (λ (r : Result Reached (List ErrorKind)). KeptUnlessValue r c.args.state.now c.loop-pending.state) (sym c.refusal.ensures) c.loop-pending.invariant.kept
+returns-clause-kept g c = c.loop-pending.invariant.kept

@@ -8,7 +8,7 @@ use Rattle.template_machine_calls.proofs.formatted.make_formatted.Goals as goal
 pub returns-then-forbids_printing : goal.returns-then-forbids_printing
 returns-then-forbids_printing g c a =
     let around : Around = around_under c.args.rules (g.H.Callbacks.callables c.args.host.now) a in
-    forbidden_so around c.args.state.now c.args.value.now _ _ _ c.forbids_printing.ensures c.if-forbids_printing.true c.refusal.ensures
+    forbidden_so around c.args.state.now c.args.value.now _ _ c.forbids_printing.ensures c.if-forbids_printing.true c.new.ensures
 
 pub returns : goal.returns
 returns g c a =

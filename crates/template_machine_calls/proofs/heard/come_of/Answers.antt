@@ -20,8 +20,7 @@ returns-in_ok-set_temps-in-Done-clause-comes c a pending go stated answers =
 
 pub returns-in-Fault-clause-comes : goal.returns-in-Fault-clause-comes
 returns-in-Fault-clause-comes c a pending go stated answers =
-    stated_failed a pending go c.args.state.now stated _ _ (subst (λ (k : Answer). Answers stated k) c.in-Fault.is answers)
-    c.stated_fault.ensures.stated c.stated_fault.ensures.want.1
+    stated_failed a pending go c.args.state.now stated _ _ (subst (λ (k : Answer). Answers stated k) c.in-Fault.is answers) c.into.ensures
 
 pub returns-in_err-set_temps-in-More-clause-comes : goal.returns-in_err-set_temps-in-More-clause-comes
 returns-in_err-set_temps-in-More-clause-comes c a pending go stated answers =

@@ -1,4 +1,4 @@
-use Rattle.std.proofs.Common.{Option, inr, sym, ap, subst, ◌∙◌}
+use Rattle.std.proofs.Common.{Option, sym, ap, subst, ◌∙◌}
 use Rattle.template_callables.specs.Callbacks.{AnswersUnder}
 use Rattle.template_callables.specs.declared.answer.Answer.{Answer}
 use Rattle.template_process.specs.Process.{fails}
@@ -14,5 +14,5 @@ returns-in-Some-clause-comes c a pending go says view args answers =
 
 pub returns-in-None-clause-comes : goal.returns-in-None-clause-comes
 returns-in-None-clause-comes c a pending go says view args answers =
-    inr (said_none a pending go c.args.state.now c.args.kind view args says (subst (λ (o : Option Answer). AnswersUnder says view args o) c.in-None.is answers)
-    ∙ ap (λ ks. replies (told c.args.state.now (fails ks))) (sym c.new.ensures))
+    said_none a pending go c.args.state.now c.args.kind view args says (subst (λ (o : Option Answer). AnswersUnder says view args o) c.in-None.is answers)
+    ∙ ap (λ ks. replies (told c.args.state.now (fails ks))) (sym c.new.ensures)

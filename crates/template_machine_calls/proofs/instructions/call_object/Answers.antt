@@ -9,7 +9,7 @@ use Rattle.template_machine_meaning.proofs.RunsKept.{world_stays}
 use Rattle.template_machine_operands.specs.Operands.{operands_in}
 use Rattle.template_machine_steps.proofs.Gathering.{handed_refused}
 use Rattle.template_machine_calls.specs.Hosted.{hosted}
-use Rattle.template_machine_calls.proofs.Giving.{err_out, failed, handed_as, put_out, refused_as}
+use Rattle.template_machine_calls.proofs.Giving.{err_out, failed, handed_as, put_out, refused_as, stop_out}
 use Rattle.template_machine_calls.proofs.Temps.{temps_keep}
 use Rattle.template_machine_calls.proofs.instructions.call_object.Goals as goal
 
@@ -25,12 +25,12 @@ returns-in_err-taken g c program =
 pub returns-in_err-reached : goal.returns-in_err-reached
 returns-in_err-reached g c program =
     let s : Programs = hosted c.args.rules (g.H.Callbacks.callables c.args.host.now) program in
-    err_out s _ _ _ _ _ _ _
+    stop_out s _ _ _ _ _ _ _
     (failed s (codes.call_object c.args.count) (events.call_value c.in_ok-taken.taken.items) (operands_in c.args.operands.now) c.args.state.now (operands_in c.take_handed.new.self)
     (λ next before place. ap (λ t. on_taken t (λ vs rest. giving next place rest (events.call_value vs)))
     (handed_as _ _ _ _ c.widened.ensures c.in_ok-taken.ensures.taken))
-    (call_plan s.around c.args.state.now (first_called c.args.state.now.globals c.in_ok-taken.taken.items)) refl (Err _) _ _ _
-    (temps_keep c.args.state.now _ c.in_err-reached.ensures.kept) (c.in_err-reached.ensures.told program.around) refl)
+    (call_plan s.around c.args.state.now (first_called c.args.state.now.globals c.in_ok-taken.taken.items)) refl _ _ _
+    (temps_keep c.args.state.now _ c.in_err-reached.ensures.kept) (c.in_err-reached.ensures.told program.around))
     c.from_residual-in_err-reached.ensures.1
 
 pub returns : goal.returns

@@ -9,7 +9,7 @@ use Rattle.template_machine_meaning.proofs.RunsKept.{world_stays}
 use Rattle.template_machine_operands.specs.Operands.{operands_in}
 use Rattle.template_machine_steps.proofs.Gathering.{handed_refused}
 use Rattle.template_machine_calls.specs.Hosted.{hosted}
-use Rattle.template_machine_calls.proofs.Giving.{err_out, failed, handed_as, handed_with, put_out, refused_as}
+use Rattle.template_machine_calls.proofs.Giving.{err_out, failed, handed_as, handed_with, put_out, refused_as, stop_out}
 use Rattle.template_machine_calls.proofs.Temps.{temps_keep}
 use Rattle.template_machine_calls.proofs.instructions.perform_test.Goals as goal
 
@@ -25,13 +25,13 @@ returns-in_err-values g c program number =
 pub returns-in_err-reached : goal.returns-in_err-reached
 returns-in_err-reached g c program number =
     let s : Programs = hosted c.args.rules (g.H.Callbacks.callables c.args.host.now) program in
-    err_out s _ _ _ _ _ _ _
+    stop_out s _ _ _ _ _ _ _
     (failed s (codes.perform_test c.args.name.now c.args.count number) (events.perform_test c.args.name.now c.as_slice.result.now) (operands_in c.args.operands.now) c.args.state.now (operands_in c.take_handed.new.self)
     (λ next before place. ap (λ t. on_taken t (λ vs rest. giving next place rest (events.perform_test c.args.name.now vs)))
     (handed_with c.args.count (operands_in c.args.operands.now) (operands_in c.take_handed.new.self) c.in_ok-values.values.items c.as_slice.result.now
     (handed_as _ _ _ _ c.widened.ensures c.in_ok-values.ensures.taken) c.as_slice.ensures.value))
-    (call_plan s.around c.args.state.now (invokes (test_named c.args.name.now) c.as_slice.result.now)) refl (Err _) _ _ _
-    (temps_keep c.args.state.now _ c.in_err-reached.ensures.kept) (c.in_err-reached.ensures.told program.around) refl)
+    (call_plan s.around c.args.state.now (invokes (test_named c.args.name.now) c.as_slice.result.now)) refl _ _ _
+    (temps_keep c.args.state.now _ c.in_err-reached.ensures.kept) (c.in_err-reached.ensures.told program.around))
     c.from_residual-in_err-reached.ensures.1
 
 pub returns : goal.returns

@@ -1,7 +1,7 @@
 use Rattle.std.proofs.Common.{sym, ◌∙◌}
 use Rattle.template_machine_meaning.specs.Plans.{Plan}
 use Rattle.template_machine_calls.specs.Left.{turnings_in, value_left, with_turnings}
-use Rattle.template_machine_calls.proofs.Chaining.{err_planned}
+use Rattle.template_machine_calls.proofs.Chaining.{stop_planned}
 use Rattle.template_machine_calls.proofs.Turned.{all_turned, next_turned, turning_failed}
 use Rattle.template_machine_calls.proofs.turning.turn_all.Goals as goal
 
@@ -13,7 +13,7 @@ loop-turning-preserved c =
 pub returns-in_err-value : goal.returns-in_err-value
 returns-in_err-value c =
     let plan : Plan = with_turnings (turnings_in c.args.turnings.items) (value_left c.args.value c.args.state.now) in
-    err_planned value_left plan _ _ c.args.state.now
+    stop_planned value_left plan _ _ c.args.state.now
     (turning_failed c.loop-turning.turnings.items c.pop.new.self.items c.in-Some.turning plan c.loop-turning.value c.args.state.now _ c.loop-turning.invariant c.in-Some.ensures.items
     c.in_err-value.ensures)
     c.from_residual.ensures.1

@@ -1,8 +1,8 @@
-use Rattle.std.proofs.Common.{[], ◌∷◌, Ok, inr, ◌⊎◌, option_map, sym, ap, ◌∙◌}
+use Rattle.std.proofs.Common.{[], ◌∷◌, Ok, option_map, sym, ap, ◌∙◌}
 use Rattle.template_values_errors.specs.declared.ErrorKind.TheVariants.{TemplateNotFound}
-use Rattle.template_values_errors.specs.Memory.{NoMemory}
 use Rattle.template_machine_meaning.specs.Includes.{include_plan}
 use Rattle.template_machine_meaning.specs.Records.{known_of}
+use Rattle.template_machine_going.specs.Told.{FaultsSo}
 use Rattle.template_machine_loop.specs.Found.{IsRefused, found_of}
 use Rattle.template_machine_loop.specs.Programs.{programs_under, standing_of}
 use Rattle.template_machine_loop.proofs.Choosing.{choices_stop, template_found, choice_stops, ignored, tried_nothing, none_found_of, named_here, none_left, standing_as}
@@ -12,14 +12,14 @@ use Rattle.template_machine_loop.proofs.includes.chosen.Goals as goal
 pub returns-in_err-choices-clause-refused : goal.returns-in_err-choices-clause-refused
 returns-in_err-choices-clause-refused g c =
     let s = programs_under (g.T.Templates.standing c.args.program.templates.now) (g.T.Templates.joins c.args.program.templates.now) (g.T.Callbacks.callables c.args.program.templates.now) (option_map standing_of c.args.program.root) c.args.program.rules in
-    err_on (λ kinds. NoMemory kinds ⊎ IsRefused s (include_plan (known_of c.args.state.now) s.around c.args.state.now c.args.ignore_missing c.args.value) c.args.state.now kinds) _
+    err_on (λ stop. FaultsSo (IsRefused s (include_plan (known_of c.args.state.now) s.around c.args.state.now c.args.ignore_missing c.args.value) c.args.state.now) stop) _
     c.from_residual.result c.from_residual.ensures.1
     (choices_stop (g.T.Templates.standing c.args.program.templates.now) (g.T.Templates.joins c.args.program.templates.now) (g.T.Callbacks.callables c.args.program.templates.now) (option_map standing_of c.args.program.root) c.args.program.rules c.args.state.now c.args.ignore_missing c.args.value _ c.in_err-choices.ensures)
 
 pub returns-in_err-first-clause-refused : goal.returns-in_err-first-clause-refused
 returns-in_err-first-clause-refused g c =
     let s = programs_under (g.T.Templates.standing c.args.program.templates.now) (g.T.Templates.joins c.args.program.templates.now) (g.T.Callbacks.callables c.args.program.templates.now) (option_map standing_of c.args.program.root) c.args.program.rules in
-    err_on (λ kinds. NoMemory kinds ⊎ IsRefused s (include_plan (known_of c.args.state.now) s.around c.args.state.now c.args.ignore_missing c.args.value) c.args.state.now kinds) _
+    err_on (λ stop. FaultsSo (IsRefused s (include_plan (known_of c.args.state.now) s.around c.args.state.now c.args.ignore_missing c.args.value) c.args.state.now) stop) _
     c.from_residual-in_err-first.result c.from_residual-in_err-first.ensures.1
     (choice_stops (g.T.Templates.standing c.args.program.templates.now) (g.T.Templates.joins c.args.program.templates.now) (g.T.Callbacks.callables c.args.program.templates.now) (option_map standing_of c.args.program.root) c.args.program.rules c.args.state.now c.args.ignore_missing c.args.value c.in_ok-choices.choices c.in_ok-choices.ensures c.here_name.result.now (c.here_name.ensures s.around) _ c.in_err-first.ensures.refused)
 
@@ -50,9 +50,8 @@ returns-then-is_empty-clause-found g c =
 pub returns-clause-refused : goal.returns-clause-refused
 returns-clause-refused g c =
     let s = programs_under (g.T.Templates.standing c.args.program.templates.now) (g.T.Templates.joins c.args.program.templates.now) (g.T.Callbacks.callables c.args.program.templates.now) (option_map standing_of c.args.program.root) c.args.program.rules in
-    inr
-    (refused_as s (include_plan (known_of c.args.state.now) s.around c.args.state.now c.args.ignore_missing c.args.value) c.args.state.now (TemplateNotFound ∷ []) c.new.result c.new.ensures
+    refused_as s (include_plan (known_of c.args.state.now) s.around c.args.state.now c.args.ignore_missing c.args.value) c.args.state.now (TemplateNotFound ∷ []) c.new.result c.new.ensures
     (none_found_of (g.T.Templates.standing c.args.program.templates.now) (g.T.Templates.joins c.args.program.templates.now) (g.T.Callbacks.callables c.args.program.templates.now) (option_map standing_of c.args.program.root) c.args.program.rules c.args.state.now c.args.ignore_missing c.args.value c.in_ok-choices.choices c.in_ok-choices.ensures
     (named_here (g.T.Templates.standing c.args.program.templates.now) (g.T.Templates.joins c.args.program.templates.now) (g.T.Callbacks.callables c.args.program.templates.now) (option_map standing_of c.args.program.root) c.args.program.rules c.args.state.now c.in_ok-choices.choices c.here_name.result.now (c.here_name.ensures s.around) _
     (c.in_ok-first.ensures.found ∙ ap (λ o. Ok (option_map (λ k. found_of (standing_of k)) o)) (none_left c.in_ok-first.first c.in_default.not-Some)))
-    c.if-ignore_missing.false (sym c.is_empty.ensures ∙ c.if-is_empty.false)))
+    c.if-ignore_missing.false (sym c.is_empty.ensures ∙ c.if-is_empty.false))

@@ -1,8 +1,8 @@
-use Rattle.std.proofs.Common.{[], ◌∷◌, Err, inr, ◌⊎◌, option_map, sym, ap, ◌∙◌, ◌≡◌, arith}
+use Rattle.std.proofs.Common.{[], ◌∷◌, Err, option_map, sym, ap, ◌∙◌, ◌≡◌, arith}
 use Rattle.std.specs.Cow.{cow_str_bytes}
 use Rattle.template_values_errors.specs.declared.ErrorKind.TheVariants.{InvalidOperation}
-use Rattle.template_values_errors.specs.Memory.{NoMemory}
 use Rattle.template_machine_meaning.specs.Includes.{first_standing}
+use Rattle.template_machine_going.specs.Told.{FaultsSo}
 use Rattle.template_machine_loop.specs.Programs.{programs_under, standing_of}
 use Rattle.template_machine_loop.proofs.Choosing.{nameless, unjoined_or, chosen_there, passed_over, stands_named, err_as}
 use Rattle.template_machine_loop.proofs.Within.{err_on}
@@ -10,13 +10,12 @@ use Rattle.template_machine_loop.proofs.includes.first_standing.Goals as goal
 
 pub returns-in_default-as_str-clause-refused : goal.returns-in_default-as_str-clause-refused
 returns-in_default-as_str-clause-refused g c =
-    inr
-    (nameless (g.T.Templates.standing c.args.program.templates.now) (g.T.Templates.joins c.args.program.templates.now) (g.T.Callbacks.callables c.args.program.templates.now) (option_map standing_of c.args.program.root) c.args.program.rules c.args.here.now c.args.choices.now c.loop-place.place c.in-Some.choice.now c.loop-place.invariant (sym c.in-Some.ensures) (sym c.in_default-as_str.ensures)
-    ∙ err_as (InvalidOperation ∷ []) c.new.result c.new.ensures)
+    nameless (g.T.Templates.standing c.args.program.templates.now) (g.T.Templates.joins c.args.program.templates.now) (g.T.Callbacks.callables c.args.program.templates.now) (option_map standing_of c.args.program.root) c.args.program.rules c.args.here.now c.args.choices.now c.loop-place.place c.in-Some.choice.now c.loop-place.invariant (sym c.in-Some.ensures) (sym c.in_default-as_str.ensures)
+    ∙ err_as (InvalidOperation ∷ []) c.new.result c.new.ensures
 
 pub returns-in_err-joined-clause-refused : goal.returns-in_err-joined-clause-refused
 returns-in_err-joined-clause-refused g c =
-    err_on (λ kinds. NoMemory kinds ⊎ (first_standing (programs_under (g.T.Templates.standing c.args.program.templates.now) (g.T.Templates.joins c.args.program.templates.now) (g.T.Callbacks.callables c.args.program.templates.now) (option_map standing_of c.args.program.root) c.args.program.rules).around c.args.here.now c.args.choices.now ≡ Err kinds)) _ c.from_residual.result c.from_residual.ensures.1
+    err_on (λ stop. FaultsSo (λ kinds. first_standing (programs_under (g.T.Templates.standing c.args.program.templates.now) (g.T.Templates.joins c.args.program.templates.now) (g.T.Callbacks.callables c.args.program.templates.now) (option_map standing_of c.args.program.root) c.args.program.rules).around c.args.here.now c.args.choices.now ≡ Err kinds) stop) _ c.from_residual.result c.from_residual.ensures.1
     (unjoined_or (g.T.Templates.standing c.args.program.templates.now) (g.T.Templates.joins c.args.program.templates.now) (g.T.Callbacks.callables c.args.program.templates.now) (option_map standing_of c.args.program.root) c.args.program.rules c.args.here.now c.args.choices.now c.loop-place.place c.in-Some.choice.now c.loop-place.invariant (sym c.in-Some.ensures) c.in-Some-as_str.name.now
     (sym c.in-Some-as_str.ensures) _ c.in_err-joined.ensures.refused)
 

@@ -14,8 +14,7 @@ returns-in-Ok-clause-rendered g c =
       λ more. (
         Ok tt,
         tt,
-        c.in-Ok.ensures.failures more,
-        rendered_done _ _ (registry_of (environment_of t)) c.args.ids.now (standing_of (compiled_in t.compiled)) c.args.context _ _ none
+        rendered_done _ _ (registry_of (environment_of t)) c.args.ids.now (standing_of (compiled_in t.compiled)) c.args.context _ _ _ _ none
             (c.every_render_ends.ensures c.args.ids.now c.args.context, c.in-Ok.ensures.renders more),
       ),
     )
@@ -31,8 +30,7 @@ returns-in-Err-clause-rendered g c =
       λ more. (
         Err c.in-Err.error,
         refl,
-        c.in-Err.ensures.failures more,
-        rendered_failed _ _ _ (registry_of (environment_of t)) c.args.ids.now (standing_of (compiled_in t.compiled)) c.args.context _ _ none
+        rendered_failed _ _ _ (registry_of (environment_of t)) c.args.ids.now (standing_of (compiled_in t.compiled)) c.args.context _ _ _ _ none
             (c.every_render_ends.ensures c.args.ids.now c.args.context, c.in-Err.ensures.renders more),
       ),
     )

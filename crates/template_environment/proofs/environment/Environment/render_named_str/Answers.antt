@@ -24,7 +24,6 @@ returns-clause-renders g c =
           (record {
             finished = c.every_render_ends.ensures c.args.ids.now c.args.context;
             gives = rendered.text;
-            no_write_failure = rendered.no_write_failure;
             counted = rendered.counted;
             exhausted = rendered.exhausted;
           }),

@@ -1,7 +1,7 @@
 use Rattle.template_machine_meaning.proofs.Placed.{bodies_stay}
 use Rattle.template_machine_calls.specs.Left.{turnings_in}
 use Rattle.template_environment.specs.Extras.{user_answers}
-use Rattle.template_environment.proofs.Told.{reached_as, turned_quiet, turned_there}
+use Rattle.template_environment.proofs.Told.{reached_as, turned_spares, turned_there}
 use Rattle.template_environment.proofs.state.State.come_to.Goals as goal
 
 pub returns-in-Value-clause-does : goal.returns-in-Value-clause-does
@@ -11,8 +11,8 @@ returns-in-Value-clause-does g c =
     reached_as says self self _ c.args.reached c.turn_all.result c.in-Value.is
     (turned_there says self (turnings_in c.in-Value.turnings.items) c.in-Value.value c.turn_all.result c.turn_all.ensures)
 
-pub returns-in-Value-clause-no_write_failure : goal.returns-in-Value-clause-no_write_failure
-returns-in-Value-clause-no_write_failure g c = turned_quiet c.args.self.now.machine (turnings_in c.in-Value.turnings.items) c.in-Value.value c.turn_all.result c.turn_all.ensures
+pub returns-in-Value-clause-spares : goal.returns-in-Value-clause-spares
+returns-in-Value-clause-spares g c = turned_spares c.args.self.now.machine (turnings_in c.in-Value.turnings.items) c.in-Value.value c.turn_all.result c.turn_all.ensures
 
 pub returns-in-Enters-clause-does : goal.returns-in-Enters-clause-does
 returns-in-Enters-clause-does g c =

@@ -1,7 +1,7 @@
 use Rattle.std.proofs.Common.{refl}
 use Rattle.template_environment.specs.Extras.{user_answers}
 use Rattle.template_environment.proofs.Calling.{program_in}
-use Rattle.template_environment.proofs.Told.{entered_there, sink_quiet}
+use Rattle.template_environment.proofs.Told.{entered_there, sink_spares}
 use Rattle.template_environment.proofs.state.State.enter.Goals as goal
 
 pub returns-clause-does : goal.returns-clause-does
@@ -13,8 +13,8 @@ returns-clause-does g c =
     programs.templates programs.root programs.name programs.limit programs.undefined in
     entered_there says self c.args.entry _ _ _ _ c.run_entry-told.result is c.remaining-left.ensures c.run_entry-told.ensures.plan c.spend-self.ensures.left
 
-pub returns-clause-no_write_failure : goal.returns-clause-no_write_failure
-returns-clause-no_write_failure g c = sink_quiet 0 c.run_entry-told.result c.run_entry-told.ensures.failures
+pub returns-clause-spares : goal.returns-clause-spares
+returns-clause-spares g c = sink_spares 0 c.run_entry-told.result c.run_entry-told.ensures.failures
 
 pub returns-clause-rest : goal.returns-clause-rest
 returns-clause-rest g c = record { environment = refl; template = refl; id = refl; fuel = c.spend-self.ensures.set }

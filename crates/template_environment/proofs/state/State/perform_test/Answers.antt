@@ -9,15 +9,12 @@ use Rattle.template_values_model.specs.Val.{truth}
 use Rattle.template_environment.specs.Extras.{user_answers}
 use Rattle.template_environment.specs.Reading.{callables_of}
 use Rattle.template_environment.specs.States.{around_in, fuel_left_in}
-use Rattle.template_environment.proofs.Told.{around_there, err_only, err_quiet, failed_left, failed_rest, failing_left, failing_quiet, failing_told, failed_frames, failed_places, frames_behind, handed_told, invoked_kept, mark_put_back, meant, on_err, places_behind, planned_there, reached_there, remains_there, rest_from, stopped_remains, temps_frames, temps_places, temps_put_back, test_told, told_there, want_left, want_quiet, want_told, world_there}
+use Rattle.template_environment.proofs.Told.{around_there, err_only, failed_frames, failed_left, failed_places, failed_rest, failing_left, failing_told, frames_behind, mark_put_back, meant, on_err, places_behind, planned_there, reached_there, remains_there, rest_from, stopped_remains, stopped_told, temps_frames, temps_places, temps_put_back, test_told, told_there, want_left, want_told, world_there}
 use Rattle.template_environment.proofs.state.State.perform_test.Goals as goal
 
 -- no memory for the mark
 pub returns-in_err-mark-clause-told : goal.returns-in_err-mark-clause-told
 returns-in_err-mark-clause-told g c = λ n finished. want_told _ _ _ _ _ c.in_err-mark.ensures.refused c.from_residual.ensures.1
-
-pub returns-in_err-mark-clause-no_write_failure : goal.returns-in_err-mark-clause-no_write_failure
-returns-in_err-mark-clause-no_write_failure g c = err_quiet _ _ (want_quiet _ c.in_err-mark.ensures.refused) c.from_residual.ensures.1
 
 pub returns-in_err-mark-clause-remains : goal.returns-in_err-mark-clause-remains
 returns-in_err-mark-clause-remains g c = λ n finished.
@@ -39,52 +36,6 @@ pub returns-in_err-mark-clause-places : goal.returns-in_err-mark-clause-places
 returns-in_err-mark-clause-places g c = bodies_stay _
 
 -- a call that is refused
-pub returns-in_err-reached-clause-told : goal.returns-in_err-reached-clause-told
-returns-in_err-reached-clause-told g c = λ n finished.
-    let self = c.args.self.now in
-    let says = (user_answers g.E.Callable.Callable.answer g.E.Method.UnknownMethod.answer g.E.Formatter.Formatter.answer g.E.Join.PathJoin.answer) in
-    let rules = c.rules-rules.ensures in
-    let same = around_there says self c.rules-rules.result (rules.name ∙ c.own_name.ensures) rules.limit rules.undefined in
-    let a = around_under c.rules-rules.result (callables_of says self.environment.now) (around_in says self) in
-    let called = invokes (test_named c.args.name.now) c.args.args.now in
-    let failed = planned_there says self a called (Err _) c.call_test.new.state same (c.in_err-reached.ensures.told (around_in says self)) in
-    failing_told says self (call_plan (around_in says self) self.machine called) (invoked_kept says self (test_named c.args.name.now) c.args.args.now) c.call_test.new.state _ failed _ _ c.from_residual-in_err-reached.ensures.1 n finished
-
-pub returns-in_err-reached-clause-no_write_failure : goal.returns-in_err-reached-clause-no_write_failure
-returns-in_err-reached-clause-no_write_failure g c =
-    let self = c.args.self.now in
-    let says = (user_answers g.E.Callable.Callable.answer g.E.Method.UnknownMethod.answer g.E.Formatter.Formatter.answer g.E.Join.PathJoin.answer) in
-    let rules = c.rules-rules.ensures in
-    let same = around_there says self c.rules-rules.result (rules.name ∙ c.own_name.ensures) rules.limit rules.undefined in
-    let a = around_under c.rules-rules.result (callables_of says self.environment.now) (around_in says self) in
-    let called = invokes (test_named c.args.name.now) c.args.args.now in
-    let failed = planned_there says self a called (Err _) c.call_test.new.state same (c.in_err-reached.ensures.told (around_in says self)) in
-    failing_quiet says self (call_plan (around_in says self) self.machine called) (invoked_kept says self (test_named c.args.name.now) c.args.args.now) c.call_test.new.state _ failed _ c.from_residual-in_err-reached.ensures.1
-
-pub returns-in_err-reached-clause-remains : goal.returns-in_err-reached-clause-remains
-returns-in_err-reached-clause-remains g c = λ n finished.
-    let self = c.args.self.now in
-    let says = (user_answers g.E.Callable.Callable.answer g.E.Method.UnknownMethod.answer g.E.Formatter.Formatter.answer g.E.Join.PathJoin.answer) in
-    let rules = c.rules-rules.ensures in
-    let same = around_there says self c.rules-rules.result (rules.name ∙ c.own_name.ensures) rules.limit rules.undefined in
-    let a = around_under c.rules-rules.result (callables_of says self.environment.now) (around_in says self) in
-    let called = invokes (test_named c.args.name.now) c.args.args.now in
-    let failed = planned_there says self a called (Err _) c.call_test.new.state same (c.in_err-reached.ensures.told (around_in says self)) in
-    failing_left says self (call_plan (around_in says self) self.machine called) (invoked_kept says self (test_named c.args.name.now) c.args.args.now) c.call_test.new.state _ failed _ c.from_residual-in_err-reached.ensures.1 n finished
-
-pub returns-in_err-reached-clause-world : goal.returns-in_err-reached-clause-world
-returns-in_err-reached-clause-world g c = err_only _ _ _ c.from_residual-in_err-reached.ensures.1
-
-pub returns-in_err-reached-clause-put_back : goal.returns-in_err-reached-clause-put_back
-returns-in_err-reached-clause-put_back g c = on_err _ _ (temps_put_back c.args.self.now.machine c.call_test.new.state c.in_err-reached.ensures.kept)
-
-pub returns-in_err-reached-clause-frames : goal.returns-in_err-reached-clause-frames
-returns-in_err-reached-clause-frames g c = temps_frames c.args.self.now.machine c.call_test.new.state c.in_err-reached.ensures.kept
-
-pub returns-in_err-reached-clause-places : goal.returns-in_err-reached-clause-places
-returns-in_err-reached-clause-places g c = temps_places c.args.self.now.machine c.call_test.new.state c.in_err-reached.ensures.kept
-
--- one that fails
 pub returns-in-Err-clause-told : goal.returns-in-Err-clause-told
 returns-in-Err-clause-told g c = λ n finished.
     let self = c.args.self.now in
@@ -93,13 +44,8 @@ returns-in-Err-clause-told g c = λ n finished.
     let same = around_there says self c.rules-rules.result (rules.name ∙ c.own_name.ensures) rules.limit rules.undefined in
     let a = around_under c.rules-rules.result (callables_of says self.environment.now) (around_in says self) in
     let called = invokes (test_named c.args.name.now) c.args.args.now in
-    let planned = planned_there says self a called (Ok c.in_ok-reached.reached) c.call_test.new.state same (c.in_ok-reached.ensures.told (around_in says self)) in
-    let there = reached_there says self c.in_ok-reached.reached c.call_test.new.state (call_plan (around_in says self) self.machine called) c.come_to.new.self (Err c.in-Err.error)
-    c.in_ok-reached.ensures.kept planned c.in-Err.ensures.does in
-    handed_told says self (call_plan (around_in says self) self.machine called) (invoked_kept says self (test_named c.args.name.now) c.args.args.now) c.come_to.new.self c.in-Err.error there c.in-Err.ensures.no_write_failure {X = Bool} (λ is. value (truth is)) (Err c.failed.result) c.failed.ensures.same n finished
-
-pub returns-in-Err-clause-no_write_failure : goal.returns-in-Err-clause-no_write_failure
-returns-in-Err-clause-no_write_failure g c = err_quiet {X = Bool} (Err c.failed.result) c.in-Err.error c.in-Err.ensures.no_write_failure c.failed.ensures.same
+    let failed = planned_there says self a called (Err c.in-Err.stop) c.call_test.new.state same (c.in-Err.ensures.told (around_in says self)) in
+    failing_told says self (call_plan (around_in says self) self.machine called) c.call_test.new.state c.in-Err.stop failed {X = Bool} (λ is. value (truth is)) (Err c.into_error.result) c.into_error.ensures n finished
 
 pub returns-in-Err-clause-remains : goal.returns-in-Err-clause-remains
 returns-in-Err-clause-remains g c = λ n finished.
@@ -109,71 +55,106 @@ returns-in-Err-clause-remains g c = λ n finished.
     let same = around_there says self c.rules-rules.result (rules.name ∙ c.own_name.ensures) rules.limit rules.undefined in
     let a = around_under c.rules-rules.result (callables_of says self.environment.now) (around_in says self) in
     let called = invokes (test_named c.args.name.now) c.args.args.now in
-    let planned = planned_there says self a called (Ok c.in_ok-reached.reached) c.call_test.new.state same (c.in_ok-reached.ensures.told (around_in says self)) in
-    let there = reached_there says self c.in_ok-reached.reached c.call_test.new.state (call_plan (around_in says self) self.machine called) c.come_to.new.self (Err c.in-Err.error)
-    c.in_ok-reached.ensures.kept planned c.in-Err.ensures.does in
-    failed_left self c.come_to.new.self c.failed.new.self c.failed.ensures.rest Bool (fuel_left_in self) (meant says self (call_plan (around_in says self) self.machine called) n) c.in-Err.error c.failed.result c.failed.ensures.same
-    (stopped_remains says self (call_plan (around_in says self) self.machine called) (invoked_kept says self (test_named c.args.name.now) c.args.args.now) c.come_to.new.self c.in-Err.error there n finished)
+    let failed = planned_there says self a called (Err c.in-Err.stop) c.call_test.new.state same (c.in-Err.ensures.told (around_in says self)) in
+    failing_left says self (call_plan (around_in says self) self.machine called) c.call_test.new.state c.in-Err.stop failed {X = Bool} (Err c.into_error.result) c.into_error.ensures n finished
 
 pub returns-in-Err-clause-put_back : goal.returns-in-Err-clause-put_back
-returns-in-Err-clause-put_back g c = mark_put_back c.args.self.now.machine c.come_to.new.self.machine c.failed.new.self.machine c.in_ok-mark.mark c.in_ok-mark.ensures.marked c.failed.ensures.put_back
-
-pub returns-in-Err-clause-rest : goal.returns-in-Err-clause-rest
-returns-in-Err-clause-rest g c = failed_rest c.args.self.now c.come_to.new.self c.failed.new.self c.failed.ensures.rest (rest_from c.args.self.now c.come_to.new.self c.call_test.new.state c.in-Err.ensures.rest)
+returns-in-Err-clause-put_back g c = temps_put_back c.args.self.now.machine c.call_test.new.state c.in-Err.ensures.kept
 
 pub returns-in-Err-clause-frames : goal.returns-in-Err-clause-frames
-returns-in-Err-clause-frames g c =
-    failed_frames c.args.self.now.machine c.come_to.new.self.machine c.failed.new.self.machine c.in_ok-mark.mark c.in_ok-mark.ensures.marked c.failed.ensures.put_back
-    (frames_behind c.in_ok-reached.reached c.args.self.now.machine c.call_test.new.state c.come_to.new.self.machine c.in_ok-reached.ensures.kept c.in-Err.ensures.frames)
+returns-in-Err-clause-frames g c = temps_frames c.args.self.now.machine c.call_test.new.state c.in-Err.ensures.kept
 
 pub returns-in-Err-clause-places : goal.returns-in-Err-clause-places
-returns-in-Err-clause-places g c =
+returns-in-Err-clause-places g c = temps_places c.args.self.now.machine c.call_test.new.state c.in-Err.ensures.kept
+
+-- one that fails
+pub returns-in-Err-come_to-clause-told : goal.returns-in-Err-come_to-clause-told
+returns-in-Err-come_to-clause-told g c = λ n finished.
+    let self = c.args.self.now in
+    let says = (user_answers g.E.Callable.Callable.answer g.E.Method.UnknownMethod.answer g.E.Formatter.Formatter.answer g.E.Join.PathJoin.answer) in
+    let rules = c.rules-rules.ensures in
+    let same = around_there says self c.rules-rules.result (rules.name ∙ c.own_name.ensures) rules.limit rules.undefined in
+    let a = around_under c.rules-rules.result (callables_of says self.environment.now) (around_in says self) in
+    let called = invokes (test_named c.args.name.now) c.args.args.now in
+    let planned = planned_there says self a called (Ok c.in-Ok.reached) c.call_test.new.state same (c.in-Ok.ensures.told (around_in says self)) in
+    let there = reached_there says self c.in-Ok.reached c.call_test.new.state (call_plan (around_in says self) self.machine called) c.come_to.new.self (Err c.in-Err-come_to.stop)
+    c.in-Ok.ensures.kept planned c.in-Err-come_to.ensures.does in
+    stopped_told says self (call_plan (around_in says self) self.machine called) c.come_to.new.self c.in-Err-come_to.stop there c.in-Err-come_to.ensures.spares n finished
+    {X = Bool} (λ is. value (truth is)) (Err c.failed.result) (c.failed.ensures.same ∙ c.into_error-in-Err-come_to.ensures)
+
+pub returns-in-Err-come_to-clause-remains : goal.returns-in-Err-come_to-clause-remains
+returns-in-Err-come_to-clause-remains g c = λ n finished.
+    let self = c.args.self.now in
+    let says = (user_answers g.E.Callable.Callable.answer g.E.Method.UnknownMethod.answer g.E.Formatter.Formatter.answer g.E.Join.PathJoin.answer) in
+    let rules = c.rules-rules.ensures in
+    let same = around_there says self c.rules-rules.result (rules.name ∙ c.own_name.ensures) rules.limit rules.undefined in
+    let a = around_under c.rules-rules.result (callables_of says self.environment.now) (around_in says self) in
+    let called = invokes (test_named c.args.name.now) c.args.args.now in
+    let planned = planned_there says self a called (Ok c.in-Ok.reached) c.call_test.new.state same (c.in-Ok.ensures.told (around_in says self)) in
+    let there = reached_there says self c.in-Ok.reached c.call_test.new.state (call_plan (around_in says self) self.machine called) c.come_to.new.self (Err c.in-Err-come_to.stop)
+    c.in-Ok.ensures.kept planned c.in-Err-come_to.ensures.does in
+    failed_left self c.come_to.new.self c.failed.new.self c.failed.ensures.rest {X = Bool} (fuel_left_in self) (meant says self (call_plan (around_in says self) self.machine called) n) (Err c.failed.result)
+    (stopped_remains says self (call_plan (around_in says self) self.machine called) c.come_to.new.self c.in-Err-come_to.stop there c.in-Err-come_to.ensures.spares n finished {X = Bool} (Err c.failed.result) (c.failed.ensures.same ∙ c.into_error-in-Err-come_to.ensures))
+
+pub returns-in-Err-come_to-clause-put_back : goal.returns-in-Err-come_to-clause-put_back
+returns-in-Err-come_to-clause-put_back g c = mark_put_back c.args.self.now.machine c.come_to.new.self.machine c.failed.new.self.machine c.in_ok-mark.mark c.in_ok-mark.ensures.marked c.failed.ensures.put_back
+
+pub returns-in-Err-come_to-clause-rest : goal.returns-in-Err-come_to-clause-rest
+returns-in-Err-come_to-clause-rest g c = failed_rest c.args.self.now c.come_to.new.self c.failed.new.self c.failed.ensures.rest (rest_from c.args.self.now c.come_to.new.self c.call_test.new.state c.in-Err-come_to.ensures.rest)
+
+pub returns-in-Err-come_to-clause-frames : goal.returns-in-Err-come_to-clause-frames
+returns-in-Err-come_to-clause-frames g c =
+    failed_frames c.args.self.now.machine c.come_to.new.self.machine c.failed.new.self.machine c.in_ok-mark.mark c.in_ok-mark.ensures.marked c.failed.ensures.put_back
+    (frames_behind c.in-Ok.reached c.args.self.now.machine c.call_test.new.state c.come_to.new.self.machine c.in-Ok.ensures.kept c.in-Err-come_to.ensures.frames)
+
+pub returns-in-Err-come_to-clause-places : goal.returns-in-Err-come_to-clause-places
+returns-in-Err-come_to-clause-places g c =
     failed_places c.args.self.now.machine c.come_to.new.self.machine c.failed.new.self.machine c.in_ok-mark.mark c.failed.ensures.put_back
-    (places_behind c.in_ok-reached.reached c.args.self.now.machine c.call_test.new.state c.come_to.new.self.machine c.in_ok-reached.ensures.kept c.in-Err.ensures.places)
+    (places_behind c.in-Ok.reached c.args.self.now.machine c.call_test.new.state c.come_to.new.self.machine c.in-Ok.ensures.kept c.in-Err-come_to.ensures.places)
 
 -- its value
-pub returns-in-Ok-clause-told : goal.returns-in-Ok-clause-told
-returns-in-Ok-clause-told g c = λ n finished.
+pub returns-in-Ok-come_to-clause-told : goal.returns-in-Ok-come_to-clause-told
+returns-in-Ok-come_to-clause-told g c = λ n finished.
     let self = c.args.self.now in
     let says = (user_answers g.E.Callable.Callable.answer g.E.Method.UnknownMethod.answer g.E.Formatter.Formatter.answer g.E.Join.PathJoin.answer) in
     let rules = c.rules-rules.ensures in
     let same = around_there says self c.rules-rules.result (rules.name ∙ c.own_name.ensures) rules.limit rules.undefined in
     let a = around_under c.rules-rules.result (callables_of says self.environment.now) (around_in says self) in
     let called = invokes (test_named c.args.name.now) c.args.args.now in
-    let planned = planned_there says self a called (Ok c.in_ok-reached.reached) c.call_test.new.state same (c.in_ok-reached.ensures.told (around_in says self)) in
-    let there = reached_there says self c.in_ok-reached.reached c.call_test.new.state (call_plan (around_in says self) self.machine called) c.come_to.new.self (Ok c.in-Ok.value)
-    c.in_ok-reached.ensures.kept planned c.in-Ok.ensures.does in
-    test_told says self c.args.name.now c.args.args.now n c.in-Ok.value _ c.is_true.ensures
-    (told_there says self (call_plan (around_in says self) self.machine called) (invoked_kept says self (test_named c.args.name.now) c.args.args.now) c.come_to.new.self (Ok c.in-Ok.value) there tt n finished)
+    let planned = planned_there says self a called (Ok c.in-Ok.reached) c.call_test.new.state same (c.in-Ok.ensures.told (around_in says self)) in
+    let there = reached_there says self c.in-Ok.reached c.call_test.new.state (call_plan (around_in says self) self.machine called) c.come_to.new.self (Ok c.in-Ok-come_to.value)
+    c.in-Ok.ensures.kept planned c.in-Ok-come_to.ensures.does in
+    test_told says self c.args.name.now c.args.args.now n c.in-Ok-come_to.value _ c.is_true.ensures
+    (told_there says self (call_plan (around_in says self) self.machine called) c.come_to.new.self c.in-Ok-come_to.value there n finished)
 
-pub returns-in-Ok-clause-remains : goal.returns-in-Ok-clause-remains
-returns-in-Ok-clause-remains g c = λ n finished.
+pub returns-in-Ok-come_to-clause-remains : goal.returns-in-Ok-come_to-clause-remains
+returns-in-Ok-come_to-clause-remains g c = λ n finished.
     let self = c.args.self.now in
     let says = (user_answers g.E.Callable.Callable.answer g.E.Method.UnknownMethod.answer g.E.Formatter.Formatter.answer g.E.Join.PathJoin.answer) in
     let rules = c.rules-rules.ensures in
     let same = around_there says self c.rules-rules.result (rules.name ∙ c.own_name.ensures) rules.limit rules.undefined in
     let a = around_under c.rules-rules.result (callables_of says self.environment.now) (around_in says self) in
     let called = invokes (test_named c.args.name.now) c.args.args.now in
-    let planned = planned_there says self a called (Ok c.in_ok-reached.reached) c.call_test.new.state same (c.in_ok-reached.ensures.told (around_in says self)) in
-    let there = reached_there says self c.in_ok-reached.reached c.call_test.new.state (call_plan (around_in says self) self.machine called) c.come_to.new.self (Ok c.in-Ok.value)
-    c.in_ok-reached.ensures.kept planned c.in-Ok.ensures.does in
-    remains_there says self (call_plan (around_in says self) self.machine called) (invoked_kept says self (test_named c.args.name.now) c.args.args.now) c.come_to.new.self c.in-Ok.value there n finished
+    let planned = planned_there says self a called (Ok c.in-Ok.reached) c.call_test.new.state same (c.in-Ok.ensures.told (around_in says self)) in
+    let there = reached_there says self c.in-Ok.reached c.call_test.new.state (call_plan (around_in says self) self.machine called) c.come_to.new.self (Ok c.in-Ok-come_to.value)
+    c.in-Ok.ensures.kept planned c.in-Ok-come_to.ensures.does in
+    remains_there says self (call_plan (around_in says self) self.machine called) c.come_to.new.self c.in-Ok-come_to.value there n finished
 
-pub returns-in-Ok-clause-world : goal.returns-in-Ok-clause-world
-returns-in-Ok-clause-world g c = λ n finished.
+pub returns-in-Ok-come_to-clause-world : goal.returns-in-Ok-come_to-clause-world
+returns-in-Ok-come_to-clause-world g c = λ n finished.
     let self = c.args.self.now in
     let says = (user_answers g.E.Callable.Callable.answer g.E.Method.UnknownMethod.answer g.E.Formatter.Formatter.answer g.E.Join.PathJoin.answer) in
     let rules = c.rules-rules.ensures in
     let same = around_there says self c.rules-rules.result (rules.name ∙ c.own_name.ensures) rules.limit rules.undefined in
     let a = around_under c.rules-rules.result (callables_of says self.environment.now) (around_in says self) in
     let called = invokes (test_named c.args.name.now) c.args.args.now in
-    let planned = planned_there says self a called (Ok c.in_ok-reached.reached) c.call_test.new.state same (c.in_ok-reached.ensures.told (around_in says self)) in
-    let there = reached_there says self c.in_ok-reached.reached c.call_test.new.state (call_plan (around_in says self) self.machine called) c.come_to.new.self (Ok c.in-Ok.value)
-    c.in_ok-reached.ensures.kept planned c.in-Ok.ensures.does in
-    world_there says self (call_plan (around_in says self) self.machine called) (invoked_kept says self (test_named c.args.name.now) c.args.args.now) c.come_to.new.self c.in-Ok.value there n finished
+    let planned = planned_there says self a called (Ok c.in-Ok.reached) c.call_test.new.state same (c.in-Ok.ensures.told (around_in says self)) in
+    let there = reached_there says self c.in-Ok.reached c.call_test.new.state (call_plan (around_in says self) self.machine called) c.come_to.new.self (Ok c.in-Ok-come_to.value)
+    c.in-Ok.ensures.kept planned c.in-Ok-come_to.ensures.does in
+    world_there says self (call_plan (around_in says self) self.machine called) c.come_to.new.self c.in-Ok-come_to.value there n finished
 
-pub returns-in-Ok-clause-frames : goal.returns-in-Ok-clause-frames
-returns-in-Ok-clause-frames g c = frames_behind c.in_ok-reached.reached c.args.self.now.machine c.call_test.new.state c.come_to.new.self.machine c.in_ok-reached.ensures.kept c.in-Ok.ensures.frames
+pub returns-in-Ok-come_to-clause-frames : goal.returns-in-Ok-come_to-clause-frames
+returns-in-Ok-come_to-clause-frames g c = frames_behind c.in-Ok.reached c.args.self.now.machine c.call_test.new.state c.come_to.new.self.machine c.in-Ok.ensures.kept c.in-Ok-come_to.ensures.frames
 
-pub returns-in-Ok-clause-places : goal.returns-in-Ok-clause-places
-returns-in-Ok-clause-places g c = places_behind c.in_ok-reached.reached c.args.self.now.machine c.call_test.new.state c.come_to.new.self.machine c.in_ok-reached.ensures.kept c.in-Ok.ensures.places
+pub returns-in-Ok-come_to-clause-places : goal.returns-in-Ok-come_to-clause-places
+returns-in-Ok-come_to-clause-places g c = places_behind c.in-Ok.reached c.args.self.now.machine c.call_test.new.state c.come_to.new.self.machine c.in-Ok.ensures.kept c.in-Ok-come_to.ensures.places

@@ -31,11 +31,10 @@ pub returns-in_err-state-clause-text : goal.returns-in_err-state-clause-text
 returns-in_err-state-clause-text g c = λ live n finished.
     let self = c.args.self.now in
     let brought = brought_of (user_answers g.E.Callable.Callable.answer g.E.Method.UnknownMethod.answer g.E.Formatter.Formatter.answer g.E.Join.PathJoin.answer) self.environment.now in
-    let ran = c.in_err-state.ensures in
     let p = err_from_is_err_and c.from_residual-in_err-state.result c.from_residual-in_err-state.ensures.1 in
     rw (p.1, p.2)
-    (call_faults _ _ no_text brought self.environment.now.registry _ c.args.ids.now _ (compiled_in self.compiled) c.args.context _ _ _
-    c.in_ok-id.ensures.given c.get.ensures ran.failures ran.renders n finished)
+    (call_faults _ _ no_text brought self.environment.now.registry _ c.args.ids.now _ (compiled_in self.compiled) c.args.context _ _ 0
+    c.in_ok-id.ensures.given c.get.ensures c.in_err-state.ensures.renders n finished)
 
 pub returns-in_err-state-clause-plain : goal.returns-in_err-state-clause-plain
 returns-in_err-state-clause-plain g c = λ live plain.
@@ -49,7 +48,7 @@ returns-clause-text g c = λ live n finished.
     let self = c.args.self.now in
     let brought = brought_of (user_answers g.E.Callable.Callable.answer g.E.Method.UnknownMethod.answer g.E.Formatter.Formatter.answer g.E.Join.PathJoin.answer) self.environment.now in
     let captured : Captured _ _ _ _ _ _ = record { output = c.run.new.sink; state = c.in_ok-state.state } in
-    call_gives _ captured output_of brought self.environment.now.registry _ c.args.ids.now _ (compiled_in self.compiled) c.args.context _
+    call_gives _ captured output_of brought self.environment.now.registry _ c.args.ids.now _ (compiled_in self.compiled) c.args.context _ _ _
     c.in_ok-id.ensures.given c.get.ensures c.new-output.ensures.bytes c.in_ok-state.ensures.renders n finished
 
 pub returns-clause-remains : goal.returns-clause-remains
