@@ -36,7 +36,7 @@ module _ {S : Type 0} (answers : Answering S) (code : List Code) where
 
   stops_alike : (x y : Spot S) (stop : Stop) → Stops answers (numbered_in code) x y stop → Stops answers code x y stop
   stops_alike x y (Fault kinds) (faults (bound, is)) =
-      faults (bound, subst (λ (runs : ℕ → Run S). Faults runs kinds x.left y.left x.taken y.taken) (runs_alike bound x) is)
+      faults (bound, subst (λ (runs : ℕ → Run S). Faults runs kinds y.world x.left y.left x.taken y.taken) (runs_alike bound x) is)
   stops_alike x y (Fault kinds) (runs_out (bound, is)) =
       runs_out (bound, subst (λ (runs : ℕ → Run S). RunsOut runs kinds x.left y.left x.taken y.taken) (runs_alike bound x) is)
   stops_alike x y (Fault kinds) (strays why (bound, is)) = strays why (bound, subst Strays (runs_alike bound x) is)

@@ -160,7 +160,7 @@ pub render_stopped : (X : Type 0) (k : Brought) (e : Registry) (id : ℕ) (c : C
     → (n : ℕ) → IsFinished (rendering k e id c n context).end → Renders {X = X} (Err stop) before taken (under set (rendering k e id c n context))
 render_stopped X k e id c context s w after set fuel left before taken stop same of runs n finished =
     subst (λ (f : Option ℕ). Renders {X = X} (Err stop) before taken (under f (rendering k e id c n context))) same
-    (stops_render X (setting_of k e) (standing_of c) (first_world id e.globals (head_of (standing_of c)) context) fuel left before taken stop
+    (stops_render X (setting_of k e) (standing_of c) (first_world id e.globals (head_of (standing_of c)) context) after fuel left before taken stop
     (subst (λ (x : World). KeyRuns {X = X} (codes_of (setting_of k e) (Some (standing_of c))) top x fuel before (Err stop) after left taken) of.start
     (subst (λ (p : Programs). KeyRuns {X = X} p top w fuel before (Err stop) after left taken) of.programs runs))
     n finished)

@@ -1,5 +1,5 @@
 -- From what a call comes to in a state by code to what it means there.
-use Rattle.std.proofs.Common.{◌≡◌, ◌⊎◌, inl, inr, ℕ, ◌-◌, nat_le, if◌then◌else◌, Bool, true, false, List, [], ◌∷◌, Option, None, Some, Result, Ok, Err, IfErr, IsErrAnd, OnErr, OnOk, length, refl, sym, ap, subst, ◌∙◌, arith}
+use Rattle.std.proofs.Common.{◌≡◌, ◌⊎◌, inl, inr, ℕ, ◌-◌, nat_le, if◌then◌else◌, Bool, true, false, List, [], ◌∷◌, Option, None, Some, Result, Ok, Err, IfErr, IsErrAnd, OnErr, length, refl, sym, ap, subst, ◌∙◌, arith}
 use Rattle.std.specs.Global.{Global}
 use Rattle.std.specs.Option.{option_map}
 use Rattle.std.specs.Prelude.{String, string_bytes}
@@ -45,12 +45,12 @@ use Rattle.template_machine_loop.proofs.Turned.{settled_turning, turned_does, tu
 use Rattle.template_machine_renders.specs.Plans.{DoesPlan, PutsBack, replies_of, run_of}
 use Rattle.template_machine_renders.specs.Renders as renders
 use Rattle.template_machine_renders.specs.Renders.{FaultsAs, leaves}
-use Rattle.template_machine_renders.proofs.Calls.{TellsTo, calls_tell, codes_uniform, failed_does, planned_does, reached_does}
+use Rattle.template_machine_renders.proofs.Calls.{TellsTo, calls_tell, failed_does, planned_does, reached_does}
 use Rattle.template_compiled.specs.Compiled.{standing_of}
 use Rattle.template_environment.specs.Extras.{UserAnswers}
 use Rattle.template_environment.specs.Reading.{callables_of, registry_of, setting_in}
 use Rattle.template_environment.specs.Renderings.{IsNoMore, LeavesFuel}
-use Rattle.template_environment.specs.States.{DoesThere, GivesTold, IsMissing, KeepsRest, KeepsState, around_in, codes_in, environment_in, found_in, fuel_left_in, fuel_set_in, id_in, own_name_in, programs_in, template_in, worded_in, world_in}
+use Rattle.template_environment.specs.States.{DoesThere, GivesTold, IsMissing, KeepsRest, KeepsState, LeavesWorld, around_in, codes_in, environment_in, found_in, fuel_left_in, fuel_set_in, id_in, own_name_in, programs_in, template_in, worded_in, world_in}
 use Rattle.template_environment.specs.declared.registry.Registry.{Registry}
 use Rattle.template_environment.specs.declared.state.State.{State}
 
@@ -121,10 +121,6 @@ err_told : {X : Type 0} (give : X → Answer) (fuel : Option ℕ) (r : Reply Wor
 err_told give fuel r (Ok x) kinds why is = absurd is
 err_told give fuel r (Err ks) kinds why is = subst (λ qs. FaultsAs (under fuel (run_of r)) qs ⊎ NoMemory qs) (sym is) why
 
-pub err_only : {X : Type 0} (P : Type 0) (result : Result X (List ErrorKind)) (kinds : List ErrorKind) → IsErrAnd result (λ ks. ks ≡ kinds) → OnOk result P
-err_only P (Ok x) kinds is = absurd is
-err_only P (Err ks) kinds is = tt
-
 pub on_err : {X : Type 0} (P : Type 0) (result : Result X (List ErrorKind)) → P → OnErr result P
 on_err P (Ok x) h = tt
 on_err P (Err kinds) h = h
@@ -143,6 +139,34 @@ left_on fuel left r (Err ks) kinds is h = subst (λ (qs : List ErrorKind). NoMem
 pub want_left : {X : Type 0} (fuel left : Option ℕ) (r : Reply World) (result : Result X (List ErrorKind)) (kinds : List ErrorKind)
     → NoMemory kinds → IsErrAnd result (λ ks. ks ≡ kinds) → LeavesFuel fuel (run_of r) result left
 want_left fuel left r result kinds want is = left_on fuel left r result kinds is (inl want)
+
+-- the world behind an error that is handed on
+pub world_on : {X : Type 0} (fuel : Option ℕ) (w now : World) (r : Reply World) (result : Result X (List ErrorKind)) (kinds : List ErrorKind)
+    → IsErrAnd result (λ ks. ks ≡ kinds) → LeavesWorld {X = Val} fuel w (Err kinds) r now → LeavesWorld fuel w result r now
+world_on fuel w now r (Ok x) kinds is h = absurd is
+world_on {X} fuel w now r (Err ks) kinds is h = subst (λ (qs : List ErrorKind). LeavesWorld {X = X} fuel w (Err qs) r now) (sym is) h
+
+pub want_world : {X : Type 0} (fuel : Option ℕ) (w now : World) (r : Reply World) (result : Result X (List ErrorKind)) (kinds : List ErrorKind)
+    → NoMemory kinds → IsErrAnd result (λ ks. ks ≡ kinds) → LeavesWorld fuel w result r now
+want_world fuel w now r result kinds want is = world_on fuel w now r result kinds is (inl want)
+
+-- where no sink failed, behind a stop it is that of the run, with what was open put back
+stopped_world : (fuel : Option ℕ) (w after now : World) (r : Reply World) (stop : Stop) → SparesSink stop
+    → renders.Renders {X = Val} (Err stop) None None (under fuel (run_of r)) → renders.LeavesWorld fuel (run_of r) stop after → now ≡ put_back (caller_of w) after
+    → LeavesWorld {X = Val} fuel w (Err (kinds_in stop)) r now
+stopped_world fuel w after now r (Fault kinds) spares stopped (inl short) back = inr (inl short)
+stopped_world fuel w after now r (Fault kinds) spares stopped (inr is) back = inr (inr (back ∙ ap (put_back (caller_of w)) is))
+stopped_world fuel w after now r (Want kinds) spares (inl want, text) left back = inl want
+stopped_world fuel w after now r (Want kinds) spares (inr failed, text) left back = absurd (spares (ap (λ ks. Want ks) failed))
+
+-- nothing was open where nothing but temps is other
+pub temps_same : (w v : World) → OnlyTemps w v → v ≡ put_back (caller_of w) v
+temps_same w v only =
+    let there : World = record w { temps = v.temps; held = v.held } in
+    only ∙ put_back_itself there ∙ ap (put_back (caller_of w)) (sym only)
+
+pub mark_back : (w v after : World) (mark : Caller) → mark ≡ record (caller_of w) { blocks = [] } → after ≡ put_back mark v → after ≡ put_back (caller_of w) v
+mark_back w v after mark is same = same ∙ ap (λ (c : Caller). put_back c v) is
 
 -- what was open is so where nothing but temps is other, and where it was put back
 pub temps_put_back : (w v : World) → OnlyTemps w v → PutsBack w v
@@ -183,7 +207,7 @@ pub failed_places : (w v after : World) (mark : Caller) → after ≡ put_back m
 failed_places w v after mark same kept = subst (KeepsBodies w.blocks) (sym (ap (λ (x : World). x.blocks) same)) kept
 
 pub mark_put_back : (w v after : World) (mark : Caller) → mark ≡ record (caller_of w) { blocks = [] } → after ≡ put_back mark v → PutsBack w after
-mark_put_back w v after mark is same = record { within = v; is = same ∙ ap (λ (c : Caller). put_back c v) is }
+mark_put_back w v after mark is same = record { within = v; is = mark_back w v after mark is same }
 
 module _ {E C M F J R : Type 0} (says : UserAnswers C M F J) (s : State E C M F J R) where
   -- what a plan means in the state, under a bound
@@ -227,6 +251,13 @@ module _ {E C M F J R : Type 0} (says : UserAnswers C M F J) (s : State E C M F 
           (stopped_leaves Val (fuel_left_in s) there.left (fuel_left_in t) None None (run_of (meant p n)) stop spares there.spent
           (tells_there t (Err stop) there n finished).0 (tells_there t (Err stop) there n finished).1)
 
+      pub stopped_in : {X : Type 0} (result : Result X (List ErrorKind)) → IsErrAnd result (λ ks. ks ≡ kinds_in stop) → (now : World)
+          → now ≡ put_back (caller_of (world_in s)) (world_in t) → LeavesWorld (fuel_left_in s) (world_in s) result (meant p n) now
+      stopped_in result is now back =
+          world_on (fuel_left_in s) (world_in s) now (meant p n) result (kinds_in stop) is
+          (stopped_world (fuel_left_in s) (world_in s) (world_in t) now (meant p n) stop spares
+          (tells_there t (Err stop) there n finished).0 (tells_there t (Err stop) there n finished).2 back)
+
   -- what a call fails with
   pub failed_there : (p : Plan) (after : World) (stop : Stop) → FaultsSo (λ kinds. p ≡ replies (told after (fails kinds))) stop
       → DoesThere says p s (record s { machine = after }) (Err stop)
@@ -249,6 +280,12 @@ module _ {E C M F J R : Type 0} (says : UserAnswers C M F J) (s : State E C M F 
     failing_left result is n finished =
         stopped_remains p (record s { machine = after }) stop (failed_there p after stop failed) (so_spares (λ kinds. p ≡ replies (told after (fails kinds))) stop failed) n finished
         result is
+
+    pub failing_in : {X : Type 0} (result : Result X (List ErrorKind)) → IsErrAnd result (λ ks. ks ≡ kinds_in stop) → OnlyTemps (world_in s) after → (n : ℕ) → Finished p n
+        → LeavesWorld (fuel_left_in s) (world_in s) result (meant p n) after
+    failing_in result is only n finished =
+        stopped_in p (record s { machine = after }) stop (failed_there p after stop failed) (so_spares (λ kinds. p ≡ replies (told after (fails kinds))) stop failed) n finished
+        result is after (temps_same (world_in s) after only)
 
   -- what is around calls, and what they come to there
   pub around_there : (rules : Rules) → rules.name.now ≡ own_name_in s → rules.limit ≡ (registry_of (environment_in s)).recursion_limit
@@ -284,8 +321,7 @@ module _ {E C M F J R : Type 0} (says : UserAnswers C M F J) (s : State E C M F 
   reached_there came v p t result kept is there = record {
     left = there.left;
     does = subst (λ (q : Plan). DoesPlan value (codes_in says s) q (world_in s) (fuel_left_in s) None result (world_in t) there.left None) (sym is)
-        (reached_does (codes_in says s) (codes_uniform (setting_in says (environment_in s)) (option_map standing_of (template_in s)) (own_name_in s))
-        came (world_in s) v (fuel_left_in s) there.left None None result (world_in t) kept there.does);
+        (reached_does (codes_in says s) came (world_in s) v (fuel_left_in s) there.left None None result (world_in t) kept there.does);
     spent = there.spent;
   }
 

@@ -19,7 +19,7 @@ use Rattle.template_machine_meaning.specs.Keys.{Around, Head}
 use Rattle.template_machine_meaning.specs.Meaning.{head_of, no_head, walks_of}
 use Rattle.template_machine_meaning.specs.Names as names
 use Rattle.template_machine_going.specs.declared.stop.Stop.{Stop}
-use Rattle.template_machine_meaning.specs.Plans.{Plan, with_turning}
+use Rattle.template_machine_meaning.specs.Plans.{Plan, caller_of, put_back, with_turning}
 use Rattle.template_machine_meaning.specs.Replies.{told}
 use Rattle.template_machine_meaning.specs.Surroundings.{Programs, text_reply, written_reply}
 use Rattle.template_machine_meaning.specs.Turnings.{to_text}
@@ -28,7 +28,7 @@ use Rattle.template_machine_calls.specs.Formatted.{outside}
 use Rattle.template_machine_codes.specs.Codes.{codes_of}
 use Rattle.template_machine_renders.specs.Laws.{block_run, named_so}
 use Rattle.template_machine_renders.specs.Plans.{DoesPlan, replies_of, run_of}
-use Rattle.template_machine_renders.specs.Renders.{FaultsAs, IsOver}
+use Rattle.template_machine_renders.specs.Renders.{FaultsAs, IsOver, IsShort}
 use Rattle.template_compiled.specs.Compiled.{Compiled, standing_of}
 use Rattle.template_environment.specs.Extras.{UserAnswers}
 use Rattle.template_environment.specs.Reading.{setting_in}
@@ -152,6 +152,17 @@ module _ {E C M F J R : Type 0} where
 abbrev pub GivesTold : {X : Type 0} → (X → Answer) → Option ℕ → Result X (List ErrorKind) → Reply World → Type 0
 GivesTold give fuel (Ok x) r = IsOver (under fuel (run_of r)).end × (r.told ≡ tells (give x))
 GivesTold give fuel (Err kinds) r = FaultsAs (under fuel (run_of r)) kinds ⊎ NoMemory kinds
+
+-- The world is what the call comes to; behind its fault with what was open before put back, where the fuel lasts. Or a growth was
+-- refused.
+abbrev pub LeavesWorld : {X : Type 0} → Option ℕ → World → Result X (List ErrorKind) → Reply World → World → Type 0
+LeavesWorld fuel w (Ok _) r after = after ≡ r.after
+LeavesWorld fuel w (Err kinds) r after = NoMemory kinds ⊎ (IsShort fuel (run_of r) ⊎ (after ≡ put_back (caller_of w) r.after))
+
+-- The world is what the run leaves, where the fuel lasts. Or a growth was refused.
+abbrev pub EndsIn : {X : Type 0} → Option ℕ → Result X (List ErrorKind) → Run World → World → Type 0
+EndsIn fuel (Ok _) r after = after ≡ r.after
+EndsIn fuel (Err kinds) r after = NoMemory kinds ⊎ (IsShort fuel r ⊎ (after ≡ r.after))
 
 -- The call gives the text that is printed, or it answers with the fault that refuses it. Or a growth was refused.
 abbrev pub GivesPrinted : World → Result (String Global) (List ErrorKind) → Reply World → Type 0

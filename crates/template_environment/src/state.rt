@@ -66,7 +66,7 @@ impl<'env, 'source, E: Extension> Drop for State<'env, 'source, E> {
 
 impl<'env, 'source, E: Extension> State<'env, 'source, E> {
     ghost use Rattle.template_environment.specs.Standing.{settings_of, source_at};
-    ghost use Rattle.template_environment.specs.States.{DoesThere, GivesPrinted, GivesTold, IsMissing, KeepsRest, KeepsState, around_in, block_in, call_in, environment_in, format_in, frameless, fuel_left_in, fuel_set_in, head_of_template, id_in, joined_in, macro_in, name_in, template_in, worded_in, world_in};
+    ghost use Rattle.template_environment.specs.States.{DoesThere, EndsIn, GivesPrinted, GivesTold, IsMissing, KeepsRest, KeepsState, LeavesWorld, around_in, block_in, call_in, environment_in, format_in, frameless, fuel_left_in, fuel_set_in, head_of_template, id_in, joined_in, macro_in, name_in, template_in, worded_in, world_in};
     ghost use Rattle.template_environment.specs.Views.{environment_of, name_of, source_of};
 
     // A state without frames, of a template if one is given, with its escape and blocks, that has consumed no fuel.
@@ -199,7 +199,7 @@ impl<'env, 'source, E: Extension> State<'env, 'source, E> {
         ensures remains { let called = call_in (user_answers E.Callable.answer E.Method.answer E.Formatter.answer E.Join.answer) self.old (filter_named name.now) args.now in
             (n : ℕ) → IsFinished (run_of (called n)).end → LeavesFuel (fuel_left_in self.old) (run_of (called n)) result (fuel_left_in self.new) }
         ensures world { let called = call_in (user_answers E.Callable.answer E.Method.answer E.Formatter.answer E.Join.answer) self.old (filter_named name.now) args.now in
-            OnOk result ((n : ℕ) → IsFinished (run_of (called n)).end → world_in self.new ≡ (called n).after) }
+            (n : ℕ) → IsFinished (run_of (called n)).end → LeavesWorld (fuel_left_in self.old) (world_in self.old) result (called n) (world_in self.new) }
 
         // Whatever its end, the frames are as before, and the blocks run the bodies that they ran, with others behind them at most.
         ensures frames { (world_in self.new).frames ≡ (world_in self.old).frames }
@@ -236,7 +236,7 @@ impl<'env, 'source, E: Extension> State<'env, 'source, E> {
         ensures remains { let called = call_in (user_answers E.Callable.answer E.Method.answer E.Formatter.answer E.Join.answer) self.old (test_named name.now) args.now in
             (n : ℕ) → IsFinished (run_of (called n)).end → LeavesFuel (fuel_left_in self.old) (run_of (called n)) result (fuel_left_in self.new) }
         ensures world { let called = call_in (user_answers E.Callable.answer E.Method.answer E.Formatter.answer E.Join.answer) self.old (test_named name.now) args.now in
-            OnOk result ((n : ℕ) → IsFinished (run_of (called n)).end → world_in self.new ≡ (called n).after) }
+            (n : ℕ) → IsFinished (run_of (called n)).end → LeavesWorld (fuel_left_in self.old) (world_in self.old) result (called n) (world_in self.new) }
 
         // Whatever its end, the frames are as before, and the blocks run the bodies that they ran, with others behind them at most.
         ensures frames { (world_in self.new).frames ≡ (world_in self.old).frames }
@@ -276,7 +276,7 @@ impl<'env, 'source, E: Extension> State<'env, 'source, E> {
         ensures remains { let called = macro_in (user_answers E.Callable.answer E.Method.answer E.Formatter.answer E.Join.answer) self.old name.now args.now in
             (n : ℕ) → IsFinished (run_of (called n)).end → LeavesFuel (fuel_left_in self.old) (run_of (called n)) result (fuel_left_in self.new) }
         ensures world { let called = macro_in (user_answers E.Callable.answer E.Method.answer E.Formatter.answer E.Join.answer) self.old name.now args.now in
-            OnOk result ((n : ℕ) → IsFinished (run_of (called n)).end → world_in self.new ≡ (called n).after) }
+            (n : ℕ) → IsFinished (run_of (called n)).end → LeavesWorld (fuel_left_in self.old) (world_in self.old) result (called n) (world_in self.new) }
 
         // Whatever its end, the frames are as before, and the blocks run the bodies that they ran, with others behind them at most.
         ensures frames { (world_in self.new).frames ≡ (world_in self.old).frames }
@@ -463,7 +463,7 @@ impl<'env, 'source, E: Extension> State<'env, 'source, E> {
         ensures remains { let ran = block_in (user_answers E.Callable.answer E.Method.answer E.Formatter.answer E.Join.answer) self.old block.now in
             (n : ℕ) → IsFinished (ran n).end → LeavesFuel (fuel_left_in self.old) (ran n) result (fuel_left_in self.new) }
         ensures world { let ran = block_in (user_answers E.Callable.answer E.Method.answer E.Formatter.answer E.Join.answer) self.old block.now in
-            OnOk result ((n : ℕ) → IsFinished (ran n).end → world_in self.new ≡ (under (fuel_left_in self.old) (ran n)).after) }
+            (n : ℕ) → IsFinished (ran n).end → EndsIn (fuel_left_in self.old) result (ran n) (world_in self.new) }
 
         // Whatever its end, the frames are as before, and the blocks run the bodies that they ran, with others behind them at most.
         ensures frames { (world_in self.new).frames ≡ (world_in self.old).frames }
@@ -494,12 +494,13 @@ impl<'env, 'source, E: Extension> State<'env, 'source, E> {
             (n : ℕ) → IsFinished (ran n).end →
             Renders result (S.taken sink.old) (S.taken sink.new) (S.failures sink.old) (S.failures sink.new) (under (fuel_left_in self.old) (ran n)) }
 
-        // Where the sink does not fail, the fuel that is left is what that leaves.
+        // Where the sink does not fail, the fuel and the world that are left are what that leaves.
         ensures remains { let ran = block_in (user_answers E.Callable.answer E.Method.answer E.Formatter.answer E.Join.answer) self.old block.now in
             S.failures sink.new ≡ S.failures sink.old →
             (n : ℕ) → IsFinished (ran n).end → LeavesFuel (fuel_left_in self.old) (ran n) result (fuel_left_in self.new) }
         ensures world { let ran = block_in (user_answers E.Callable.answer E.Method.answer E.Formatter.answer E.Join.answer) self.old block.now in
-            OnOk result ((n : ℕ) → IsFinished (ran n).end → world_in self.new ≡ (under (fuel_left_in self.old) (ran n)).after) }
+            S.failures sink.new ≡ S.failures sink.old →
+            (n : ℕ) → IsFinished (ran n).end → EndsIn (fuel_left_in self.old) result (ran n) (world_in self.new) }
 
         // Whatever its end, the frames are as before, and the blocks run the bodies that they ran, with others behind them at most.
         ensures frames { (world_in self.new).frames ≡ (world_in self.old).frames }

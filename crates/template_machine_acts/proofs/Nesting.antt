@@ -71,7 +71,6 @@ pub nested_turns : NestedTurns
 nested_turns s before c x e follow y runs least items operands ended_in kinds later after within is told pays text next = record {
   items = map (wrapped_by y.wraps) items;
   least = least;
-  world = after_by y.purpose (caller_of x.world) ended_in;
   is = λ n le.
       comes_behind s before c x e follow y runs least within next n le items (ended (ends operands) ended_in) (is n le)
       ∙ ap (λ t. behind (map (wrapped_by y.wraps) items) (go_on (λ b u. run (answer s n) (follow next b) u) (after_by y.purpose (caller_of x.world) ended_in) t)) told;
@@ -89,14 +88,13 @@ turned_breaks w [] = refl
 turned_breaks w (t ∷ ts) = turned_breaks w ts
 
 pub nested_faults : NestedFaults
-nested_faults s before c x e follow y runs least kinds later after within stops next = record {
+nested_faults s before c x e follow y runs least kinds ended_in later after within stops next = record {
   items = map (wrapped_by y.wraps) stops.items;
   least = least + stops.least;
-  world = after_by y.purpose (caller_of x.world) stops.world;
   is = λ n le.
-      comes_behind s before c x e follow y runs least within next n (omega arith) stops.items (ended (faults kinds) stops.world) (stops.is n (omega arith))
-      ∙ ap (λ t. behind (map (wrapped_by y.wraps) stops.items) (go_on (λ a w. run (answer s n) (follow next a) w) (after_by y.purpose (caller_of x.world) stops.world) t))
-      (turned_fails (after_by y.purpose (caller_of x.world) stops.world) y.behind (y.wraps ++ kinds));
+      comes_behind s before c x e follow y runs least within next n (omega arith) stops.items (ended (faults kinds) ended_in) (stops.is n (omega arith))
+      ∙ ap (λ t. behind (map (wrapped_by y.wraps) stops.items) (go_on (λ a w. run (answer s n) (follow next a) w) (after_by y.purpose (caller_of x.world) ended_in) t))
+      (turned_fails (after_by y.purpose (caller_of x.world) ended_in) y.behind (y.wraps ++ kinds));
   pays = subst (λ p. Paid p x.left later) (sym (price-wrapped y.wraps stops.items)) stops.pays;
   text = subst (Appends x.taken after) (sym (text-wrapped y.wraps stops.items)) stops.text;
 }

@@ -69,7 +69,7 @@ PlannedActs = (s : Programs) (before : Counts) (c : Code) (x : Spot World) (e : 
 abbrev pub PlannedFaults : Type 0
 PlannedFaults = (s : Programs) (before : Counts) (c : Code) (x : Spot World) (e : Ask) (follow : Next → Answer → Process) (kinds : List ErrorKind)
     → AsksThen before c x e follow → plan s.around x.world e ≡ replies (told x.world (fails kinds))
-    → FaultsWith (answer s) before c x kinds x.left x.taken
+    → FaultsWith (answer s) before c x kinds x.world x.left x.taken
 
 -- A run within that comes to its end, which is only done: the run goes on behind the instruction, with what that left put back.
 abbrev pub DoneActs : Type 0

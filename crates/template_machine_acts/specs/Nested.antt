@@ -51,14 +51,15 @@ NestedTurns = (s : Programs) (before : Counts) (c : Code) (x : Spot World) (e : 
     (after : Option (List ℕ)) → Enters s before c x e follow y runs least
     → ((n : ℕ) → least ≤ n → begun y runs n ≡ behind items (ended (ends operands) ended_in))
     → told_behind y x.world ended_in ≡ fails kinds
-    → Paid (price_of items) x.left later → Appends x.taken after (text_of items) → FaultsWith (answer s) before c x kinds later after
+    → Paid (price_of items) x.left later → Appends x.taken after (text_of items)
+    → FaultsWith (answer s) before c x kinds (after_by y.purpose (caller_of x.world) ended_in) later after
 
--- A run within that faults: so does the instruction, which wraps the fault.
+-- A run within that faults: so does the instruction, which wraps the fault, with what that left put back.
 abbrev pub NestedFaults : Type 0
 NestedFaults = (s : Programs) (before : Counts) (c : Code) (x : Spot World) (e : Ask) (follow : Next → Answer → Process) (y : Within)
-    (runs : ℕ → World → Run World) (least : ℕ) (kinds : List ErrorKind) (later : Option ℕ) (after : Option (List ℕ))
-    → Enters s before c x e follow y runs least → Faults (begun y runs) kinds x.left later x.taken after
-    → FaultsWith (answer s) before c x (y.wraps ++ kinds) later after
+    (runs : ℕ → World → Run World) (least : ℕ) (kinds : List ErrorKind) (ended_in : World) (later : Option ℕ) (after : Option (List ℕ))
+    → Enters s before c x e follow y runs least → Faults (begun y runs) kinds ended_in x.left later x.taken after
+    → FaultsWith (answer s) before c x (y.wraps ++ kinds) (after_by y.purpose (caller_of x.world) ended_in) later after
 
 -- A run within that runs out of fuel.
 abbrev pub NestedRunsOut : Type 0

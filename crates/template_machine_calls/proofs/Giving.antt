@@ -88,7 +88,7 @@ module _ (s : Programs) (c : Code) (e : Ask) (operands : List Operand) (w : Worl
       (λ next. asking next before place) (λ n le. replies_so (changed after (value v)) is n) (λ next. refl) (paid_nothing left) (Appends-nil taken)
 
   failing : (kinds : List ErrorKind) (after : World) → call ≡ replies (told after (fails kinds)) → (before : Counts) (place : ℕ) (left : Option ℕ) (taken : Option (List ℕ))
-      → FaultsWith (answer s) before c (spot place operands w left taken) kinds left taken
+      → FaultsWith (answer s) before c (spot place operands w left taken) kinds after left taken
   failing kinds after is before place left taken =
       events_fault World (answer s) before c e (λ next. on_value (λ u. next (suc place) (single u ∷ below))) kinds [] 0 after left taken
       (spot place operands w left taken) (λ next. asking next before place) (λ n le. replies_so (told after (fails kinds)) is n) (paid_nothing left) (Appends-nil taken)

@@ -140,11 +140,11 @@ module _ (s : Programs) (v : Val) (below : List Operand) (w : World) where
       (want_out s emit (single v ∷ below) w (Err kinds) suc below after kinds (subst (KeepsWorld w) (sym same) (world_stays w)) why refl))
 
   -- it is refused
-  refused_halts : (stop : Stop) → FaultsSo (λ kinds. written_reply s.around w v ≡ told w (fails kinds)) stop → Halting s emit (single v ∷ below) w stop
+  refused_halts : (stop : Stop) → FaultsSo (λ kinds. written_reply s.around w v ≡ told w (fails kinds)) stop → Halting s emit (single v ∷ below) w w stop
   refused_halts (Fault kinds) refuses place left taken =
-      λ before to operands after. faulting (print_faults s before (spot place (single v ∷ below) w left taken) v below kinds refl refuses)
+      λ before to operands. faulting (print_faults s before (spot place (single v ∷ below) w left taken) v below kinds refl refuses)
   refused_halts (Want kinds) why place left taken =
-      subst (λ ks. HaltsHere s emit (spot place (single v ∷ below) w left taken) (Want ks)) (sym why) (wanted_here s emit (spot place (single v ∷ below) w left taken))
+      subst (λ ks. HaltsHere s emit (spot place (single v ∷ below) w left taken) w (Want ks)) (sym why) (wanted_here s emit (spot place (single v ∷ below) w left taken) w)
 
   pub refused_out : {X : Type 0} (taken : Option (List ℕ)) (stop : Stop) (result : Result X Stop)
       → FaultsSo (λ kinds. written_reply s.around w v ≡ told w (fails kinds)) stop → IsErrAnd result (λ other. other ≡ stop)

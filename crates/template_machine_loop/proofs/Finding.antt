@@ -17,7 +17,7 @@ use Rattle.template_machine_meaning.specs.World.{World, has_room}
 use Rattle.template_machine_meaning.specs.Keys.{Home, block_of, Key, whole, whole_of, Head}
 use Rattle.template_machine_meaning.specs.Bodies.{Bodies, bodies_at}
 use Rattle.template_machine_meaning.specs.Replies.{told, refused}
-use Rattle.template_machine_meaning.specs.Plans.{Runners, Within, Plan, replies, enters, room_for, came_from, followed, settled}
+use Rattle.template_machine_meaning.specs.Plans.{Runners, Within, Plan, replies, enters, room_for, as_set, came_from, followed, settled}
 use Rattle.template_machine_meaning.specs.Blocks.{is_required, lacks_body, body_plan, bodies_plan, block_plan, block_called, super_within, behind_plan, super_in, super_from, super_plan}
 use Rattle.template_machine_meaning.specs.Surroundings.{Programs, runners, answer}
 use Rattle.template_machine_calls.specs.declared.rules.Rules.{Rules}
@@ -76,10 +76,11 @@ keyless s key none (suc n) =
     let f : Process → World → Run World = λ p w. followed (runners s n) key.part (run (answer s n) p w) in
     ap (option_map f) (none n)
 
-pub unroomy : (s : Programs) (n levels : ℕ) (w : World) (y : Within) → runners s n y.key ≡ None
+pub unroomy : (s : Programs) (n levels : ℕ) (w : World) (y : Within) → as_set w y ≡ w → runners s n y.key ≡ None
     → settled (runners s n) w (room_for s.around.limit levels w y) ≡ refused w InvalidOperation
-unroomy s n levels w y none =
-    either (runners s n) w (refused w InvalidOperation) (has_room s.around.limit levels w) (enters y) (replies (refused w InvalidOperation)) (ap (came_from w y) none) refl
+unroomy s n levels w y same none =
+    either (runners s n) w (refused w InvalidOperation) (has_room s.around.limit levels w) (enters y) (replies (refused w InvalidOperation))
+    (ap (came_from w y) none ∙ ap (λ (v : World). refused v InvalidOperation) same) refl
 
 -- a block's call that is passed over, or looks for the block
 pub passed_over : (s : Programs) (w : World) (name : List ℕ) → (is_some w.parent || is_dropping w.captures) ≡ true → block_called s.around w name ≡ replies (told w (tells done))
@@ -101,7 +102,7 @@ none_behind s w named name (Some b) none = ap (behind_plan s.around w named name
 
 pub block_unknown : (s : Programs) (w : World) (name : List ℕ) → option_and_then (λ (b : Bodies). slice_get b.homes b.place) (bodies_at name w.blocks) ≡ None
     → RefusesBody s w name (UnknownBlock ∷ [])
-block_unknown s w name none levels begin keys n =
+block_unknown s w name none levels begin keys sets n =
     ap (settled (runners s n) w) (no_body s w name (λ home. room_for s.around.limit levels w (begin name home)) (bodies_at name w.blocks) none)
 
 pub no_block_runs : (s : Programs) (w : World) → w.block ≡ None → (named : Bool) → IsRefused s (super_plan s.around w named) w (InvalidOperation ∷ [])
@@ -134,11 +135,11 @@ module _ (standing : List ℕ → Option Standing) (joins : Joins) (callables : 
 
       -- its template has no such block
       pub block_absent : block_at standing root home name ≡ None → RefusesBody s w name (InvalidOperation ∷ [])
-      block_absent none levels begin keys n =
+      block_absent none levels begin keys sets n =
           ap (settled (runners s n) w) (planned_so levels begin)
           ∙ either (runners s n) w (refused w InvalidOperation) (lacks_body s.around name home b.homes) (replies (refused w InvalidOperation))
           (room_for s.around.limit levels w (begin name home)) refl
-          (unroomy s n levels w (begin name home) (ap (runners s n) (keys name home) ∙ unkeyed home name none n))
+          (unroomy s n levels w (begin name home) (sets name home) (ap (runners s n) (keys name home) ∙ unkeyed home name none n))
 
       module _ (block : BlockStream) (there : block_at standing root home name ≡ Some block) where
         lacks_is : lacks_body s.around name home b.homes ≡ (length b.homes == 1 && block.required)
@@ -146,7 +147,7 @@ module _ (standing : List ℕ → Option Standing) (joins : Joins) (callables : 
 
         -- another one has to be given
         pub block_required : (length b.homes == 1 && block.required) ≡ true → RefusesBody s w name (InvalidOperation ∷ [])
-        block_required lacks levels begin keys n =
+        block_required lacks levels begin keys sets n =
             ap (settled (runners s n) w) (planned_so levels begin)
             ∙ ap (λ x. settled (runners s n) w (if x then replies (refused w InvalidOperation) else room_for s.around.limit levels w (begin name home))) (lacks_is ∙ lacks)
 
@@ -164,7 +165,7 @@ module _ (standing : List ℕ → Option Standing) (joins : Joins) (callables : 
           ap (super_from s.around w named) in_it ∙ ap (super_in s.around w named name) at ∙ ap (behind_plan s.around w named name b.place) behind
 
       pub behind_absent : block_at standing root home name ≡ None → (named : Bool) → IsRefused s (super_plan s.around w named) w (InvalidOperation ∷ [])
-      behind_absent none named n = ap (settled (runners s n) w) (super_so named) ∙ unroomy s n 1 w (super_within w named name b.place home) (unkeyed home name none n)
+      behind_absent none named n = ap (settled (runners s n) w) (super_so named) ∙ unroomy s n 1 w (super_within w named name b.place home) refl (unkeyed home name none n)
 
       pub behind_found : (place : ℕ) (block : BlockStream) → b.place ≡ place → block_at standing root home name ≡ Some block → (named : Bool)
           → super_plan s.around w named ≡ room_for s.around.limit 1 w (super_within w named block.name place home)

@@ -54,7 +54,7 @@ module _ (standing : List ℕ → Option Standing) (joins : Joins) (callables : 
     key_stops stop (Ok x) after rest written h is = absurd is
     key_stops {X} stop (Err told) after rest written h is =
         subst (λ t. KeyRuns {X = X} s key w left taken (Err t) after rest written) (sym is)
-        (breaks_there s key w left taken (whole_of come.0) v mid reached come.2 stop rest written
+        (breaks_there s key w left taken (whole_of come.0) v mid reached come.2 stop after rest written
         (stream_stops s (whole_of come.0) code (runs_code standing joins callables root rules come.0 code come.1) v mid rest reached written stop after h))
 
     -- it comes to its end
@@ -69,13 +69,14 @@ module _ (standing : List ℕ → Option Standing) (joins : Joins) (callables : 
           lacks_behind s key w left taken (whole_of come.0) v mid reached come.2 code (runs_code standing joins callables root rules come.0 code come.1) (values_in operands) after rest written
           h.items h.least h.bound h.is h.pays h.text kinds why
 
-      pub key_lost : (X : Type 0) (name : List ℕ) (kinds : List ErrorKind) (then : World) → after.parent ≡ Some name → standing name ≡ None → kinds ≡ TemplateNotFound ∷ []
+      pub key_lost : (X : Type 0) (name : List ℕ) (kinds : List ErrorKind) (then : World) → after.parent ≡ Some name → standing name ≡ None → kinds ≡ TemplateNotFound ∷ [] → then ≡ restarted name after
           → KeyRuns {X = X} s key w left taken (Err (Fault kinds)) then rest written
-      key_lost X name kinds then extends none is =
+      key_lost X name kinds then extends none is same =
           subst (λ ks. KeyRuns {X = X} s key w left taken (Err (Fault ks)) then rest written) (sym is)
+          (subst (λ (v : World). KeyRuns {X = X} s key w left taken (Err (Fault (TemplateNotFound ∷ []))) v rest written) (sym same)
           (lost_there s key w left taken (whole_of come.0) v mid reached come.2 code (runs_code standing joins callables root rules come.0 code come.1) (values_in operands) after rest written
           h.items h.least h.bound h.is h.pays h.text name extends
-          (unkeyed standing joins callables root rules (own (keys.standing name)) (ap (option_map (λ (t : Standing). t.code)) none)))
+          (unkeyed standing joins callables root rules (own (keys.standing name)) (ap (option_map (λ (t : Standing). t.code)) none))))
 
       pub key_restarts : (name : List ℕ) (t : Standing) (then : World) → after.parent ≡ Some name → standing name ≡ Some t → then ≡ restarted name after
           → ComesTo key w left taken t.code then rest written

@@ -134,19 +134,18 @@ module _ (s : Programs) (key : Key) (w : World) (left : Option ℕ) (taken : Opt
     lost = k.lost;
   }
 
-  pub breaks_there : (stop : Stop) (rest : Option ℕ) (written : Option (List ℕ)) → Breaks (λ n. ran (runners s n later) v) stop mid rest reached written
-      → Breaks (λ n. ran (runners s n key) w) stop left rest taken written
-  breaks_there (Fault kinds) rest written (faulting k) = faulting (record {
+  pub breaks_there : (stop : Stop) (after : World) (rest : Option ℕ) (written : Option (List ℕ)) → Breaks (λ n. ran (runners s n later) v) stop after mid rest reached written
+      → Breaks (λ n. ran (runners s n key) w) stop after left rest taken written
+  breaks_there (Fault kinds) after rest written (faulting k) = faulting (record {
     items = h.items ++ k.items;
     least = h.more + (h.least + k.least);
-    world = k.world;
     is = λ n le.
-        reached_run k.least (λ m. behind k.items (ended (faults kinds) k.world)) k.is n le
-        ∙ behind-behind h.items k.items (ended (faults kinds) k.world);
+        reached_run k.least (λ m. behind k.items (ended (faults kinds) after)) k.is n le
+        ∙ behind-behind h.items k.items (ended (faults kinds) after);
     pays = paid_behind h.items k.items left mid rest h.pays k.pays;
     text = text_behind h.items k.items taken reached written h.text k.text;
   })
-  breaks_there (Fault kinds) rest written (running_out k) = running_out (record {
+  breaks_there (Fault kinds) after rest written (running_out k) = running_out (record {
     items = h.items ++ k.items;
     least = h.more + (h.least + k.least);
     wraps = k.wraps;
@@ -161,8 +160,8 @@ module _ (s : Programs) (key : Key) (w : World) (left : Option ℕ) (taken : Opt
     nothing = k.nothing;
     text = text_behind h.items k.items taken reached written h.text k.text;
   })
-  breaks_there (Fault kinds) rest written (straying why k) = straying why (strays_there k)
-  breaks_there (Want kinds) rest written k = (k.0, either_on (wants_there rest written) strays_there k.1)
+  breaks_there (Fault kinds) after rest written (straying why k) = straying why (strays_there k)
+  breaks_there (Want kinds) after rest written k = (k.0, either_on (wants_there rest written) strays_there k.1)
 
   -- its stream came to its end
   module _ (code : List Code) (runs : RunsCode s later code) (operands : List Val) (after : World) (rest : Option ℕ) (written : Option (List ℕ))
@@ -190,9 +189,9 @@ module _ (s : Programs) (key : Key) (w : World) (left : Option ℕ) (taken : Opt
         })
 
     -- no memory is left behind it
-    pub lacks_behind : (kinds : List ErrorKind) → NoMemory kinds → Breaks (λ n. ran (runners s n key) w) (Want kinds) left rest taken written
+    pub lacks_behind : (kinds : List ErrorKind) → NoMemory kinds → Breaks (λ n. ran (runners s n key) w) (Want kinds) after left rest taken written
     lacks_behind kinds why =
-        breaks_there (Want kinds) rest written (
+        breaks_there (Want kinds) after rest written (
           inl why,
           inl (record {
             items = items;
@@ -211,13 +210,12 @@ module _ (s : Programs) (key : Key) (w : World) (left : Option ℕ) (taken : Opt
 
     -- one that doesn't stand
     pub lost_there : (name : List ℕ) → after.parent ≡ Some name → ((n : ℕ) → runners s n (whole_of (own (standing name))) ≡ None)
-        → Breaks (λ n. ran (runners s n key) w) (Fault (TemplateNotFound ∷ [])) left rest taken written
+        → Breaks (λ n. ran (runners s n key) w) (Fault (TemplateNotFound ∷ [])) (restarted name after) left rest taken written
     lost_there name e missing =
-        breaks_there (Fault (TemplateNotFound ∷ [])) rest written
+        breaks_there (Fault (TemplateNotFound ∷ [])) (restarted name after) rest written
         (faulting (record {
           items = items;
           least = suc (least + bound);
-          world = restarted name after;
           is = λ n le.
               let there = goes_on_so (Some name) e n le in
               ap (λ k. ran (runners s k later) v) there.1 ∙ there.2

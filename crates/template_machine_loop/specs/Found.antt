@@ -16,7 +16,7 @@ use Rattle.template_machine_operands.specs.Operands.{operands_in}
 use Rattle.template_machine_state.specs.Changes.{bound_to}
 use Rattle.template_machine_meaning.specs.Replies.{told}
 use Rattle.template_machine_meaning.specs.Records.{known_of}
-use Rattle.template_machine_meaning.specs.Plans.{Within, Plan, replies, room_for}
+use Rattle.template_machine_meaning.specs.Plans.{Within, Plan, replies, room_for, as_set}
 use Rattle.template_machine_meaning.specs.Bodies.{bodies_at}
 use Rattle.template_machine_meaning.specs.Blocks.{bodies_plan, super_within, super_plan}
 use Rattle.template_machine_meaning.specs.Keys.{Home, block_of, whole_of}
@@ -55,7 +55,7 @@ pub record FindsBody (s : Programs) (standing : List ℕ → Option Standing) (r
 abbrev pub RefusesBody : Programs → World → List ℕ → List ErrorKind → Type 0
 RefusesBody s w name kinds =
     (levels : ℕ) (begin : List ℕ → Home → Within) → ((called : List ℕ) (home : Home) → (begin called home).key ≡ whole_of (block_of home called))
-    → IsRefused s (blocks_plan s w name levels begin) w kinds
+    → ((called : List ℕ) (home : Home) → as_set w (begin called home) ≡ w) → IsRefused s (blocks_plan s w name levels begin) w kinds
 
 -- `super()`, by its name or printed, enters the body that was found, where there is room for it
 pub record FindsBehind (s : Programs) (standing : List ℕ → Option Standing) (root : Option Standing) (w : World) (found : Found) : Type 0 where

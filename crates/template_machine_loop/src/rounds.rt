@@ -46,8 +46,8 @@ pub(crate) struct Begun<'env> {
     pub(crate) items: Items,
 }
 
-/// Runs the rounds of the innermost loop again over the items of a value, and writes their text where the run stands. Behind an error,
-/// what was open around them is as it was.
+/// Runs the rounds of the innermost loop again over the items of a value, and writes their text where the run stands. Behind them,
+/// and behind an error, the frames around them are as they were.
 ///
 /// # Errors
 ///
@@ -80,20 +80,16 @@ pub(crate) fn print_rounds<'env, T: Templates, S: Sink>(
     let ran = run_from(
         alloc, program, code, place, operands, state, left, scratch, sink,
     );
+    // Whatever the run's end.
+    state.leave_rounds(alloc, caller);
     match ran {
-        Ok(_) => {
-            state.leave_rounds(alloc, caller);
-            Ok(())
-        }
-        Err(stop) => {
-            state.leave_block(caller);
-            Err(stop)
-        }
+        Ok(_) => Ok(()),
+        Err(stop) => Err(stop),
     }
 }
 
 /// Runs the rounds of the loop of a number, in the state of an id, again over the items of the one argument, and gives their text.
-/// Behind an error, what was open around them is as it was.
+/// Behind them, and behind an error, the frames around them are as they were.
 ///
 /// # Errors
 ///
@@ -133,7 +129,7 @@ pub(crate) fn call_rounds<'env, T: Templates, S: Sink>(
     match ran {
         Ok(_) => told_by(state.leave_rounds_text(alloc, caller)),
         Err(stop) => {
-            state.leave_block(caller);
+            state.leave_named_rounds(alloc, caller);
             Err(stop)
         }
     }

@@ -45,10 +45,10 @@ pub fn run_whole<'env, T: Templates, S: Sink>(
         let Some(name) = state.parent() else {
             return Ok(());
         };
+        state.restart(name);
         let Some(parent) = program.templates.get(name) else {
             return Err(Stop::Fault(Error::new(ErrorKind::TemplateNotFound)));
         };
-        state.restart(name);
         let _next = run_to_end(alloc, program, parent.code, state, left, scratch, sink)?;
     }
     Err(Stop::Want(Error::new(ErrorKind::OutOfMemory)))

@@ -10,9 +10,9 @@ use Rattle.template_machine_meaning.specs.World.{Loop, World, loop_frame}
 use Rattle.template_machine_meaning.specs.Keys.{Part, whole, body_of, rounds_of, Key}
 use Rattle.template_machine_meaning.specs.Laws.{MayGoRound}
 use Rattle.template_machine_meaning.specs.Turnings.{Turning, turned}
-use Rattle.template_machine_meaning.specs.Plans.{Within, enters, caller_of, after_by, given, wrapped_by, came, came_from, settled}
+use Rattle.template_machine_meaning.specs.Plans.{Within, enters, caller_of, after_by, given, wrapped_by, came, as_set, came_from, settled}
 use Rattle.template_machine_meaning.specs.Surroundings.{plan, Programs, runners, answer}
-use Rattle.template_machine_meaning.proofs.Settling.{Settles, settles_refused}
+use Rattle.template_machine_meaning.proofs.Settling.{Settles}
 use Rattle.template_machine_meaning.proofs.Keeping.{Keeps, IsFramed, Ran}
 
 -- there is a run, and from the world on it is this one
@@ -115,7 +115,8 @@ module _ (O : Type 0) (s : Programs) (w : World) (e : Ask) (shape : O → World 
         → ((v : World) → keeps v → Reads (after_it v) (turned (after_it v) x.behind (tells (given x.purpose (caller_of w) v))))
         → Settles {O = O} s w shape (λ m go. asks e (read go))
     settles_entered keeps (inl nothing) reads =
-        settles_refused s w shape e InvalidOperation (λ m go. read go) (λ n. ap (settled (runners s n) w) planned ∙ ap (came_from w x) (nothing n))
+        settles_told [] 0 (as_set w x) (fails (InvalidOperation ∷ [])) tt
+        (λ n le. ap (settled (runners s n) w) planned ∙ ap (came_from w x) (nothing n))
     settles_entered keeps (inr (inl k)) reads =
         settles_told (map (wrapped_by x.wraps) (k.items ++ [])) k.least (after_it k.after) (turned (after_it k.after) x.behind (tells (given x.purpose (caller_of w) k.after)))
         (reads k.after k.kept) (λ n le. replied_so n (behind k.items (ended (ends k.operands) k.after)) (k.is n le))

@@ -43,7 +43,7 @@ use Rattle.template_machine_meaning.specs.Replies.{told, changed, refused, kinde
 use Rattle.template_machine_meaning.specs.Keys as keys
 use Rattle.template_machine_meaning.specs.Keys.{Home, standing, Stream, Part, whole, body_of, rounds_of, Key, whole_of, Head, Around}
 use Rattle.template_machine_meaning.specs.Plans as plans
-use Rattle.template_machine_meaning.specs.Plans.{Purpose, includes, calls_block, takes_block, calls_super, calls_macro, runs_rounds, Plan, replies, enters, room_for, with_turning, Caller, outermost, with_writes, caller_of, after_by, given, wrapped_by, told_by, came, Runners, restarted, beneath, with_beneath, parent_run, went_on, followed_at, followed, came_from, settled}
+use Rattle.template_machine_meaning.specs.Plans.{Purpose, includes, calls_block, takes_block, calls_super, calls_macro, runs_rounds, Plan, replies, enters, room_for, with_turning, Caller, outermost, with_writes, caller_of, after_by, given, wrapped_by, told_by, came, Runners, restarted, beneath, with_beneath, parent_run, went_on, followed_at, followed, as_set, came_from, settled}
 use Rattle.template_machine_meaning.specs.Includes.{Found, Choice, choices_in, first_standing, include_levels, include_within, not_found, included_by, included_from}
 use Rattle.template_machine_meaning.specs.Namespaces.{put_attribute, with_attribute}
 use Rattle.template_machine_meaning.specs.Functions.{Invoked, filter_named, test_named, Called, gives, makes, compares, invokes, calls, runs_again, value_called, name_called, first_method, first_called}
@@ -917,7 +917,9 @@ module _ (names : List ℕ → Type 0) (uses : Stream → ℕ → Among) (d : Va
         }
 
     came_from_so : (l : Known) (x y : plans.Within) → Enters begun l (caller_of w) w.closures x y → (o : Option (World → Run World)) → RunsSo x.key o → Now l (came_from w x o) (came_from other y o)
-    came_from_so l x y so None runs = refused_so begun start l w InvalidOperation
+    came_from_so l x y so None runs =
+        subst (λ (z : plans.Within). Now l (refused (as_set w x) InvalidOperation) (refused (as_set other z) InvalidOperation)) (sym so.same)
+        (refused_so begun start l (as_set w x) InvalidOperation)
     came_from_so l x y so (Some runs) all =
         let z : plans.Within = record x { begins = over_context d x.begins } in
         subst (λ (u : plans.Within). Now l (came w x (runs x.begins)) (came other u (runs u.begins))) (sym so.same)

@@ -205,8 +205,12 @@ abbrev pub followed : Runners → Part → Run World → Run World
 followed runners whole r = followed_at runners r r.end
 followed runners part r = r
 
+-- with what callables have set where a run within begins
+abbrev pub as_set : World → Within → World
+as_set w x = record w { temps = x.begins.temps; held = x.begins.held }
+
 abbrev pub came_from : World → Within → Option (World → Run World) → Reply World
-came_from w x None = refused w InvalidOperation
+came_from w x None = refused (as_set w x) InvalidOperation
 came_from w x (Some runs) = came w x (runs x.begins)
 
 abbrev pub nested : Runners → World → Within → Reply World

@@ -17,7 +17,7 @@ use Rattle.template_machine_codes.proofs.Alike.{ProgramsFollow, codes_follow, ru
 use Rattle.template_machine_loop.specs.Plans.{Tells, end_of, replies_of, run_of}
 use Rattle.template_machine_loop.specs.Runs.{EndsSo}
 use Rattle.template_machine_renders.specs.Laws.{BlocksRender, block_run, named_so}
-use Rattle.template_machine_renders.proofs.Coming.{ComeTo, breaks_meant, ended_there, ends_meant, stops_leave, stops_there}
+use Rattle.template_machine_renders.proofs.Coming.{ComeTo, breaks_meant, ended_there, ends_meant, stops_so}
 
 -- there is nothing under later bounds either; or a run from the world on that is finished is the same there
 abbrev Alike : Option (World → Run World) → (ℕ → Option (World → Run World)) → World → Type 0
@@ -96,9 +96,6 @@ blocks_render X setting root name block w after fuel left before taken (Err stop
     let s = named_so name (walks_of setting root) in
     let t = named_so name (codes_of setting root) in
     let p = block_plan s.around w block in
-    let broke =
-    breaks_meant (λ m. run_of (replies_of t p w m)) (block_run s w block n) stop fuel left before taken
-    (plan_alike s t (named_follow setting root name) n w p finished) h in (
-      stops_there X (block_run s w block n) fuel left before taken stop finished broke,
-      stops_leave X (block_run s w block n) fuel left before taken stop finished broke,
-    )
+    stops_so X (block_run s w block n) after fuel left before taken stop finished
+    (breaks_meant (λ m. run_of (replies_of t p w m)) (block_run s w block n) stop after fuel left before taken
+    (plan_alike s t (named_follow setting root name) n w p finished) h)

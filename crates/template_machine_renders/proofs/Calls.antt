@@ -1,23 +1,16 @@
 -- From the run of what a call comes to by code to what the call means.
-use Rattle.std.proofs.Common.{◌≡◌, ℕ, ◌+◌, ◌==◌, ◌⊎◌, inl, inr, Bool, true, false, if◌then◌else◌, List, [], ◌∷◌, length, map, Option, None, Some, option_map, Result, Ok, Err, refl, sym, ap, subst, ◌∙◌, arith}
-use Rattle.std.specs.Option.{option_and_then}
+use Rattle.std.proofs.Common.{◌≡◌, ℕ, ◌+◌, inl, List, [], ◌∷◌, Option, Result, Ok, Err, refl, sym, ap, subst, ◌∙◌, arith}
 use Rattle.std.proofs.KnownBytes.{Appends-nil}
 use Rattle.template_values_model.specs.Val.{Val}
-use Rattle.template_tree.specs.Tree.{Statements}
 use Rattle.template_process.specs.Approximants.{IsFinished}
 use Rattle.template_process.specs.Fuel.{under}
-use Rattle.template_process.specs.Process.{Process, fails, tells, value}
+use Rattle.template_process.specs.Process.{fails, tells, value}
 use Rattle.template_process.specs.Trace.{Reply}
-use Rattle.template_code.specs.Code.{single}
-use Rattle.template_code.specs.Counting.{MacroPlace, macro_at, rounds_at}
-use Rattle.template_code.specs.Steps.{exec}
-use Rattle.template_compiler_codegen.specs.Statements.{template_code}
 use Rattle.template_machine_going.proofs.Paths.{paid_nothing}
 use Rattle.template_machine_going.specs.Told.{FaultsSo}
 use Rattle.template_machine_going.specs.declared.stop.Stop.{Stop}
 use Rattle.template_machine_going.specs.declared.stop.Stop.TheVariants.{Fault, Want}
-use Rattle.template_machine_meaning.specs.Keys.{Key, Part, whole, body_of, rounds_of}
-use Rattle.template_machine_meaning.specs.Meaning.{Standing, Setting, tree_of, walks_of}
+use Rattle.template_machine_meaning.specs.Meaning.{Standing, Setting, walks_of}
 use Rattle.template_machine_meaning.specs.Plans.{Plan, replies, Runners, settled, with_turning}
 use Rattle.template_machine_meaning.specs.Replies.{changed, told}
 use Rattle.template_machine_meaning.specs.Surroundings.{Programs, runners}
@@ -26,45 +19,14 @@ use Rattle.template_machine_meaning.specs.World.{World}
 use Rattle.template_machine_calls.specs.Left.{Planned, KeptUnlessValue, entry_plan, reached_by, turnings_in, value_left, with_turnings}
 use Rattle.template_machine_calls.specs.declared.reached.Reached.{Reached}
 use Rattle.template_machine_calls.specs.declared.reached.Reached.TheVariants as reached
-use Rattle.template_machine_codes.specs.Codes.{body_coded, codes_of, part_coded}
+use Rattle.template_machine_codes.specs.Codes.{codes_of}
 use Rattle.template_machine_loop.specs.Plans.{DoesPlan, Tells, replies_of, run_of}
 use Rattle.template_machine_loop.specs.Runs.{Breaks, faulting}
 use Rattle.template_machine_loop.proofs.Turned.{does_from}
 use Rattle.template_machine_renders.specs.Laws.{named_so}
-use Rattle.template_machine_renders.specs.Renders.{IsDone, LeavesFuel, Renders}
+use Rattle.template_machine_renders.specs.Renders.{IsDone, LeavesFuel, LeavesWorld, Renders}
 use Rattle.template_machine_renders.proofs.Blocks.{named_follow, plan_alike, replies_alike, tells_ends}
-use Rattle.template_machine_renders.proofs.Coming.{breaks_meant, ends_meant, stops_leave, stops_there}
-
--- a key has a process under every bound, or under none
-abbrev Either : (ℕ → Option Process) → Type 0
-Either of = ((n : ℕ) → of n ≡ None) ⊎ ((p : ℕ → Process) × ((n : ℕ) → of n ≡ Some (p n)))
-
-abbrev pub Uniform : Programs → Type 0
-Uniform s = (key : Key) → ((n : ℕ) → s.process n key ≡ None) ⊎ ((p : ℕ → Process) × ((n : ℕ) → s.process n key ≡ Some (p n)))
-
-body_fits : (f : ℕ → Process) (b : Bool) → Either (λ n. if b then Some (f n) else None)
-body_fits f true = inr (f, λ n. refl)
-body_fits f false = inl (λ n. refl)
-
-body_either : (vs : List Val) (t : Statements) (o : Option MacroPlace) → Either (λ n. option_and_then (body_coded n vs t) o)
-body_either vs t None = inl (λ n. refl)
-body_either vs t (Some m) = body_fits (λ n. exec (template_code t) n m.offset (map single vs)) (m.count == length vs)
-
-rounds_either : (t : Statements) (o : Option ℕ) → Either (λ n. option_map (λ place. exec (template_code t) n place []) o)
-rounds_either t None = inl (λ n. refl)
-rounds_either t (Some place) = inr (λ n. exec (template_code t) n place [], λ n. refl)
-
-part_either : (part : Part) (t : Statements) → Either (λ n. part_coded n part t)
-part_either whole t = inr (λ n. exec (template_code t) n 0 [], λ n. refl)
-part_either (body_of number vs) t = body_either vs t (macro_at (template_code t) number)
-part_either (rounds_of number) t = rounds_either t (rounds_at (template_code t) number)
-
-tree_either : (part : Part) (o : Option Statements) → Either (λ n. option_and_then (part_coded n part) o)
-tree_either part None = inl (λ n. refl)
-tree_either part (Some t) = part_either part t
-
-pub codes_uniform : (setting : Setting) (root : Option Standing) (name : List ℕ) → Uniform (named_so name (codes_of setting root))
-codes_uniform setting root name key = tree_either key.part (tree_of setting root key.stream)
+use Rattle.template_machine_renders.proofs.Coming.{breaks_meant, ends_meant, stops_so}
 
 -- a reply is the same whatever is made of it, wherever it is given
 turned_again : (ts : List Turning) (r : Reply World) → (q : Reply World) × (with_turnings ts (replies r) ≡ replies q)
@@ -78,12 +40,11 @@ replied_anywhere f w v ts r = let q = turned_again ts r in ap (settled f v) q.1 
 
 -- what a call failed with is done, or no memory is left
 pub failed_does : (s : Programs) (p : Plan) (w after : World) (left : Option ℕ) (taken : Option (List ℕ)) (stop : Stop)
-    → FaultsSo (λ kinds. p ≡ replies (told after (fails kinds))) stop → Breaks (λ n. run_of (replies_of s p w n)) stop left left taken taken
+    → FaultsSo (λ kinds. p ≡ replies (told after (fails kinds))) stop → Breaks (λ n. run_of (replies_of s p w n)) stop after left left taken taken
 failed_does s p w after left taken (Fault kinds) fault =
     faulting (record {
       items = [];
       least = 0;
-      world = after;
       is = λ n le. ap (λ (q : Plan). run_of (settled (runners s n) w q)) fault;
       pays = paid_nothing left;
       text = Appends-nil taken;
@@ -121,22 +82,23 @@ value_anywhere : (s : Programs) (w v : World) (ts : List Turning) (r : Reply Wor
 value_anywhere s w v ts r left rest taken written (Ok u) after does =
     subst (λ (f : ℕ → Reply World). Tells f (value u) after left rest taken written) (λ i n. replied_anywhere (runners s n) w v ts r i) does
 value_anywhere s w v ts r left rest taken written (Err stop) after does =
-    subst (λ (f : ℕ → Reply World). Breaks (λ n. run_of (f n)) stop left rest taken written) (λ i n. replied_anywhere (runners s n) w v ts r i) does
+    subst (λ (f : ℕ → Reply World). Breaks (λ n. run_of (f n)) stop after left rest taken written) (λ i n. replied_anywhere (runners s n) w v ts r i) does
 
-pub reached_does : (s : Programs) → Uniform s → (came : Reached) (w v : World) (left rest : Option ℕ) (taken written : Option (List ℕ))
+pub reached_does : (s : Programs) (came : Reached) (w v : World) (left rest : Option ℕ) (taken written : Option (List ℕ))
     (result : Result Val Stop) (after : World) → KeptUnlessValue (Ok came) w v
     → DoesPlan value s (reached_by s.around came v) v left taken result after rest written
     → DoesPlan value s (reached_by s.around came v) w left taken result after rest written
-reached_does s even (reached.Value u turnings) w v left rest taken written result after kept does =
+reached_does s (reached.Value u turnings) w v left rest taken written result after kept does =
     value_anywhere s w v (turnings_in turnings.items) (changed v (value u)) left rest taken written result after does
-reached_does s even (reached.Enters entry) w v left rest taken written result after kept does =
-    does_from value s (entry_plan s.around entry v) w v left rest taken written result after kept even does
+reached_does s (reached.Enters entry) w v left rest taken written result after kept does =
+    does_from value s (entry_plan s.around entry v) w v left rest taken written result after kept does
 
 -- the call tells what its meaning tells, and leaves its world, or it answers as it ends
 abbrev pub TellsTo : Option ℕ → Reply World → Result Val Stop → World → Option ℕ → Option (List ℕ) → Option (List ℕ) → Type 0
 TellsTo fuel r (Ok v) after left before taken = (r.told ≡ tells (value v)) × (r.after ≡ after) × IsDone fuel (run_of r) after left before taken
 TellsTo fuel r (Err stop) after left before taken =
     Renders {X = Val} (Err stop) before taken (under fuel (run_of r)) × LeavesFuel {X = Val} fuel (run_of r) (Err stop) left
+    × LeavesWorld fuel (run_of r) stop after
 
 module _ (setting : Setting) (root : Option Standing) (name : List ℕ) (p : Plan) (w : World) (n : ℕ) where
   abbrev walks : Programs
@@ -160,9 +122,6 @@ module _ (setting : Setting) (root : Option Standing) (name : List ℕ) (p : Pla
             (tells_ends (replies_of codes p w) (value v) after fuel left before taken does),
       )
   calls_tell after fuel left before taken (Err stop) does finished =
-      let broke =
-      breaks_meant (λ m. run_of (replies_of codes p w m)) (run_of (replies_of walks p w n)) stop fuel left before taken
-      (plan_alike walks codes (named_follow setting root name) n w p finished) does in (
-        stops_there Val (run_of (replies_of walks p w n)) fuel left before taken stop finished broke,
-        stops_leave Val (run_of (replies_of walks p w n)) fuel left before taken stop finished broke,
-      )
+      stops_so Val (run_of (replies_of walks p w n)) after fuel left before taken stop finished
+      (breaks_meant (λ m. run_of (replies_of codes p w m)) (run_of (replies_of walks p w n)) stop after fuel left before taken
+      (plan_alike walks codes (named_follow setting root name) n w p finished) does)

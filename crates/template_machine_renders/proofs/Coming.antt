@@ -31,9 +31,9 @@ use Rattle.template_machine_going.specs.declared.stop.Stop.{Stop}
 use Rattle.template_machine_going.specs.declared.stop.Stop.TheVariants.{Fault, Want}
 use Rattle.template_machine_going.proofs.Paths.{behind-behind}
 use Rattle.template_machine_loop.specs.Runs.{Breaks, faulting, running_out, straying, EndsOver, EndsSo}
-use Rattle.template_machine_renders.specs.Renders.{at_start, GivesValue, IsOver, IsDone, LeavesFuel, Renders, leaves}
+use Rattle.template_machine_renders.specs.Renders.{at_start, GivesValue, IsOver, IsDone, IsShort, LeavesFuel, LeavesWorld, Renders, leaves}
 use Rattle.template_machine_renders.specs.Laws.{EndsRender, ExpressionsEvaluate, StopsRender}
-use Rattle.template_machine_renders.proofs.Fuels.{lasts, rests, ends_spent, spent_leaves, begins}
+use Rattle.template_machine_renders.proofs.Fuels.{lasts, rests, ends_spent, spent_leaves, begins, short_spent}
 use Rattle.template_machine_renders.proofs.Meanings.{Means, ended_means, begun_means}
 
 -- nothing comes behind an end
@@ -76,17 +76,16 @@ strays_meant runs meant come f = record {
 }
 
 -- and runs that stopped are it up to there
-pub breaks_meant : (runs : ℕ → Run World) (meant : Run World) (stop : Stop) (fuel left : Option ℕ) (before taken : Option (List ℕ)) → ComeTo runs meant
-    → Breaks runs stop fuel left before taken → Breaks (λ n. meant) stop fuel left before taken
-breaks_meant runs meant (Fault kinds) fuel left before taken come (faulting f) = faulting (record {
+pub breaks_meant : (runs : ℕ → Run World) (meant : Run World) (stop : Stop) (after : World) (fuel left : Option ℕ) (before taken : Option (List ℕ)) → ComeTo runs meant
+    → Breaks runs stop after fuel left before taken → Breaks (λ n. meant) stop after fuel left before taken
+breaks_meant runs meant (Fault kinds) after fuel left before taken come (faulting f) = faulting (record {
   items = f.items;
   least = 0;
-  world = f.world;
   is = λ n le. sym (come.1 (come.0 + f.least) (omega arith)) ∙ f.is (come.0 + f.least) (omega arith);
   pays = f.pays;
   text = f.text;
 })
-breaks_meant runs meant (Fault kinds) fuel left before taken come (running_out f) = running_out (record {
+breaks_meant runs meant (Fault kinds) after fuel left before taken come (running_out f) = running_out (record {
   items = f.items;
   least = 0;
   wraps = f.wraps;
@@ -99,8 +98,8 @@ breaks_meant runs meant (Fault kinds) fuel left before taken come (running_out f
   nothing = f.nothing;
   text = f.text;
 })
-breaks_meant runs meant (Fault kinds) fuel left before taken come (straying bad f) = straying bad (strays_meant runs meant come f)
-breaks_meant runs meant (Want kinds) fuel left before taken come (why, inl f) = (
+breaks_meant runs meant (Fault kinds) after fuel left before taken come (straying bad f) = straying bad (strays_meant runs meant come f)
+breaks_meant runs meant (Want kinds) after fuel left before taken come (why, inl f) = (
   why,
   inl (record {
     items = f.items;
@@ -113,7 +112,7 @@ breaks_meant runs meant (Want kinds) fuel left before taken come (why, inl f) = 
     text = f.text;
   }),
 )
-breaks_meant runs meant (Want kinds) fuel left before taken come (why, inr f) = (why, inr (strays_meant runs meant come f))
+breaks_meant runs meant (Want kinds) after fuel left before taken come (why, inr f) = (why, inr (strays_meant runs meant come f))
 
 -- what is lost has no end, though no bound ran out
 lost_uncut : (e : End) → IsLost e → IsUncut e
@@ -146,49 +145,69 @@ strays_unfinished meant o finished =
     lost_unfinished o.end o.lost (subst (λ (q : Run World). IsFinished q.end) same finished)
 
 -- a run that stopped, under its fuel
-pub stops_there : (X : Type 0) (meant : Run World) (fuel left : Option ℕ) (before taken : Option (List ℕ)) (stop : Stop)
-    → IsFinished meant.end → Breaks (λ n. meant) stop fuel left before taken → Renders {X = X} (Err stop) before taken (under fuel meant)
-stops_there X meant fuel left before taken (Fault kinds) finished (faulting f) =
-    let r : Run World = record { items = f.items; end = drives.faults kinds; after = f.world } in
-    let is : meant ≡ r = f.is f.least (omega arith) ∙ ended_there f.items (drives.faults kinds) f.world in
+pub stops_there : (X : Type 0) (meant : Run World) (after : World) (fuel left : Option ℕ) (before taken : Option (List ℕ)) (stop : Stop)
+    → IsFinished meant.end → Breaks (λ n. meant) stop after fuel left before taken → Renders {X = X} (Err stop) before taken (under fuel meant)
+stops_there X meant after fuel left before taken (Fault kinds) finished (faulting f) =
+    let r : Run World = record { items = f.items; end = drives.faults kinds; after = after } in
+    let is : meant ≡ r = f.is f.least (omega arith) ∙ ended_there f.items (drives.faults kinds) after in
     let same = ap (under fuel) is ∙ lasts fuel left r f.pays in
     subst (λ (q : Run World). Renders {X = X} (Err (Fault kinds)) before taken q) (sym same) (refl, f.text)
-stops_there X meant fuel left before taken (Fault kinds) finished (running_out o) =
+stops_there X meant after fuel left before taken (Fault kinds) finished (running_out o) =
     let rest = o.rest o.least in
     let r : Run World = record { items = o.items; end = drives.faults (o.wraps ++ OutOfFuel ∷ []); after = rest.after } in
     let same = ap (under fuel) (o.is o.least (omega arith)) ∙ ends_spent fuel o.remained o.items o.wraps rest o.pays o.spent
     ∙ ended_there o.items (drives.faults (o.wraps ++ OutOfFuel ∷ [])) rest.after in
     subst (λ (q : Run World). Renders {X = X} (Err (Fault kinds)) before taken q) (sym same) (ap (λ ks. drives.faults ks) (sym o.kinds_are), o.text)
-stops_there X meant fuel left before taken (Fault kinds) finished (straying is o) = absurd (strays_unfinished meant o finished)
-stops_there X meant fuel left before taken (Want kinds) finished (why, inr o) = absurd (strays_unfinished meant o finished)
-stops_there X meant fuel left before taken (Want kinds) finished (why, inl o) =
+stops_there X meant after fuel left before taken (Fault kinds) finished (straying is o) = absurd (strays_unfinished meant o finished)
+stops_there X meant after fuel left before taken (Want kinds) finished (why, inr o) = absurd (strays_unfinished meant o finished)
+stops_there X meant after fuel left before taken (Want kinds) finished (why, inl o) =
     let cut = begins fuel o.remained o.items (o.rest o.least) o.pays in
     let same = ap (under fuel) (o.is o.least (omega arith)) ∙ cut.1 in
     subst (λ (q : Run World). Renders {X = X} (Err (Want kinds)) before taken q) (sym same) (why, text_behind o.items cut.0 before taken o.text)
 
 -- and what it leaves of the fuel
-pub stops_leave : (X : Type 0) (meant : Run World) (fuel left : Option ℕ) (before taken : Option (List ℕ)) (stop : Stop)
-    → IsFinished meant.end → Breaks (λ n. meant) stop fuel left before taken → LeavesFuel {X = X} fuel meant (Err stop) left
-stops_leave X meant fuel left before taken (Fault kinds) finished (faulting f) =
-    let r : Run World = record { items = f.items; end = drives.faults kinds; after = f.world } in
-    let is : meant ≡ r = f.is f.least (omega arith) ∙ ended_there f.items (drives.faults kinds) f.world in
+pub stops_leave : (X : Type 0) (meant : Run World) (after : World) (fuel left : Option ℕ) (before taken : Option (List ℕ)) (stop : Stop)
+    → IsFinished meant.end → Breaks (λ n. meant) stop after fuel left before taken → LeavesFuel {X = X} fuel meant (Err stop) left
+stops_leave X meant after fuel left before taken (Fault kinds) finished (faulting f) =
+    let r : Run World = record { items = f.items; end = drives.faults kinds; after = after } in
+    let is : meant ≡ r = f.is f.least (omega arith) ∙ ended_there f.items (drives.faults kinds) after in
     subst (λ (q : Run World). left ≡ leaves fuel q) (sym is) (rests fuel left r f.pays)
-stops_leave X meant fuel left before taken (Fault kinds) finished (running_out o) =
+stops_leave X meant after fuel left before taken (Fault kinds) finished (running_out o) =
     let there : Run World = behind o.items (behind (paid o.wraps ∷ []) (o.rest o.least)) in
     let is : meant ≡ there = o.is o.least (omega arith) in
     subst (λ (q : Run World). left ≡ leaves fuel q) (sym is)
     (o.nothing ∙ sym (spent_leaves fuel o.remained o.items o.wraps (o.rest o.least) o.pays o.spent))
-stops_leave X meant fuel left before taken (Fault kinds) finished (straying is o) = absurd (strays_unfinished meant o finished)
-stops_leave X meant fuel left before taken (Want kinds) finished broke = tt
+stops_leave X meant after fuel left before taken (Fault kinds) finished (straying is o) = absurd (strays_unfinished meant o finished)
+stops_leave X meant after fuel left before taken (Want kinds) finished broke = tt
+
+-- and of the world
+stops_world : (meant : Run World) (after : World) (fuel left : Option ℕ) (before taken : Option (List ℕ)) (stop : Stop)
+    → IsFinished meant.end → Breaks (λ n. meant) stop after fuel left before taken → LeavesWorld fuel meant stop after
+stops_world meant after fuel left before taken (Fault kinds) finished (faulting f) =
+    let is = f.is f.least (omega arith) ∙ ended_there f.items (drives.faults kinds) after in
+    inr (ap (λ (q : Run World). q.after) (sym is))
+stops_world meant after fuel left before taken (Fault kinds) finished (running_out o) =
+    inl (subst (IsShort fuel) (sym (o.is o.least (omega arith))) (short_spent fuel o.remained o.items o.wraps (o.rest o.least) o.pays o.spent))
+stops_world meant after fuel left before taken (Fault kinds) finished (straying is o) = absurd (strays_unfinished meant o finished)
+stops_world meant after fuel left before taken (Want kinds) finished broke = tt
+
+pub stops_so : (X : Type 0) (meant : Run World) (after : World) (fuel left : Option ℕ) (before taken : Option (List ℕ)) (stop : Stop)
+    → IsFinished meant.end → Breaks (λ n. meant) stop after fuel left before taken
+    → Renders {X = X} (Err stop) before taken (under fuel meant) × LeavesFuel {X = X} fuel meant (Err stop) left × LeavesWorld fuel meant stop after
+stops_so X meant after fuel left before taken stop finished broke = (
+  stops_there X meant after fuel left before taken stop finished broke,
+  stops_leave X meant after fuel left before taken stop finished broke,
+  stops_world meant after fuel left before taken stop finished broke,
+)
 
 pub ends_render : EndsRender
 ends_render setting root w after fuel left before taken e n finished =
     ends_meant _ (meaning setting root n w) after fuel left before taken (code_means_tree setting root w n finished) e
 
 pub stops_render : (X : Type 0) → StopsRender X
-stops_render X setting root w fuel left before taken stop stops n finished =
-    stops_there X (meaning setting root n w) fuel left before taken stop finished
-    (breaks_meant _ (meaning setting root n w) stop fuel left before taken (code_means_tree setting root w n finished) stops)
+stops_render X setting root w after fuel left before taken stop stops n finished =
+    stops_there X (meaning setting root n w) after fuel left before taken stop finished
+    (breaks_meant _ (meaning setting root n w) stop after fuel left before taken (code_means_tree setting root w n finished) stops)
 
 -- an expression's run leaves one value, or ends with a fault
 one_finished : (e : End) → GivesOne e → IsFinished e
@@ -238,16 +257,15 @@ lost_meant setting code meant w fuel before means f =
 -- and one which stopped is it up to there
 stops_meant : (setting : Setting) (code : List Code) (meant : Run World) (w : World) (fuel : Option ℕ) (before : Option (List ℕ)) (y : Spot World) (stop : Stop)
     → Means setting code w meant → Stops (answer (codes_of setting None)) code (at_start w fuel before) y stop
-    → Breaks (λ n. meant) stop fuel y.left before y.taken
+    → Breaks (λ n. meant) stop y.world fuel y.left before y.taken
 stops_meant setting code meant w fuel before y (Fault kinds) means (faults f) =
-    let r : Run World = record { items = f.1.items; end = drives.faults kinds; after = f.1.world } in
+    let r : Run World = record { items = f.1.items; end = drives.faults kinds; after = y.world } in
     let is = ended_means setting code meant (at_start w fuel before) f.1.least f.0 r refl refl means tt
-    (λ m le. f.1.is m le ∙ ended_there f.1.items (drives.faults kinds) f.1.world) in
+    (λ m le. f.1.is m le ∙ ended_there f.1.items (drives.faults kinds) y.world) in
     faulting (record {
       items = f.1.items;
       least = 0;
-      world = f.1.world;
-      is = λ n le. is ∙ sym (ended_there f.1.items (drives.faults kinds) f.1.world);
+      is = λ n le. is ∙ sym (ended_there f.1.items (drives.faults kinds) y.world);
       pays = f.1.pays;
       text = f.1.text;
     })
@@ -297,7 +315,7 @@ expressions_evaluate setting e runs w after none fuel left before taken (Ok v) (
     (over.0 ∙ only_one v (values_in below) over.2, over.1)
 expressions_evaluate setting e runs w after none fuel left before taken (Err stop) (inl stops) =
     gives_stop stop before taken after (under fuel (evaluation setting e w))
-    (stops_there Val (evaluation setting e w) fuel left before taken stop
+    (stops_there Val (evaluation setting e w) after fuel left before taken stop
     (one_finished (evaluation setting e w).end (every_evaluation_gives setting e runs w none))
     (stops_meant setting (standalone_code e) (evaluation setting e w) w fuel before (at_start after left taken) stop (expression_means setting e runs w none) stops))
 expressions_evaluate setting e runs w after none fuel left before taken (Err stop) (inr (bad, h)) =

@@ -1,13 +1,14 @@
 -- What a fuel makes of a run whose first items it pays.
-use Rattle.std.proofs.Common.{◌≡◌, ℕ, ◌-◌, List, [], ◌∷◌, ◌++◌, Option, None, Some, refl, sym, ap, ◌∙◌, arith}
+use Rattle.std.proofs.Common.{◌≡◌, ℕ, ◌+◌, ◌-◌, ◌≤◌, inl, inr, List, [], ◌∷◌, ◌++◌, Option, None, Some, refl, sym, ap, ◌∙◌, arith}
 use Rattle.template_values_errors.specs.declared.ErrorKind.{ErrorKind}
 use Rattle.template_values_errors.specs.declared.ErrorKind.TheVariants.{OutOfFuel}
 use Rattle.template_process.specs.Drive.{faults}
-use Rattle.template_process.specs.Fuel.{cut, under}
+use Rattle.template_process.specs.Fuel.{Lasts, cut, under}
 use Rattle.template_process.specs.Trace.{Item, paid, Run, behind, price_of}
+use Rattle.template_process.proofs.Cuts.{price-append}
 use Rattle.template_process.proofs.Behind.{cut-behind, cut_first, cut_whole, remaining-behind, remaining_first, remaining_whole}
 use Rattle.template_machine_going.specs.Paying.{Paid, IsSpent}
-use Rattle.template_machine_renders.specs.Renders.{leaves}
+use Rattle.template_machine_renders.specs.Renders.{IsShort, leaves}
 
 -- a run that is paid stays as it is
 pub lasts : {S : Type 0} (fuel left : Option ℕ) (r : Run S) → Paid (price_of r.items) fuel left → under fuel r ≡ r
@@ -42,6 +43,20 @@ spent_leaves (Some n) (Some k) items wraps q pays spent =
 spent_leaves None None items wraps q pays spent = absurd spent
 spent_leaves None (Some k) items wraps q pays spent = absurd pays
 spent_leaves (Some n) None items wraps q pays spent = absurd pays
+
+-- it does not last for that
+lasts_never : (n price : ℕ) → n ≤ price → 1 ≤ price → Lasts n price → ⊥
+lasts_never n price over some (inl none) = omega (arith, some, none)
+lasts_never n price over some (inr less) = omega (arith, over, less)
+
+pub short_spent : {S : Type 0} (fuel left : Option ℕ) (items : List Item) (wraps : List ErrorKind) (q : Run S) → Paid (price_of items) fuel left → IsSpent left
+    → IsShort fuel (behind items (behind (paid wraps ∷ []) q))
+short_spent (Some n) (Some k) items wraps q pays spent =
+    let all : price_of (items ++ paid wraps ∷ q.items) ≡ price_of items + (1 + price_of q.items) = price-append items (paid wraps ∷ q.items) in
+    lasts_never n (price_of (items ++ paid wraps ∷ q.items)) (omega (arith, all, pays.0, spent)) (omega (arith, all))
+short_spent None None items wraps q pays spent = absurd spent
+short_spent None (Some k) items wraps q pays spent = absurd pays
+short_spent (Some n) None items wraps q pays spent = absurd pays
 
 -- what is paid stays its beginning
 pub begins : {S : Type 0} (fuel left : Option ℕ) (items : List Item) (q : Run S) → Paid (price_of items) fuel left

@@ -32,8 +32,8 @@ EndsRender = (setting : Setting) (root : Standing) (w after : World) (fuel left 
 
 -- A run that stopped is it up to there.
 abbrev pub StopsRender : Type 0 → Type 0
-StopsRender X = (setting : Setting) (root : Standing) (w : World) (fuel left : Option ℕ) (before taken : Option (List ℕ))
-    (stop : Stop) → Breaks (code_runs setting root w) stop fuel left before taken
+StopsRender X = (setting : Setting) (root : Standing) (w after : World) (fuel left : Option ℕ) (before taken : Option (List ℕ))
+    (stop : Stop) → Breaks (code_runs setting root w) stop after fuel left before taken
     → (n : ℕ) → IsFinished (meaning setting root n w).end
     → Renders {X = X} (Err stop) before taken (under fuel (meaning setting root n w))
 

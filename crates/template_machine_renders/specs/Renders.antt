@@ -1,12 +1,12 @@
 -- How a render comes out, and how an expression does.
-use Rattle.std.specs.Prelude.{◌≡◌, ℕ, List, [], ◌∷◌, Option, Result, Ok, Err}
+use Rattle.std.specs.Prelude.{◌≡◌, ◌⊎◌, ℕ, List, [], ◌∷◌, Option, None, Some, Result, Ok, Err}
 use Rattle.std.specs.Io.KnownBytes.{Appends}
 use Rattle.std.specs.Option.{option_map}
 use Rattle.template_values_errors.specs.declared.ErrorKind.{ErrorKind}
 use Rattle.template_values_model.specs.Val.{Val}
 use Rattle.template_process.specs.Drive.{End, ends, faults}
-use Rattle.template_process.specs.Fuel.{remaining, under}
-use Rattle.template_process.specs.Trace.{Run, text_of}
+use Rattle.template_process.specs.Fuel.{Lasts, remaining, under}
+use Rattle.template_process.specs.Trace.{Run, price_of, text_of}
 use Rattle.template_machine_output.specs.Writes.{AppendsBeginning}
 use Rattle.template_machine_meaning.specs.World.{World}
 use Rattle.template_machine_going.specs.Spots.{Spot}
@@ -52,11 +52,21 @@ LeavesFuel fuel r (Ok _) left = left ≡ leaves fuel r
 LeavesFuel fuel r (Err (Fault kinds)) left = left ≡ leaves fuel r
 LeavesFuel fuel r (Err (Want kinds)) left = Unit {0}
 
+-- the fuel does not last for the run
+abbrev pub IsShort : {S : Type 0} → Option ℕ → Run S → Type 0
+IsShort None r = ⊥
+IsShort (Some n) r = Lasts n (price_of r.items) → ⊥
+
+-- The world is what the run leaves, where the fuel lasts for it; unless a growth was refused, or the sink failed.
+abbrev pub LeavesWorld : {S : Type 0} → Option ℕ → Run S → Stop → S → Type 0
+LeavesWorld fuel r (Fault kinds) after = IsShort fuel r ⊎ (after ≡ r.after)
+LeavesWorld fuel r (Want kinds) after = Unit {0}
+
 -- The call comes to the end of the run, or answers as the run ends up to there.
 abbrev pub RendersTo : {X : Type 0} → Option ℕ → Run World → Result X Stop → World → Option ℕ → Option (List ℕ) → Option (List ℕ) → Type 0
 RendersTo fuel r (Ok _) after left before taken = IsDone fuel r after left before taken
 RendersTo {X = X} fuel r (Err stop) after left before taken =
-    Renders {X = X} (Err stop) before taken (under fuel r) × LeavesFuel {X = X} fuel r (Err stop) left
+    Renders {X = X} (Err stop) before taken (under fuel r) × LeavesFuel {X = X} fuel r (Err stop) left × LeavesWorld fuel r stop after
 
 -- The call tells the one value that the run leaves, in the world that it leaves; or it answers with the run's fault. Or a growth
 -- was refused, or the sink failed.

@@ -467,6 +467,14 @@ impl<'env> State<'env> {
         written
     }
 
+    /// Ends rounds that were called by name, as [`State::leave_rounds_text`], where nobody wants what the innermost capture ends with.
+    pub fn leave_named_rounds(&mut self, alloc: Global, caller: Caller<'env>)
+        ensures { self.new ≡ after_by (runs_rounds true) caller.entry self.old }
+    {
+        drop_last(&mut self.captures);
+        self.leave_rounds(alloc, caller);
+    }
+
     /// Ends the body of a block, whatever its end, as [`State::leave_include`] ends an included template; but the blocks stay, and
     /// the templates that were loaded.
     pub fn leave_block(&mut self, caller: Caller<'env>)

@@ -51,15 +51,15 @@ err_writing_heard {X} s c operands w taken (Err stop) to later after written kin
 
 -- why a call stopped is handed on
 heard_out : {X : Type 0} (s : Programs) (c : Code) (operands : List Operand) (w : World) (to : ℕ → ℕ) (later : List Operand) (after : World) (stop : Stop)
-    → KeepsWorld w after → SparesSink stop → Halting s c operands w stop → StepsHeard {X = X} s c operands w (Err stop) to later after
+    → KeepsWorld w after → SparesSink stop → Halting s c operands w after stop → StepsHeard {X = X} s c operands w (Err stop) to later after
 heard_out s c operands w to later after stop kept other halts = record {
   spares = other;
   keeps = kept;
-  out = λ before place left taken. halts place left taken before (to place) later after;
+  out = λ before place left taken. halts place left taken before (to place) later;
 }
 
 pub heard_on : {X : Type 0} (s : Programs) (c : Code) (operands : List Operand) (w : World) (result : Result X Stop) (to : ℕ → ℕ)
-    (later : List Operand) (after : World) (stop : Stop) → KeepsWorld w after → SparesSink stop → Halting s c operands w stop
+    (later : List Operand) (after : World) (stop : Stop) → KeepsWorld w after → SparesSink stop → Halting s c operands w after stop
     → IsErrAnd result (λ told. told ≡ stop) → StepsHeard s c operands w result to later after
 heard_on s c operands w (Ok v) to later after stop kept other halts is = absurd is
 heard_on {X} s c operands w (Err told) to later after stop kept other halts is =

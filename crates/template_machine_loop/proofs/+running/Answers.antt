@@ -1,4 +1,4 @@
-use Rattle.std.proofs.Common.{rules, ◌≡◌, ◌==◌, ◌+◌, ◌-◌, ◌*◌, ◌≤◌, ◌<◌, refl, [], ◌∷◌, None, Ok, Err, true, false, option_map, length, suc, sym, ap, subst, ◌∙◌, arith, inl, inr, ℕ, Option}
+use Rattle.std.proofs.Common.{rules, ◌≡◌, ◌==◌, ◌+◌, ◌-◌, ◌*◌, ◌≤◌, ◌<◌, refl, [], ◌∷◌, None, Ok, Err, true, false, option_map, length, suc, sym, ap, subst, ◌∙◌, arith, inr, ℕ, Option}
 use Rattle.template_values_errors.specs.declared.ErrorKind.TheVariants.{OutOfMemory, InvalidOperation, BadInclude, EvalBlock}
 use Rattle.template_values_model.specs.Val.{Val}
 use Rattle.template_process.specs.Process.{done, value}
@@ -14,7 +14,7 @@ use Rattle.template_machine_loops.specs.Rounds.{rounds_in}
 use Rattle.template_machine_meaning.specs.Blocks.{block_called, block_plan, block_within, super_plan, super_within, text_plan, text_within}
 use Rattle.template_machine_meaning.specs.Macros.{macro_levels, macro_plan}
 use Rattle.template_machine_meaning.specs.Includes.{include_levels, include_within, include_plan}
-use Rattle.template_machine_meaning.specs.Plans.{Caller, caller_of, put_back, room_for, outermost, after_by, calls_block, calls_macro, calls_super, includes, runs_rounds, takes_block}
+use Rattle.template_machine_meaning.specs.Plans.{Caller, caller_of, put_back, room_for, outermost, after_by, calls_macro, calls_super, includes, runs_rounds, takes_block}
 use Rattle.template_machine_meaning.specs.Keeps.{KeepsWorld}
 use Rattle.template_machine_meaning.specs.Keys.{block_of, whole_of}
 use Rattle.template_machine_meaning.proofs.RunsKept.{block_begun, include_begun, macro_begun, rounds_begun, text_begun, world_on, world_stays}
@@ -34,10 +34,10 @@ use Rattle.template_machine_loop.proofs.Onward.{heard_lost, paid_leads, paid_onw
 use Rattle.template_machine_loop.proofs.Entered.{recurse_lacks, call_done, call_enters, does_as, does_lost, told_done, told_short, block_does, printed_does, recurse_does, include_does, load_does, super_lost, named_refused, named_halted, named_does}
 use Rattle.template_machine_loop.proofs.Failing.{counts_after, other, spared, tells_other, tells_on, tells_so, tells_spares, tells_wrapped}
 use Rattle.template_machine_loop.proofs.Followed.{comes_itself, key_stops, key_ends, key_lacks, key_lost, key_restarts}
-use Rattle.template_machine_loop.proofs.Within.{length-writes, keyed, refused_as, roomless, roomy, puts_back_itself, puts_back_same, stops_first, stops_so, block_code, template_code, within_ends, within_breaks, within_does, within_gives, plan_as, refused_plan, tells_as, as_captured, as_innermost, as_kept, ended_tells, given_tells, tells_spared}
-use Rattle.template_machine_loop.proofs.Lasting.{comes_back, frames_back, restart_keeps, rounds_put_back, stays_same, super_begun}
+use Rattle.template_machine_loop.proofs.Within.{length-writes, keyed, refused_as, roomless, roomy, puts_back_itself, puts_back_same, stops_first, stops_so, lacks_first, block_code, template_code, within_ends, within_breaks, within_does, within_gives, plan_as, refused_plan, tells_as, as_captured, as_innermost, as_kept, ended_tells, given_tells, tells_spared}
+use Rattle.template_machine_loop.proofs.Lasting.{comes_back, frames_back, restart_keeps, stays_same, super_begun}
 use Rattle.template_machine_loop.proofs.Parts.{again_refused, loop_known, loop_runs, macro_begins, macro_entered, macro_keyed, macro_runs, no_loop_known, no_loop_runs, not_recursive, rounds_entered, rounds_keyed, rounds_refused, rounds_runs}
-use Rattle.template_machine_loop.proofs.Turned.{call_gives, call_halts, halted_as, turned_does, turned_halts, turning_tells, uniform}
+use Rattle.template_machine_loop.proofs.Turned.{call_gives, call_halts, halted_as, turned_does, turned_halts, turning_tells}
 use Rattle.template_machine_loop.proofs.Doing.{answers, refuses}
 use Rattle.template_machine_loop.proofs.Finding.{passed_over, looked_for}
 use Rattle.template_machine_loop.proofs.+running.Goals as goal
@@ -263,7 +263,7 @@ running::run_to_end-returns-clause-runs g t c =
 pub blocks::run_body-returns-then-not-has_room-clause-plan : goal.blocks::run_body-returns-then-not-has_room-clause-plan
 blocks::run_body-returns-then-not-has_room-clause-plan g t c =
     let s = programs_under (g.T.Templates.standing c.args.program.templates.now) (g.T.Templates.joins c.args.program.templates.now) (g.T.Callbacks.callables c.args.program.templates.now) (option_map standing_of c.args.program.root) c.args.program.rules in
-    refuses s (room_for s.around.limit 1 c.args.state.now (block_within c.args.state.now (name_in c.args.found) (home_of c.args.found.home))) c.args.state.now c.args.left.now (g.S.Sink.taken c.args.sink.now) (λ (u : Unit {0}). done) c.new.result c.args.state.now
+    refuses s (room_for s.around.limit 1 c.args.state.now (block_within c.args.state.now (name_in c.args.found) (home_of c.args.found.home))) c.args.state.now c.args.left.now (g.S.Sink.taken c.args.sink.now) (λ (u : Unit {0}). done) c.new.result
     (refused_as s (room_for s.around.limit 1 c.args.state.now (block_within c.args.state.now (name_in c.args.found) (home_of c.args.found.home))) c.args.state.now (InvalidOperation ∷ []) c.new.result c.new.ensures (roomless s 1 c.args.state.now (block_within c.args.state.now (name_in c.args.found) (home_of c.args.found.home)) (sym c.has_room.ensures ∙ c.if-not-has_room.true)))
 
 pub blocks::run_body-returns-then-not-has_room-clause-back : goal.blocks::run_body-returns-then-not-has_room-clause-back
@@ -280,8 +280,8 @@ blocks::run_body-enter_block-requires g t c =
 pub blocks::run_body-returns-in_err-caller-clause-plan : goal.blocks::run_body-returns-in_err-caller-clause-plan
 blocks::run_body-returns-in_err-caller-clause-plan g t c =
     let s = programs_under (g.T.Templates.standing c.args.program.templates.now) (g.T.Templates.joins c.args.program.templates.now) (g.T.Callbacks.callables c.args.program.templates.now) (option_map standing_of c.args.program.root) c.args.program.rules in
-    stops_first (λ (u : Unit {0}). done) s (room_for s.around.limit 1 c.args.state.now (block_within c.args.state.now (name_in c.args.found) (home_of c.args.found.home))) c.args.state.now c.args.left.now (g.S.Sink.taken c.args.sink.now) _ c.from_residual.result c.enter_block.new.self c.from_residual.ensures.1
-    (inl c.in_err-caller.ensures.refused)
+    lacks_first (λ (u : Unit {0}). done) s (room_for s.around.limit 1 c.args.state.now (block_within c.args.state.now (name_in c.args.found) (home_of c.args.found.home))) c.args.state.now c.args.left.now (g.S.Sink.taken c.args.sink.now) _ c.from_residual.result c.enter_block.new.self c.from_residual.ensures.1
+    c.in_err-caller.ensures.refused
 
 pub blocks::run_body-returns-in_err-caller-clause-back : goal.blocks::run_body-returns-in_err-caller-clause-back
 blocks::run_body-returns-in_err-caller-clause-back g t c = puts_back_same c.args.state.now c.enter_block.new.self c.in_err-caller.ensures.unchanged
@@ -346,8 +346,8 @@ blocks::run_body-returns-clause-back g t c = record {
 pub blocks::run_block-returns-in_err-found-clause-plan : goal.blocks::run_block-returns-in_err-found-clause-plan
 blocks::run_block-returns-in_err-found-clause-plan g t c =
     let s = programs_under (g.T.Templates.standing c.args.program.templates.now) (g.T.Templates.joins c.args.program.templates.now) (g.T.Callbacks.callables c.args.program.templates.now) (option_map standing_of c.args.program.root) c.args.program.rules in
-    stops_first (λ (u : Unit {0}). done) s (block_plan s.around c.args.state.now c.args.name.now) c.args.state.now c.args.left.now (g.S.Sink.taken c.args.sink.now) _ c.from_residual.result c.args.state.now c.from_residual.ensures.1
-    (inr (c.in_err-found.ensures.refused 1 (block_within c.args.state.now) (λ called home. refl)))
+    stops_first (λ (u : Unit {0}). done) s (block_plan s.around c.args.state.now c.args.name.now) c.args.state.now c.args.left.now (g.S.Sink.taken c.args.sink.now) _ c.from_residual.result c.from_residual.ensures.1
+    (inr (c.in_err-found.ensures.refused 1 (block_within c.args.state.now) (λ called home. refl) (λ called home. refl)))
 
 pub blocks::run_block-returns-in_err-found-clause-back : goal.blocks::run_block-returns-in_err-found-clause-back
 blocks::run_block-returns-in_err-found-clause-back g t c = puts_back_itself c.args.state.now
@@ -396,7 +396,7 @@ blocks::call_block-returns-clause-plan g t c =
 pub blocks::print_super-returns-in_default-clause-plan : goal.blocks::print_super-returns-in_default-clause-plan
 blocks::print_super-returns-in_default-clause-plan g t c =
     let s = programs_under (g.T.Templates.standing c.args.program.templates.now) (g.T.Templates.joins c.args.program.templates.now) (g.T.Callbacks.callables c.args.program.templates.now) (option_map standing_of c.args.program.root) c.args.program.rules in
-    refuses s (super_plan s.around c.args.state.now false) c.args.state.now c.args.left.now (g.S.Sink.taken c.args.sink.now) (λ (u : Unit {0}). done) c.new.result c.args.state.now
+    refuses s (super_plan s.around c.args.state.now false) c.args.state.now c.args.left.now (g.S.Sink.taken c.args.sink.now) (λ (u : Unit {0}). done) c.new.result
     (refused_as s (super_plan s.around c.args.state.now false) c.args.state.now (InvalidOperation ∷ []) c.new.result c.new.ensures (c.in_default.ensures.none false))
 
 pub blocks::print_super-returns-in_default-clause-keeps : goal.blocks::print_super-returns-in_default-clause-keeps
@@ -405,7 +405,7 @@ blocks::print_super-returns-in_default-clause-keeps g t c = world_stays c.args.s
 pub blocks::print_super-returns-then-not-has_room-clause-plan : goal.blocks::print_super-returns-then-not-has_room-clause-plan
 blocks::print_super-returns-then-not-has_room-clause-plan g t c =
     let s = programs_under (g.T.Templates.standing c.args.program.templates.now) (g.T.Templates.joins c.args.program.templates.now) (g.T.Callbacks.callables c.args.program.templates.now) (option_map standing_of c.args.program.root) c.args.program.rules in
-    refuses s (super_plan s.around c.args.state.now false) c.args.state.now c.args.left.now (g.S.Sink.taken c.args.sink.now) (λ (u : Unit {0}). done) c.new-then-not-has_room.result c.args.state.now
+    refuses s (super_plan s.around c.args.state.now false) c.args.state.now c.args.left.now (g.S.Sink.taken c.args.sink.now) (λ (u : Unit {0}). done) c.new-then-not-has_room.result
     (refused_as s (super_plan s.around c.args.state.now false) c.args.state.now (InvalidOperation ∷ []) c.new-then-not-has_room.result c.new-then-not-has_room.ensures
     (refused_plan s (super_plan s.around c.args.state.now false) (room_for s.around.limit 1 c.args.state.now (super_within c.args.state.now false (name_in c.in-Some.found) c.in-Some.found.place (home_of c.in-Some.found.home))) c.args.state.now (InvalidOperation ∷ []) (c.in-Some.ensures.found.planned false)
     (roomless s 1 c.args.state.now (super_within c.args.state.now false (name_in c.in-Some.found) c.in-Some.found.place (home_of c.in-Some.found.home)) (sym c.has_room.ensures ∙ c.if-not-has_room.true))))
@@ -424,8 +424,8 @@ blocks::print_super-enter_super-requires-clause-place g t c = c.in-Some.ensures.
 pub blocks::print_super-returns-in_err-caller-clause-plan : goal.blocks::print_super-returns-in_err-caller-clause-plan
 blocks::print_super-returns-in_err-caller-clause-plan g t c =
     let s = programs_under (g.T.Templates.standing c.args.program.templates.now) (g.T.Templates.joins c.args.program.templates.now) (g.T.Callbacks.callables c.args.program.templates.now) (option_map standing_of c.args.program.root) c.args.program.rules in
-    stops_first (λ (u : Unit {0}). done) s (super_plan s.around c.args.state.now false) c.args.state.now c.args.left.now (g.S.Sink.taken c.args.sink.now) _ c.from_residual.result c.enter_super.new.self c.from_residual.ensures.1
-    (inl c.in_err-caller.ensures.refused)
+    lacks_first (λ (u : Unit {0}). done) s (super_plan s.around c.args.state.now false) c.args.state.now c.args.left.now (g.S.Sink.taken c.args.sink.now) _ c.from_residual.result c.enter_super.new.self c.from_residual.ensures.1
+    c.in_err-caller.ensures.refused
 
 pub blocks::print_super-returns-in_err-caller-clause-failures : goal.blocks::print_super-returns-in_err-caller-clause-failures
 blocks::print_super-returns-in_err-caller-clause-failures g t c =
@@ -473,7 +473,9 @@ blocks::print_super-returns-in-Err-clause-plan g t c =
     (g.T.Templates.standing c.args.program.templates.now) (g.T.Templates.joins c.args.program.templates.now) (g.T.Callbacks.callables c.args.program.templates.now) (option_map standing_of c.args.program.root) c.args.program.rules 1 c.args.state.now y
     (keyed (g.T.Templates.standing c.args.program.templates.now) (g.T.Templates.joins c.args.program.templates.now) (g.T.Callbacks.callables c.args.program.templates.now) (option_map standing_of c.args.program.root) c.args.program.rules y.key.stream stream.code at) refl
     (sym c.has_room.ensures ∙ c.if-not-has_room.false) c.args.left.now c.run_whole-ran.new.left (g.S.Sink.taken c.args.sink.now) (g.S.Sink.taken c.run_whole-ran.new.sink) c.enter_super.new.self c.run_whole-ran.new.state
-    (c.in_ok-caller.ensures.within ∙ ap (λ n. (super_within c.args.state.now false n c.in-Some.found.place home).begins) c.as_str-name.ensures.value) _ _ (λ (u : Unit {0}). done) c.in-Err.stop c.wrapped.result c.run_whole-ran.result c.leave_super.new.self c.in-Err.is (c.run_whole-ran.ensures.runs y.key.stream at) c.wrapped.ensures)
+    (c.in_ok-caller.ensures.within ∙ ap (λ n. (super_within c.args.state.now false n c.in-Some.found.place home).begins) c.as_str-name.ensures.value) _ _ (λ (u : Unit {0}). done) c.in-Err.stop c.wrapped.result c.run_whole-ran.result c.leave_super.new.self c.in-Err.is (c.run_whole-ran.ensures.runs y.key.stream at) c.wrapped.ensures
+    (c.leave_super.ensures false ∙ ap (λ (k : Caller). after_by (calls_super false c.as_str-name.result.now c.in-Some.found.place) k c.run_whole-ran.new.state) c.in_ok-caller.ensures.kept
+    ∙ ap (λ n. after_by (calls_super false n c.in-Some.found.place) (caller_of c.args.state.now) c.run_whole-ran.new.state) c.as_str-name.ensures.value))
 
 pub blocks::print_super-returns-in-Ok-clause-failures : goal.blocks::print_super-returns-in-Ok-clause-failures
 blocks::print_super-returns-in-Ok-clause-failures g t c = ended_tells _ c.run_whole-ran.result (g.S.Sink.failures c.args.sink.now) (g.S.Sink.failures c.run_whole-ran.new.sink) c.in-Ok.is c.run_whole-ran.ensures.failures
@@ -509,7 +511,7 @@ blocks::print_super-returns-in-Err-clause-keeps g t c =
 pub blocks::call_super-returns-in_default-clause-plan : goal.blocks::call_super-returns-in_default-clause-plan
 blocks::call_super-returns-in_default-clause-plan g t c =
     let s = programs_under (g.T.Templates.standing c.args.program.templates.now) (g.T.Templates.joins c.args.program.templates.now) (g.T.Callbacks.callables c.args.program.templates.now) (option_map standing_of c.args.program.root) c.args.program.rules in
-    refuses s (super_plan s.around c.args.state.now true) c.args.state.now c.args.left.now (g.S.Sink.taken c.args.sink.now) value c.new.result c.args.state.now
+    refuses s (super_plan s.around c.args.state.now true) c.args.state.now c.args.left.now (g.S.Sink.taken c.args.sink.now) value c.new.result
     (refused_as s (super_plan s.around c.args.state.now true) c.args.state.now (InvalidOperation ∷ []) c.new.result c.new.ensures (c.in_default.ensures.none true))
 
 pub blocks::call_super-returns-in_default-clause-keeps : goal.blocks::call_super-returns-in_default-clause-keeps
@@ -518,7 +520,7 @@ blocks::call_super-returns-in_default-clause-keeps g t c = world_stays c.args.st
 pub blocks::call_super-returns-then-not-has_room-clause-plan : goal.blocks::call_super-returns-then-not-has_room-clause-plan
 blocks::call_super-returns-then-not-has_room-clause-plan g t c =
     let s = programs_under (g.T.Templates.standing c.args.program.templates.now) (g.T.Templates.joins c.args.program.templates.now) (g.T.Callbacks.callables c.args.program.templates.now) (option_map standing_of c.args.program.root) c.args.program.rules in
-    refuses s (super_plan s.around c.args.state.now true) c.args.state.now c.args.left.now (g.S.Sink.taken c.args.sink.now) value c.new-then-not-has_room.result c.args.state.now
+    refuses s (super_plan s.around c.args.state.now true) c.args.state.now c.args.left.now (g.S.Sink.taken c.args.sink.now) value c.new-then-not-has_room.result
     (refused_as s (super_plan s.around c.args.state.now true) c.args.state.now (InvalidOperation ∷ []) c.new-then-not-has_room.result c.new-then-not-has_room.ensures
     (refused_plan s (super_plan s.around c.args.state.now true) (room_for s.around.limit 1 c.args.state.now (super_within c.args.state.now true (name_in c.in-Some.found) c.in-Some.found.place (home_of c.in-Some.found.home))) c.args.state.now (InvalidOperation ∷ []) (c.in-Some.ensures.found.planned true)
     (roomless s 1 c.args.state.now (super_within c.args.state.now true (name_in c.in-Some.found) c.in-Some.found.place (home_of c.in-Some.found.home)) (sym c.has_room.ensures ∙ c.if-not-has_room.true))))
@@ -537,8 +539,8 @@ blocks::call_super-enter_super-requires-clause-place g t c = c.in-Some.ensures.f
 pub blocks::call_super-returns-in_err-caller-clause-plan : goal.blocks::call_super-returns-in_err-caller-clause-plan
 blocks::call_super-returns-in_err-caller-clause-plan g t c =
     let s = programs_under (g.T.Templates.standing c.args.program.templates.now) (g.T.Templates.joins c.args.program.templates.now) (g.T.Callbacks.callables c.args.program.templates.now) (option_map standing_of c.args.program.root) c.args.program.rules in
-    stops_first value s (super_plan s.around c.args.state.now true) c.args.state.now c.args.left.now (g.S.Sink.taken c.args.sink.now) _ c.from_residual.result c.enter_super.new.self c.from_residual.ensures.1
-    (inl c.in_err-caller.ensures.refused)
+    lacks_first value s (super_plan s.around c.args.state.now true) c.args.state.now c.args.left.now (g.S.Sink.taken c.args.sink.now) _ c.from_residual.result c.enter_super.new.self c.from_residual.ensures.1
+    c.in_err-caller.ensures.refused
 
 pub blocks::call_super-returns-in_err-caller-clause-failures : goal.blocks::call_super-returns-in_err-caller-clause-failures
 blocks::call_super-returns-in_err-caller-clause-failures g t c =
@@ -589,7 +591,9 @@ blocks::call_super-returns-in-Err-clause-plan g t c =
     (g.T.Templates.standing c.args.program.templates.now) (g.T.Templates.joins c.args.program.templates.now) (g.T.Callbacks.callables c.args.program.templates.now) (option_map standing_of c.args.program.root) c.args.program.rules 1 c.args.state.now y
     (keyed (g.T.Templates.standing c.args.program.templates.now) (g.T.Templates.joins c.args.program.templates.now) (g.T.Callbacks.callables c.args.program.templates.now) (option_map standing_of c.args.program.root) c.args.program.rules y.key.stream stream.code at) refl
     (sym c.has_room.ensures ∙ c.if-not-has_room.false) c.args.left.now c.run_whole-ran.new.left (g.S.Sink.taken c.args.sink.now) (g.S.Sink.taken c.run_whole-ran.new.sink) c.enter_super.new.self c.run_whole-ran.new.state
-    (c.in_ok-caller.ensures.within ∙ ap (λ n. (super_within c.args.state.now true n c.in-Some.found.place home).begins) c.as_str-name.ensures.value) _ _ value c.in-Err.stop c.wrapped.result c.run_whole-ran.result c.leave_super.new.self c.in-Err.is (c.run_whole-ran.ensures.runs y.key.stream at) c.wrapped.ensures)
+    (c.in_ok-caller.ensures.within ∙ ap (λ n. (super_within c.args.state.now true n c.in-Some.found.place home).begins) c.as_str-name.ensures.value) _ _ value c.in-Err.stop c.wrapped.result c.run_whole-ran.result c.leave_super.new.self c.in-Err.is (c.run_whole-ran.ensures.runs y.key.stream at) c.wrapped.ensures
+    (c.leave_super.ensures true ∙ ap (λ (k : Caller). after_by (calls_super true c.as_str-name.result.now c.in-Some.found.place) k c.run_whole-ran.new.state) c.in_ok-caller.ensures.kept
+    ∙ ap (λ n. after_by (calls_super true n c.in-Some.found.place) (caller_of c.args.state.now) c.run_whole-ran.new.state) c.as_str-name.ensures.value))
 
 pub blocks::call_super-returns-in-Ok-clause-failures : goal.blocks::call_super-returns-in-Ok-clause-failures
 blocks::call_super-returns-in-Ok-clause-failures g t c =
@@ -626,7 +630,7 @@ blocks::call_super-returns-in-Err-clause-keeps g t c =
 pub includes::include-returns-in_err-choice-clause-plan : goal.includes::include-returns-in_err-choice-clause-plan
 includes::include-returns-in_err-choice-clause-plan g t c =
     let s = programs_under (g.T.Templates.standing c.args.program.templates.now) (g.T.Templates.joins c.args.program.templates.now) (g.T.Callbacks.callables c.args.program.templates.now) (option_map standing_of c.args.program.root) c.args.program.rules in
-    stops_so (λ (u : Unit {0}). done) s (include_plan (known_of c.args.state.now) s.around c.args.state.now c.args.ignore_missing c.args.value) c.args.state.now c.args.left.now (g.S.Sink.taken c.args.sink.now) _ c.from_residual.result c.args.state.now c.from_residual.ensures.1 c.in_err-choice.ensures.refused
+    stops_so (λ (u : Unit {0}). done) s (include_plan (known_of c.args.state.now) s.around c.args.state.now c.args.ignore_missing c.args.value) c.args.state.now c.args.left.now (g.S.Sink.taken c.args.sink.now) _ c.from_residual.result c.from_residual.ensures.1 c.in_err-choice.ensures.refused
 
 pub includes::include-returns-in_err-choice-clause-failures : goal.includes::include-returns-in_err-choice-clause-failures
 includes::include-returns-in_err-choice-clause-failures g t c =
@@ -664,7 +668,7 @@ includes::include-returns-in-None-clause-keeps g t c = world_stays c.args.state.
 pub includes::run_included-returns-then-not-has_room-clause-plan : goal.includes::run_included-returns-then-not-has_room-clause-plan
 includes::run_included-returns-then-not-has_room-clause-plan g t c =
     let s = programs_under (g.T.Templates.standing c.args.program.templates.now) (g.T.Templates.joins c.args.program.templates.now) (g.T.Callbacks.callables c.args.program.templates.now) (option_map standing_of c.args.program.root) c.args.program.rules in
-    refuses s (room_for s.around.limit include_levels c.args.state.now (include_within c.args.state.now (found_of (standing_of c.args.found)))) c.args.state.now c.args.left.now (g.S.Sink.taken c.args.sink.now) (λ (u : Unit {0}). done) c.new.result c.args.state.now
+    refuses s (room_for s.around.limit include_levels c.args.state.now (include_within c.args.state.now (found_of (standing_of c.args.found)))) c.args.state.now c.args.left.now (g.S.Sink.taken c.args.sink.now) (λ (u : Unit {0}). done) c.new.result
     (refused_as s (room_for s.around.limit include_levels c.args.state.now (include_within c.args.state.now (found_of (standing_of c.args.found)))) c.args.state.now (InvalidOperation ∷ []) c.new.result c.new.ensures (roomless s include_levels c.args.state.now (include_within c.args.state.now (found_of (standing_of c.args.found))) (sym c.has_room.ensures ∙ c.if-not-has_room.true)))
 
 pub includes::run_included-returns-then-not-has_room-clause-keeps : goal.includes::run_included-returns-then-not-has_room-clause-keeps
@@ -678,8 +682,8 @@ includes::run_included-enter_include-requires g t c =
 pub includes::run_included-returns-in_err-caller-clause-plan : goal.includes::run_included-returns-in_err-caller-clause-plan
 includes::run_included-returns-in_err-caller-clause-plan g t c =
     let s = programs_under (g.T.Templates.standing c.args.program.templates.now) (g.T.Templates.joins c.args.program.templates.now) (g.T.Callbacks.callables c.args.program.templates.now) (option_map standing_of c.args.program.root) c.args.program.rules in
-    stops_first (λ (u : Unit {0}). done) s (room_for s.around.limit include_levels c.args.state.now (include_within c.args.state.now (found_of (standing_of c.args.found)))) c.args.state.now c.args.left.now (g.S.Sink.taken c.args.sink.now) _ c.from_residual.result c.enter_include.new.self c.from_residual.ensures.1
-    (inl c.in_err-caller.ensures.refused)
+    lacks_first (λ (u : Unit {0}). done) s (room_for s.around.limit include_levels c.args.state.now (include_within c.args.state.now (found_of (standing_of c.args.found)))) c.args.state.now c.args.left.now (g.S.Sink.taken c.args.sink.now) _ c.from_residual.result c.enter_include.new.self c.from_residual.ensures.1
+    c.in_err-caller.ensures.refused
 
 pub includes::run_included-returns-in_err-caller-clause-failures : goal.includes::run_included-returns-in_err-caller-clause-failures
 includes::run_included-returns-in_err-caller-clause-failures g t c =
@@ -722,6 +726,7 @@ includes::run_included-returns-in-Err-clause-plan g t c =
     (keyed (g.T.Templates.standing c.args.program.templates.now) (g.T.Templates.joins c.args.program.templates.now) (g.T.Callbacks.callables c.args.program.templates.now) (option_map standing_of c.args.program.root) c.args.program.rules y.key.stream (code_in c.args.found.code.now) at) refl
     (sym c.has_room.ensures ∙ c.if-not-has_room.false) c.args.left.now c.run_whole-ran.new.left (g.S.Sink.taken c.args.sink.now) (g.S.Sink.taken c.run_whole-ran.new.sink) c.enter_include.new.self c.run_whole-ran.new.state
     c.in_ok-caller.ensures.within _ _ (λ (u : Unit {0}). done) c.in-Err.stop c.wrapped.result c.run_whole-ran.result c.leave_include.new.self c.in-Err.is (c.run_whole-ran.ensures.runs y.key.stream at) c.wrapped.ensures
+    (c.leave_include.ensures ∙ ap (λ (k : Caller). after_by includes k c.run_whole-ran.new.state) c.in_ok-caller.ensures.kept)
 
 pub includes::run_included-returns-in-Ok-clause-failures : goal.includes::run_included-returns-in-Ok-clause-failures
 includes::run_included-returns-in-Ok-clause-failures g t c = ended_tells _ c.run_whole-ran.result (g.S.Sink.failures c.args.sink.now) (g.S.Sink.failures c.run_whole-ran.new.sink) c.in-Ok.is c.run_whole-ran.ensures.failures
@@ -780,13 +785,14 @@ whole::run_whole-returns-in_default-clause-keeps g t c = c.loop.invariant.1
 pub whole::run_whole-returns-in_default-get-clause-runs : goal.whole::run_whole-returns-in_default-get-clause-runs
 whole::run_whole-returns-in_default-get-clause-runs g t c here at =
     let h = c.loop.invariant.0 here at in
-    key_lost (g.T.Templates.standing c.args.program.templates.now) (g.T.Templates.joins c.args.program.templates.now) (g.T.Callbacks.callables c.args.program.templates.now) (option_map standing_of c.args.program.root) c.args.program.rules (whole_of here) c.args.state.now c.args.left.now (g.S.Sink.taken c.args.sink.now) h.code h.world h.mid h.reached h.come h.operands c.loop.state c.loop.left (g.S.Sink.taken c.loop.sink) h.ends (Unit {0}) c.in-Some.name.now c.new.result c.loop.state (sym c.in-Some.ensures) (sym c.in_default-get.ensures.found) c.new.ensures
+    key_lost (g.T.Templates.standing c.args.program.templates.now) (g.T.Templates.joins c.args.program.templates.now) (g.T.Callbacks.callables c.args.program.templates.now) (option_map standing_of c.args.program.root) c.args.program.rules (whole_of here) c.args.state.now c.args.left.now (g.S.Sink.taken c.args.sink.now) h.code h.world h.mid h.reached h.come h.operands c.loop.state c.loop.left (g.S.Sink.taken c.loop.sink) h.ends (Unit {0}) c.in-Some.name.now c.new.result c.restart.new.self (sym c.in-Some.ensures) (sym c.in_default-get.ensures.found) c.new.ensures c.restart.ensures
 
 pub whole::run_whole-returns-in_default-get-clause-failures : goal.whole::run_whole-returns-in_default-get-clause-failures
 whole::run_whole-returns-in_default-get-clause-failures g t c = c.loop.invariant.2
 
 pub whole::run_whole-returns-in_default-get-clause-keeps : goal.whole::run_whole-returns-in_default-get-clause-keeps
-whole::run_whole-returns-in_default-get-clause-keeps g t c = c.loop.invariant.1
+whole::run_whole-returns-in_default-get-clause-keeps g t c =
+    world_on c.args.state.now c.loop.state c.restart.new.self c.loop.invariant.1 (restart_keeps c.loop.state c.restart.new.self c.in-Some.name.now c.restart.ensures)
 
 pub whole::run_whole-run_to_end-requires-in-loop : goal.whole::run_whole-run_to_end-requires-in-loop
 whole::run_whole-run_to_end-requires-in-loop g t c κs within =
@@ -955,7 +961,7 @@ entering::enter-returns-in_err-args-in-CallFunction-clause-failures g t c =
 pub entering::enter-returns-then-not-is_none-clause-does : goal.entering::enter-returns-then-not-is_none-clause-does
 entering::enter-returns-then-not-is_none-clause-does g t c =
     let s = programs_under (g.T.Templates.standing c.args.program.templates.now) (g.T.Templates.joins c.args.program.templates.now) (g.T.Callbacks.callables c.args.program.templates.now) (option_map standing_of c.args.program.root) c.args.program.rules in
-    named_refused s (code_of c.args.instruction.now) _ c.in-CallFunction.count c.widened.result (ap code_of c.in-CallFunction.is) c.widened.ensures (sym (ap task_of (ap code_of c.in-CallFunction.is)) ∙ c.requires) _ _ c.args.state.now c.args.left.now (g.S.Sink.taken c.args.sink.now) c.in_ok-args-in-CallFunction.args.items c.in_ok-args-in-CallFunction.ensures.taken _ c.new.result _ c.args.state.now (world_stays c.args.state.now)
+    named_refused s (code_of c.args.instruction.now) _ c.in-CallFunction.count c.widened.result (ap code_of c.in-CallFunction.is) c.widened.ensures (sym (ap task_of (ap code_of c.in-CallFunction.is)) ∙ c.requires) _ _ c.args.state.now c.args.left.now (g.S.Sink.taken c.args.sink.now) c.in_ok-args-in-CallFunction.args.items c.in_ok-args-in-CallFunction.ensures.taken _ c.new.result _
     (ap (λ vs. length vs == 0) (sym c.as_slice.ensures.value) ∙ sym c.is_none.ensures ∙ c.if-not-is_none.true) c.new.ensures
 
 pub entering::enter-returns-in_err-text-in-CallFunction-clause-does : goal.entering::enter-returns-in_err-text-in-CallFunction-clause-does
@@ -985,7 +991,7 @@ entering::enter-returns-in_ok-text-in-CallFunction-clause-does g t c =
 pub macros::call_macro-returns-in_err-begun-clause-plan : goal.macros::call_macro-returns-in_err-begun-clause-plan
 macros::call_macro-returns-in_err-begun-clause-plan g t c =
     let s = programs_under (g.T.Templates.standing c.args.program.templates.now) (g.T.Templates.joins c.args.program.templates.now) (g.T.Callbacks.callables c.args.program.templates.now) (option_map standing_of c.args.program.root) c.args.program.rules in
-    stops_first value s (macro_plan s.around.limit c.args.pending c.args.state.now c.args.args.items (macro_of c.args.state.now c.args.id c.args.number)) c.args.state.now c.args.left.now (g.S.Sink.taken c.args.sink.now) _ c.from_residual.result c.args.state.now c.from_residual.ensures.1 c.in_err-begun.ensures.refused
+    stops_first value s (macro_plan s.around.limit c.args.pending c.args.state.now c.args.args.items (macro_of c.args.state.now c.args.id c.args.number)) c.args.state.now c.args.left.now (g.S.Sink.taken c.args.sink.now) _ c.from_residual.result c.from_residual.ensures.1 c.in_err-begun.ensures.refused
 
 pub macros::call_macro-returns-in_err-begun-clause-failures : goal.macros::call_macro-returns-in_err-begun-clause-failures
 macros::call_macro-returns-in_err-begun-clause-failures g t c =
@@ -1003,7 +1009,7 @@ macros::call_macro-enter_macro-requires g t c =
 pub macros::call_macro-returns-in_err-caller-clause-plan : goal.macros::call_macro-returns-in_err-caller-clause-plan
 macros::call_macro-returns-in_err-caller-clause-plan g t c =
     let s = programs_under (g.T.Templates.standing c.args.program.templates.now) (g.T.Templates.joins c.args.program.templates.now) (g.T.Callbacks.callables c.args.program.templates.now) (option_map standing_of c.args.program.root) c.args.program.rules in
-    stops_first value s (macro_plan s.around.limit c.args.pending c.args.state.now c.args.args.items (macro_of c.args.state.now c.args.id c.args.number)) c.args.state.now c.args.left.now (g.S.Sink.taken c.args.sink.now) _ c.from_residual-in_err-caller.result c.enter_macro.new.self c.from_residual-in_err-caller.ensures.1 (inl c.in_err-caller.ensures.refused)
+    lacks_first value s (macro_plan s.around.limit c.args.pending c.args.state.now c.args.args.items (macro_of c.args.state.now c.args.id c.args.number)) c.args.state.now c.args.left.now (g.S.Sink.taken c.args.sink.now) _ c.from_residual-in_err-caller.result c.enter_macro.new.self c.from_residual-in_err-caller.ensures.1 c.in_err-caller.ensures.refused
 
 pub macros::call_macro-returns-in_err-caller-clause-failures : goal.macros::call_macro-returns-in_err-caller-clause-failures
 macros::call_macro-returns-in_err-caller-clause-failures g t c =
@@ -1053,7 +1059,8 @@ macros::call_macro-returns-clause-plan g t c =
     (macro_keyed (g.T.Templates.standing c.args.program.templates.now) (g.T.Templates.joins c.args.program.templates.now) (g.T.Callbacks.callables c.args.program.templates.now) (option_map standing_of c.args.program.root) c.args.program.rules c.args.state.now c.args.pending (macro_plan s.around.limit c.args.pending c.args.state.now c.args.args.items (macro_of c.args.state.now c.args.id c.args.number)) begun found) refl found.room c.args.left.now c.run_from-ran.new.left (g.S.Sink.taken c.args.sink.now) (g.S.Sink.taken c.run_from-ran.new.sink) c.enter_macro.new.self c.run_from-ran.new.state
     (macro_begins (g.T.Templates.standing c.args.program.templates.now) (g.T.Templates.joins c.args.program.templates.now) (g.T.Callbacks.callables c.args.program.templates.now) (option_map standing_of c.args.program.root) c.args.program.rules c.args.state.now c.args.pending (macro_plan s.around.limit c.args.pending c.args.state.now c.args.args.items (macro_of c.args.state.now c.args.id c.args.number)) begun found c.enter_macro.new.self c.in_ok-caller.ensures.within) _ _ value c.in-Err.stop c.in-Err.stop
     c.run_from-ran.result c.leave_macro.new.self c.in-Err.is
-    (macro_runs (g.T.Templates.standing c.args.program.templates.now) (g.T.Templates.joins c.args.program.templates.now) (g.T.Callbacks.callables c.args.program.templates.now) (option_map standing_of c.args.program.root) c.args.program.rules c.args.state.now c.args.pending (macro_plan s.around.limit c.args.pending c.args.state.now c.args.args.items (macro_of c.args.state.now c.args.id c.args.number)) begun found c.enter_macro.new.self c.args.left.now c.run_from-ran.new.left (g.S.Sink.taken c.args.sink.now) (g.S.Sink.taken c.run_from-ran.new.sink) c.run_from-ran.result c.run_from-ran.new.state c.run_from-ran.ensures.runs) refl)
+    (macro_runs (g.T.Templates.standing c.args.program.templates.now) (g.T.Templates.joins c.args.program.templates.now) (g.T.Callbacks.callables c.args.program.templates.now) (option_map standing_of c.args.program.root) c.args.program.rules c.args.state.now c.args.pending (macro_plan s.around.limit c.args.pending c.args.state.now c.args.args.items (macro_of c.args.state.now c.args.id c.args.number)) begun found c.enter_macro.new.self c.args.left.now c.run_from-ran.new.left (g.S.Sink.taken c.args.sink.now) (g.S.Sink.taken c.run_from-ran.new.sink) c.run_from-ran.result c.run_from-ran.new.state c.run_from-ran.ensures.runs) refl
+    (c.leave_macro.ensures ∙ ap (λ (k : Caller). after_by calls_macro k c.run_from-ran.new.state) c.in_ok-caller.ensures.kept))
 
 pub macros::call_macro-returns-in-Ok-clause-failures : goal.macros::call_macro-returns-in-Ok-clause-failures
 macros::call_macro-returns-in-Ok-clause-failures g t c =
@@ -1109,8 +1116,8 @@ macros::call_macro-returns-clause-frames g t c =
 pub blocks::run_block_text-returns-in_err-found-clause-plan : goal.blocks::run_block_text-returns-in_err-found-clause-plan
 blocks::run_block_text-returns-in_err-found-clause-plan g t c =
     let s = programs_under (g.T.Templates.standing c.args.program.templates.now) (g.T.Templates.joins c.args.program.templates.now) (g.T.Callbacks.callables c.args.program.templates.now) (option_map standing_of c.args.program.root) c.args.program.rules in
-    stops_first value s (text_plan s.around c.args.pending c.args.state.now c.args.name.now) c.args.state.now c.args.left.now (g.S.Sink.taken c.args.sink.now) _ c.from_residual.result c.args.state.now c.from_residual.ensures.1
-    (inr (c.in_err-found.ensures.refused (1 + c.args.pending) (text_within c.args.state.now c.args.pending) (λ called home. refl)))
+    stops_first value s (text_plan s.around c.args.pending c.args.state.now c.args.name.now) c.args.state.now c.args.left.now (g.S.Sink.taken c.args.sink.now) _ c.from_residual.result c.from_residual.ensures.1
+    (inr (c.in_err-found.ensures.refused (1 + c.args.pending) (text_within c.args.state.now c.args.pending) (λ called home. refl) (λ called home. refl)))
 
 pub blocks::run_block_text-returns-in_err-found-clause-failures : goal.blocks::run_block_text-returns-in_err-found-clause-failures
 blocks::run_block_text-returns-in_err-found-clause-failures g t c =
@@ -1122,7 +1129,7 @@ blocks::run_block_text-returns-in_err-found-clause-keeps g t c = world_stays c.a
 pub blocks::run_block_text-returns-then-not-has_room_beside-clause-plan : goal.blocks::run_block_text-returns-then-not-has_room_beside-clause-plan
 blocks::run_block_text-returns-then-not-has_room_beside-clause-plan g t c =
     let s = programs_under (g.T.Templates.standing c.args.program.templates.now) (g.T.Templates.joins c.args.program.templates.now) (g.T.Callbacks.callables c.args.program.templates.now) (option_map standing_of c.args.program.root) c.args.program.rules in
-    refuses s (text_plan s.around c.args.pending c.args.state.now c.args.name.now) c.args.state.now c.args.left.now (g.S.Sink.taken c.args.sink.now) value c.new.result c.args.state.now
+    refuses s (text_plan s.around c.args.pending c.args.state.now c.args.name.now) c.args.state.now c.args.left.now (g.S.Sink.taken c.args.sink.now) value c.new.result
     (refused_as s (text_plan s.around c.args.pending c.args.state.now c.args.name.now) c.args.state.now (InvalidOperation ∷ []) c.new.result c.new.ensures
     (refused_plan s (text_plan s.around c.args.pending c.args.state.now c.args.name.now) (room_for s.around.limit (1 + c.args.pending) c.args.state.now (text_within c.args.state.now c.args.pending (name_in c.in_ok-found.found) (home_of c.in_ok-found.found.home))) c.args.state.now (InvalidOperation ∷ []) (c.in_ok-found.ensures.found.planned (1 + c.args.pending) (text_within c.args.state.now c.args.pending))
     (roomless s (1 + c.args.pending) c.args.state.now (text_within c.args.state.now c.args.pending (name_in c.in_ok-found.found) (home_of c.in_ok-found.found.home)) (sym c.has_room_beside.ensures ∙ c.if-not-has_room_beside.true))))
@@ -1138,7 +1145,7 @@ blocks::run_block_text-enter_block_text-requires g t c =
 pub blocks::run_block_text-returns-in_err-caller-clause-plan : goal.blocks::run_block_text-returns-in_err-caller-clause-plan
 blocks::run_block_text-returns-in_err-caller-clause-plan g t c =
     let s = programs_under (g.T.Templates.standing c.args.program.templates.now) (g.T.Templates.joins c.args.program.templates.now) (g.T.Callbacks.callables c.args.program.templates.now) (option_map standing_of c.args.program.root) c.args.program.rules in
-    stops_first value s (text_plan s.around c.args.pending c.args.state.now c.args.name.now) c.args.state.now c.args.left.now (g.S.Sink.taken c.args.sink.now) _ c.from_residual-in_err-caller.result c.enter_block_text.new.self c.from_residual-in_err-caller.ensures.1 (inl c.in_err-caller.ensures.refused)
+    lacks_first value s (text_plan s.around c.args.pending c.args.state.now c.args.name.now) c.args.state.now c.args.left.now (g.S.Sink.taken c.args.sink.now) _ c.from_residual-in_err-caller.result c.enter_block_text.new.self c.from_residual-in_err-caller.ensures.1 c.in_err-caller.ensures.refused
 
 pub blocks::run_block_text-returns-in_err-caller-clause-failures : goal.blocks::run_block_text-returns-in_err-caller-clause-failures
 blocks::run_block_text-returns-in_err-caller-clause-failures g t c =
@@ -1189,7 +1196,8 @@ blocks::run_block_text-returns-in-Err-clause-plan g t c =
     (within_breaks (g.T.Templates.standing c.args.program.templates.now) (g.T.Templates.joins c.args.program.templates.now) (g.T.Callbacks.callables c.args.program.templates.now) (option_map standing_of c.args.program.root) c.args.program.rules (1 + c.args.pending) c.args.state.now y (keyed (g.T.Templates.standing c.args.program.templates.now) (g.T.Templates.joins c.args.program.templates.now) (g.T.Callbacks.callables c.args.program.templates.now) (option_map standing_of c.args.program.root) c.args.program.rules y.key.stream stream.code at) refl
     (sym c.has_room_beside.ensures ∙ c.if-not-has_room_beside.false) c.args.left.now c.run_whole-ran.new.left (g.S.Sink.taken c.args.sink.now) (g.S.Sink.taken c.run_whole-ran.new.sink) c.enter_block_text.new.self c.run_whole-ran.new.state
     (c.in_ok-caller.ensures.within ∙ ap (λ n. (text_within c.args.state.now c.args.pending n home).begins) c.as_str-name.ensures.value) _ _ value c.in-Err.stop c.in-Err.stop
-    c.run_whole-ran.result c.leave_block.new.self c.in-Err.is (c.run_whole-ran.ensures.runs y.key.stream at) refl)
+    c.run_whole-ran.result c.leave_block.new.self c.in-Err.is (c.run_whole-ran.ensures.runs y.key.stream at) refl
+    (c.leave_block.ensures ∙ ap (λ (k : Caller). put_back k c.run_whole-ran.new.state) c.in_ok-caller.ensures.kept))
 
 pub blocks::run_block_text-returns-in-Ok-clause-failures : goal.blocks::run_block_text-returns-in-Ok-clause-failures
 blocks::run_block_text-returns-in-Ok-clause-failures g t c =
@@ -1237,7 +1245,7 @@ blocks::run_block_text-returns-in-Err-clause-frames g t c =
 pub rounds::print_rounds-returns-in_default-clause-plan : goal.rounds::print_rounds-returns-in_default-clause-plan
 rounds::print_rounds-returns-in_default-clause-plan g t c =
     let s = programs_under (g.T.Templates.standing c.args.program.templates.now) (g.T.Templates.joins c.args.program.templates.now) (g.T.Callbacks.callables c.args.program.templates.now) (option_map standing_of c.args.program.root) c.args.program.rules in
-    refuses s (recurse_plan s.around c.args.state.now c.args.over) c.args.state.now c.args.left.now (g.S.Sink.taken c.args.sink.now) (λ (u : Unit {0}). done) c.new.result c.args.state.now
+    refuses s (recurse_plan s.around c.args.state.now c.args.over) c.args.state.now c.args.left.now (g.S.Sink.taken c.args.sink.now) (λ (u : Unit {0}). done) c.new.result
     (no_loop_runs s c.args.state.now c.args.over c.new.result c.in_default.ensures c.new.ensures)
 
 pub rounds::print_rounds-returns-in_default-clause-keeps : goal.rounds::print_rounds-returns-in_default-clause-keeps
@@ -1246,7 +1254,7 @@ rounds::print_rounds-returns-in_default-clause-keeps g t c = world_stays c.args.
 pub rounds::print_rounds-returns-in_err-again-clause-plan : goal.rounds::print_rounds-returns-in_err-again-clause-plan
 rounds::print_rounds-returns-in_err-again-clause-plan g t c =
     let s = programs_under (g.T.Templates.standing c.args.program.templates.now) (g.T.Templates.joins c.args.program.templates.now) (g.T.Callbacks.callables c.args.program.templates.now) (option_map standing_of c.args.program.root) c.args.program.rules in
-    stops_first (λ (u : Unit {0}). done) s (recurse_plan s.around c.args.state.now c.args.over) c.args.state.now c.args.left.now (g.S.Sink.taken c.args.sink.now) _ c.from_residual.result c.args.state.now c.from_residual.ensures.1
+    stops_first (λ (u : Unit {0}). done) s (recurse_plan s.around c.args.state.now c.args.over) c.args.state.now c.args.left.now (g.S.Sink.taken c.args.sink.now) _ c.from_residual.result c.from_residual.ensures.1
     (inr (refused_plan s (recurse_plan s.around c.args.state.now c.args.over) (rounds_plan s.around c.args.state.now false c.args.over c.in-Some.current.now) c.args.state.now _ (loop_runs s c.args.state.now c.args.over c.in-Some.current.now c.in-Some.ensures) (not_recursive s c.args.state.now false c.args.over c.in-Some.current.now _ c.in_err-again.ensures.refused.0 c.in_err-again.ensures.refused.1)))
 
 pub rounds::print_rounds-returns-in_err-again-clause-failures : goal.rounds::print_rounds-returns-in_err-again-clause-failures
@@ -1259,7 +1267,7 @@ rounds::print_rounds-returns-in_err-again-clause-keeps g t c = world_stays c.arg
 pub rounds::print_rounds-returns-in_err-begun-clause-plan : goal.rounds::print_rounds-returns-in_err-begun-clause-plan
 rounds::print_rounds-returns-in_err-begun-clause-plan g t c =
     let s = programs_under (g.T.Templates.standing c.args.program.templates.now) (g.T.Templates.joins c.args.program.templates.now) (g.T.Callbacks.callables c.args.program.templates.now) (option_map standing_of c.args.program.root) c.args.program.rules in
-    rounds_refused s c.args.state.now (λ (u : Unit {0}). done) false c.args.over c.in-Some.current.now (rounds_in c.in_ok-again.again.rounds) (recurse_plan s.around c.args.state.now c.args.over) c.args.left.now (g.S.Sink.taken c.args.sink.now) _ c.from_residual-in_err-begun.result c.args.state.now (loop_runs s c.args.state.now c.args.over c.in-Some.current.now c.in-Some.ensures) c.in_ok-again.ensures.again.0 c.from_residual-in_err-begun.ensures.1
+    rounds_refused s c.args.state.now (λ (u : Unit {0}). done) false c.args.over c.in-Some.current.now (rounds_in c.in_ok-again.again.rounds) (recurse_plan s.around c.args.state.now c.args.over) c.args.left.now (g.S.Sink.taken c.args.sink.now) _ c.from_residual-in_err-begun.result (loop_runs s c.args.state.now c.args.over c.in-Some.current.now c.in-Some.ensures) c.in_ok-again.ensures.again.0 c.from_residual-in_err-begun.ensures.1
     c.in_err-begun.ensures.refused
 
 pub rounds::print_rounds-returns-in_err-begun-clause-failures : goal.rounds::print_rounds-returns-in_err-begun-clause-failures
@@ -1278,7 +1286,7 @@ rounds::print_rounds-enter_rounds-requires g t c =
 pub rounds::print_rounds-returns-in_err-caller-clause-plan : goal.rounds::print_rounds-returns-in_err-caller-clause-plan
 rounds::print_rounds-returns-in_err-caller-clause-plan g t c =
     let s = programs_under (g.T.Templates.standing c.args.program.templates.now) (g.T.Templates.joins c.args.program.templates.now) (g.T.Callbacks.callables c.args.program.templates.now) (option_map standing_of c.args.program.root) c.args.program.rules in
-    stops_first (λ (u : Unit {0}). done) s (recurse_plan s.around c.args.state.now c.args.over) c.args.state.now c.args.left.now (g.S.Sink.taken c.args.sink.now) _ c.from_residual-in_err-caller.result c.enter_rounds.new.self c.from_residual-in_err-caller.ensures.1 (inl c.in_err-caller.ensures.refused)
+    lacks_first (λ (u : Unit {0}). done) s (recurse_plan s.around c.args.state.now c.args.over) c.args.state.now c.args.left.now (g.S.Sink.taken c.args.sink.now) _ c.from_residual-in_err-caller.result c.enter_rounds.new.self c.from_residual-in_err-caller.ensures.1 c.in_err-caller.ensures.refused
 
 pub rounds::print_rounds-returns-in_err-caller-clause-failures : goal.rounds::print_rounds-returns-in_err-caller-clause-failures
 rounds::print_rounds-returns-in_err-caller-clause-failures g t c =
@@ -1317,11 +1325,12 @@ rounds::print_rounds-returns-clause-plan g t c =
     let s = programs_under (g.T.Templates.standing c.args.program.templates.now) (g.T.Templates.joins c.args.program.templates.now) (g.T.Callbacks.callables c.args.program.templates.now) (option_map standing_of c.args.program.root) c.args.program.rules in
     let found = (c.in_ok-begun.ensures.begun false c.in-Some.current.now c.in_ok-again.ensures.again.0) in
     let y = rounds_entered (g.T.Templates.standing c.args.program.templates.now) (g.T.Templates.joins c.args.program.templates.now) (g.T.Callbacks.callables c.args.program.templates.now) (option_map standing_of c.args.program.root) c.args.program.rules c.args.state.now false c.in-Some.current.now (rounds_in c.in_ok-again.again.rounds) c.args.over c.in_ok-begun.begun found in
-    plan_as (λ (u : Unit {0}). done) s (recurse_plan s.around c.args.state.now c.args.over) _ c.args.state.now c.args.left.now (g.S.Sink.taken c.args.sink.now) (Err c.in-Err.stop) c.leave_block.new.self c.run_from-ran.new.left (g.S.Sink.taken c.run_from-ran.new.sink) (loop_runs s c.args.state.now c.args.over c.in-Some.current.now c.in-Some.ensures ∙ found.planned)
+    plan_as (λ (u : Unit {0}). done) s (recurse_plan s.around c.args.state.now c.args.over) _ c.args.state.now c.args.left.now (g.S.Sink.taken c.args.sink.now) (Err c.in-Err.stop) c.leave_rounds.new.self c.run_from-ran.new.left (g.S.Sink.taken c.run_from-ran.new.sink) (loop_runs s c.args.state.now c.args.over c.in-Some.current.now c.in-Some.ensures ∙ found.planned)
     (within_breaks (g.T.Templates.standing c.args.program.templates.now) (g.T.Templates.joins c.args.program.templates.now) (g.T.Callbacks.callables c.args.program.templates.now) (option_map standing_of c.args.program.root) c.args.program.rules 1 c.args.state.now y
     (rounds_keyed (g.T.Templates.standing c.args.program.templates.now) (g.T.Templates.joins c.args.program.templates.now) (g.T.Callbacks.callables c.args.program.templates.now) (option_map standing_of c.args.program.root) c.args.program.rules c.args.state.now false c.in-Some.current.now (rounds_in c.in_ok-again.again.rounds) c.args.over c.in_ok-begun.begun found) refl found.room c.args.left.now c.run_from-ran.new.left (g.S.Sink.taken c.args.sink.now) (g.S.Sink.taken c.run_from-ran.new.sink) c.enter_rounds.new.self c.run_from-ran.new.state
-    (c.in_ok-caller.ensures.within c.in-Some.current.now c.in_ok-again.ensures.again.1) _ _ (λ (u : Unit {0}). done) c.in-Err.stop c.in-Err.stop c.run_from-ran.result c.leave_block.new.self c.in-Err.is
-    (rounds_runs (g.T.Templates.standing c.args.program.templates.now) (g.T.Templates.joins c.args.program.templates.now) (g.T.Callbacks.callables c.args.program.templates.now) (option_map standing_of c.args.program.root) c.args.program.rules c.args.state.now false c.in-Some.current.now (rounds_in c.in_ok-again.again.rounds) c.args.over c.in_ok-begun.begun found c.enter_rounds.new.self c.args.left.now c.run_from-ran.new.left (g.S.Sink.taken c.args.sink.now) (g.S.Sink.taken c.run_from-ran.new.sink) (operands_in c.new-operands.result) c.run_from-ran.result c.run_from-ran.new.state c.new-operands.ensures c.run_from-ran.ensures.runs) refl)
+    (c.in_ok-caller.ensures.within c.in-Some.current.now c.in_ok-again.ensures.again.1) _ _ (λ (u : Unit {0}). done) c.in-Err.stop c.in-Err.stop c.run_from-ran.result c.leave_rounds.new.self c.in-Err.is
+    (rounds_runs (g.T.Templates.standing c.args.program.templates.now) (g.T.Templates.joins c.args.program.templates.now) (g.T.Callbacks.callables c.args.program.templates.now) (option_map standing_of c.args.program.root) c.args.program.rules c.args.state.now false c.in-Some.current.now (rounds_in c.in_ok-again.again.rounds) c.args.over c.in_ok-begun.begun found c.enter_rounds.new.self c.args.left.now c.run_from-ran.new.left (g.S.Sink.taken c.args.sink.now) (g.S.Sink.taken c.run_from-ran.new.sink) (operands_in c.new-operands.result) c.run_from-ran.result c.run_from-ran.new.state c.new-operands.ensures c.run_from-ran.ensures.runs) refl
+    (c.leave_rounds.ensures ∙ ap (λ (k : Caller). after_by (runs_rounds false) k c.run_from-ran.new.state) c.in_ok-caller.ensures.kept))
 
 pub rounds::print_rounds-returns-in-Ok-clause-failures : goal.rounds::print_rounds-returns-in-Ok-clause-failures
 rounds::print_rounds-returns-in-Ok-clause-failures g t c =
@@ -1342,16 +1351,16 @@ rounds::print_rounds-returns-clause-failures g t c =
 pub rounds::print_rounds-returns-clause-keeps : goal.rounds::print_rounds-returns-clause-keeps
 rounds::print_rounds-returns-clause-keeps g t c =
     let y = rounds_within c.args.state.now false c.in-Some.current.now (rounds_in c.in_ok-again.again.rounds) c.in_ok-begun.begun.items in
-    comes_back c.args.state.now (record y { purpose = calls_block }) c.enter_rounds.new.self c.run_from-ran.new.state
+    comes_back c.args.state.now y c.enter_rounds.new.self c.run_from-ran.new.state
     (c.in_ok-caller.ensures.within c.in-Some.current.now c.in_ok-again.ensures.again.1) c.run_from-ran.ensures.keeps
-    (rounds_put_back c.args.state.now false c.in-Some.current.now (rounds_in c.in_ok-again.again.rounds) c.in_ok-begun.begun.items) c.leave_block.new.self
-    (c.leave_block.ensures ∙ ap (λ (k : Caller). put_back k c.run_from-ran.new.state) c.in_ok-caller.ensures.kept)
+    (rounds_begun c.args.state.now false c.in-Some.current.now (rounds_in c.in_ok-again.again.rounds) c.in_ok-begun.begun.items) c.leave_rounds.new.self
+    (c.leave_rounds.ensures ∙ ap (λ (k : Caller). after_by (runs_rounds false) k c.run_from-ran.new.state) c.in_ok-caller.ensures.kept)
 
 -- by its name
 pub rounds::call_rounds-returns-in_err-over-clause-plan : goal.rounds::call_rounds-returns-in_err-over-clause-plan
 rounds::call_rounds-returns-in_err-over-clause-plan g t c =
     let s = programs_under (g.T.Templates.standing c.args.program.templates.now) (g.T.Templates.joins c.args.program.templates.now) (g.T.Callbacks.callables c.args.program.templates.now) (option_map standing_of c.args.program.root) c.args.program.rules in
-    stops_first value s (again_plan s.around c.args.state.now c.args.args.items (loop_of c.args.state.now c.args.id c.args.number)) c.args.state.now c.args.left.now (g.S.Sink.taken c.args.sink.now) _ c.from_residual.result c.args.state.now c.from_residual.ensures.1
+    stops_first value s (again_plan s.around c.args.state.now c.args.args.items (loop_of c.args.state.now c.args.id c.args.number)) c.args.state.now c.args.left.now (g.S.Sink.taken c.args.sink.now) _ c.from_residual.result c.from_residual.ensures.1
     (inr (again_refused s c.args.state.now c.args.args.items (loop_of c.args.state.now c.args.id c.args.number) _ (c.in_err-over.ensures.refused.1 s.around c.args.state.now (loop_of c.args.state.now c.args.id c.args.number)) c.in_err-over.ensures.refused.0))
 
 pub rounds::call_rounds-returns-in_err-over-clause-failures : goal.rounds::call_rounds-returns-in_err-over-clause-failures
@@ -1364,7 +1373,7 @@ rounds::call_rounds-returns-in_err-over-clause-keeps g t c = world_stays c.args.
 pub rounds::call_rounds-returns-in_default-clause-plan : goal.rounds::call_rounds-returns-in_default-clause-plan
 rounds::call_rounds-returns-in_default-clause-plan g t c =
     let s = programs_under (g.T.Templates.standing c.args.program.templates.now) (g.T.Templates.joins c.args.program.templates.now) (g.T.Callbacks.callables c.args.program.templates.now) (option_map standing_of c.args.program.root) c.args.program.rules in
-    refuses s (again_plan s.around c.args.state.now c.args.args.items (loop_of c.args.state.now c.args.id c.args.number)) c.args.state.now c.args.left.now (g.S.Sink.taken c.args.sink.now) value c.new.result c.args.state.now
+    refuses s (again_plan s.around c.args.state.now c.args.args.items (loop_of c.args.state.now c.args.id c.args.number)) c.args.state.now c.args.left.now (g.S.Sink.taken c.args.sink.now) value c.new.result
     (again_refused s c.args.state.now c.args.args.items (loop_of c.args.state.now c.args.id c.args.number) c.new.result (no_loop_known s c.args.state.now c.args.args.items c.in_ok-over.over (loop_of c.args.state.now c.args.id c.args.number) c.in_ok-over.ensures.only c.in_default.ensures) c.new.ensures)
 
 pub rounds::call_rounds-returns-in_default-clause-keeps : goal.rounds::call_rounds-returns-in_default-clause-keeps
@@ -1373,7 +1382,7 @@ rounds::call_rounds-returns-in_default-clause-keeps g t c = world_stays c.args.s
 pub rounds::call_rounds-returns-in_err-again-clause-plan : goal.rounds::call_rounds-returns-in_err-again-clause-plan
 rounds::call_rounds-returns-in_err-again-clause-plan g t c =
     let s = programs_under (g.T.Templates.standing c.args.program.templates.now) (g.T.Templates.joins c.args.program.templates.now) (g.T.Callbacks.callables c.args.program.templates.now) (option_map standing_of c.args.program.root) c.args.program.rules in
-    stops_first value s (again_plan s.around c.args.state.now c.args.args.items (loop_of c.args.state.now c.args.id c.args.number)) c.args.state.now c.args.left.now (g.S.Sink.taken c.args.sink.now) _ c.from_residual-in_err-again.result c.args.state.now c.from_residual-in_err-again.ensures.1
+    stops_first value s (again_plan s.around c.args.state.now c.args.args.items (loop_of c.args.state.now c.args.id c.args.number)) c.args.state.now c.args.left.now (g.S.Sink.taken c.args.sink.now) _ c.from_residual-in_err-again.result c.from_residual-in_err-again.ensures.1
     (inr (refused_plan s (again_plan s.around c.args.state.now c.args.args.items (loop_of c.args.state.now c.args.id c.args.number)) (rounds_plan s.around c.args.state.now true c.in_ok-over.over c.in-Some.current.now) c.args.state.now _ (loop_known s c.args.state.now c.args.args.items c.in_ok-over.over c.in-Some.current.now (loop_of c.args.state.now c.args.id c.args.number) c.in_ok-over.ensures.only c.in-Some.ensures) (not_recursive s c.args.state.now true c.in_ok-over.over c.in-Some.current.now _ c.in_err-again.ensures.refused.0 c.in_err-again.ensures.refused.1)))
 
 pub rounds::call_rounds-returns-in_err-again-clause-failures : goal.rounds::call_rounds-returns-in_err-again-clause-failures
@@ -1386,7 +1395,7 @@ rounds::call_rounds-returns-in_err-again-clause-keeps g t c = world_stays c.args
 pub rounds::call_rounds-returns-in_err-begun-clause-plan : goal.rounds::call_rounds-returns-in_err-begun-clause-plan
 rounds::call_rounds-returns-in_err-begun-clause-plan g t c =
     let s = programs_under (g.T.Templates.standing c.args.program.templates.now) (g.T.Templates.joins c.args.program.templates.now) (g.T.Callbacks.callables c.args.program.templates.now) (option_map standing_of c.args.program.root) c.args.program.rules in
-    rounds_refused s c.args.state.now value true c.in_ok-over.over c.in-Some.current.now (rounds_in c.in_ok-again.again.rounds) (again_plan s.around c.args.state.now c.args.args.items (loop_of c.args.state.now c.args.id c.args.number)) c.args.left.now (g.S.Sink.taken c.args.sink.now) _ c.from_residual-in_err-begun.result c.args.state.now (loop_known s c.args.state.now c.args.args.items c.in_ok-over.over c.in-Some.current.now (loop_of c.args.state.now c.args.id c.args.number) c.in_ok-over.ensures.only c.in-Some.ensures) c.in_ok-again.ensures.again.0 c.from_residual-in_err-begun.ensures.1
+    rounds_refused s c.args.state.now value true c.in_ok-over.over c.in-Some.current.now (rounds_in c.in_ok-again.again.rounds) (again_plan s.around c.args.state.now c.args.args.items (loop_of c.args.state.now c.args.id c.args.number)) c.args.left.now (g.S.Sink.taken c.args.sink.now) _ c.from_residual-in_err-begun.result (loop_known s c.args.state.now c.args.args.items c.in_ok-over.over c.in-Some.current.now (loop_of c.args.state.now c.args.id c.args.number) c.in_ok-over.ensures.only c.in-Some.ensures) c.in_ok-again.ensures.again.0 c.from_residual-in_err-begun.ensures.1
     c.in_err-begun.ensures.refused
 
 pub rounds::call_rounds-returns-in_err-begun-clause-failures : goal.rounds::call_rounds-returns-in_err-begun-clause-failures
@@ -1405,7 +1414,7 @@ rounds::call_rounds-enter_rounds-requires g t c =
 pub rounds::call_rounds-returns-in_err-caller-clause-plan : goal.rounds::call_rounds-returns-in_err-caller-clause-plan
 rounds::call_rounds-returns-in_err-caller-clause-plan g t c =
     let s = programs_under (g.T.Templates.standing c.args.program.templates.now) (g.T.Templates.joins c.args.program.templates.now) (g.T.Callbacks.callables c.args.program.templates.now) (option_map standing_of c.args.program.root) c.args.program.rules in
-    stops_first value s (again_plan s.around c.args.state.now c.args.args.items (loop_of c.args.state.now c.args.id c.args.number)) c.args.state.now c.args.left.now (g.S.Sink.taken c.args.sink.now) _ c.from_residual-in_err-caller.result c.enter_rounds.new.self c.from_residual-in_err-caller.ensures.1 (inl c.in_err-caller.ensures.refused)
+    lacks_first value s (again_plan s.around c.args.state.now c.args.args.items (loop_of c.args.state.now c.args.id c.args.number)) c.args.state.now c.args.left.now (g.S.Sink.taken c.args.sink.now) _ c.from_residual-in_err-caller.result c.enter_rounds.new.self c.from_residual-in_err-caller.ensures.1 c.in_err-caller.ensures.refused
 
 pub rounds::call_rounds-returns-in_err-caller-clause-failures : goal.rounds::call_rounds-returns-in_err-caller-clause-failures
 rounds::call_rounds-returns-in_err-caller-clause-failures g t c =
@@ -1448,11 +1457,12 @@ rounds::call_rounds-returns-clause-plan g t c =
     let s = programs_under (g.T.Templates.standing c.args.program.templates.now) (g.T.Templates.joins c.args.program.templates.now) (g.T.Callbacks.callables c.args.program.templates.now) (option_map standing_of c.args.program.root) c.args.program.rules in
     let found = (c.in_ok-begun.ensures.begun true c.in-Some.current.now c.in_ok-again.ensures.again.0) in
     let y = rounds_entered (g.T.Templates.standing c.args.program.templates.now) (g.T.Templates.joins c.args.program.templates.now) (g.T.Callbacks.callables c.args.program.templates.now) (option_map standing_of c.args.program.root) c.args.program.rules c.args.state.now true c.in-Some.current.now (rounds_in c.in_ok-again.again.rounds) c.in_ok-over.over c.in_ok-begun.begun found in
-    plan_as value s (again_plan s.around c.args.state.now c.args.args.items (loop_of c.args.state.now c.args.id c.args.number)) _ c.args.state.now c.args.left.now (g.S.Sink.taken c.args.sink.now) (Err c.in-Err.stop) c.leave_block.new.self c.run_from-ran.new.left (g.S.Sink.taken c.run_from-ran.new.sink) (loop_known s c.args.state.now c.args.args.items c.in_ok-over.over c.in-Some.current.now (loop_of c.args.state.now c.args.id c.args.number) c.in_ok-over.ensures.only c.in-Some.ensures ∙ found.planned)
+    plan_as value s (again_plan s.around c.args.state.now c.args.args.items (loop_of c.args.state.now c.args.id c.args.number)) _ c.args.state.now c.args.left.now (g.S.Sink.taken c.args.sink.now) (Err c.in-Err.stop) c.leave_named_rounds.new.self c.run_from-ran.new.left (g.S.Sink.taken c.run_from-ran.new.sink) (loop_known s c.args.state.now c.args.args.items c.in_ok-over.over c.in-Some.current.now (loop_of c.args.state.now c.args.id c.args.number) c.in_ok-over.ensures.only c.in-Some.ensures ∙ found.planned)
     (within_breaks (g.T.Templates.standing c.args.program.templates.now) (g.T.Templates.joins c.args.program.templates.now) (g.T.Callbacks.callables c.args.program.templates.now) (option_map standing_of c.args.program.root) c.args.program.rules 1 c.args.state.now y
     (rounds_keyed (g.T.Templates.standing c.args.program.templates.now) (g.T.Templates.joins c.args.program.templates.now) (g.T.Callbacks.callables c.args.program.templates.now) (option_map standing_of c.args.program.root) c.args.program.rules c.args.state.now true c.in-Some.current.now (rounds_in c.in_ok-again.again.rounds) c.in_ok-over.over c.in_ok-begun.begun found) refl found.room c.args.left.now c.run_from-ran.new.left (g.S.Sink.taken c.args.sink.now) (g.S.Sink.taken c.run_from-ran.new.sink) c.enter_rounds.new.self c.run_from-ran.new.state
-    (c.in_ok-caller.ensures.within c.in-Some.current.now c.in_ok-again.ensures.again.1) _ _ value c.in-Err.stop c.in-Err.stop c.run_from-ran.result c.leave_block.new.self c.in-Err.is
-    (rounds_runs (g.T.Templates.standing c.args.program.templates.now) (g.T.Templates.joins c.args.program.templates.now) (g.T.Callbacks.callables c.args.program.templates.now) (option_map standing_of c.args.program.root) c.args.program.rules c.args.state.now true c.in-Some.current.now (rounds_in c.in_ok-again.again.rounds) c.in_ok-over.over c.in_ok-begun.begun found c.enter_rounds.new.self c.args.left.now c.run_from-ran.new.left (g.S.Sink.taken c.args.sink.now) (g.S.Sink.taken c.run_from-ran.new.sink) (operands_in c.new-operands.result) c.run_from-ran.result c.run_from-ran.new.state c.new-operands.ensures c.run_from-ran.ensures.runs) refl)
+    (c.in_ok-caller.ensures.within c.in-Some.current.now c.in_ok-again.ensures.again.1) _ _ value c.in-Err.stop c.in-Err.stop c.run_from-ran.result c.leave_named_rounds.new.self c.in-Err.is
+    (rounds_runs (g.T.Templates.standing c.args.program.templates.now) (g.T.Templates.joins c.args.program.templates.now) (g.T.Callbacks.callables c.args.program.templates.now) (option_map standing_of c.args.program.root) c.args.program.rules c.args.state.now true c.in-Some.current.now (rounds_in c.in_ok-again.again.rounds) c.in_ok-over.over c.in_ok-begun.begun found c.enter_rounds.new.self c.args.left.now c.run_from-ran.new.left (g.S.Sink.taken c.args.sink.now) (g.S.Sink.taken c.run_from-ran.new.sink) (operands_in c.new-operands.result) c.run_from-ran.result c.run_from-ran.new.state c.new-operands.ensures c.run_from-ran.ensures.runs) refl
+    (c.leave_named_rounds.ensures ∙ ap (λ (k : Caller). after_by (runs_rounds true) k c.run_from-ran.new.state) c.in_ok-caller.ensures.kept))
 
 pub rounds::call_rounds-returns-in-Ok-clause-failures : goal.rounds::call_rounds-returns-in-Ok-clause-failures
 rounds::call_rounds-returns-in-Ok-clause-failures g t c =
@@ -1482,19 +1492,19 @@ rounds::call_rounds-returns-clause-failures g t c =
 pub rounds::call_rounds-returns-clause-keeps : goal.rounds::call_rounds-returns-clause-keeps
 rounds::call_rounds-returns-clause-keeps g t c =
     let y = rounds_within c.args.state.now true c.in-Some.current.now (rounds_in c.in_ok-again.again.rounds) c.in_ok-begun.begun.items in
-    comes_back c.args.state.now (record y { purpose = calls_block }) c.enter_rounds.new.self c.run_from-ran.new.state
+    comes_back c.args.state.now y c.enter_rounds.new.self c.run_from-ran.new.state
     (c.in_ok-caller.ensures.within c.in-Some.current.now c.in_ok-again.ensures.again.1) c.run_from-ran.ensures.keeps
-    (rounds_put_back c.args.state.now true c.in-Some.current.now (rounds_in c.in_ok-again.again.rounds) c.in_ok-begun.begun.items) c.leave_block.new.self
-    (c.leave_block.ensures ∙ ap (λ (k : Caller). put_back k c.run_from-ran.new.state) c.in_ok-caller.ensures.kept)
+    (rounds_begun c.args.state.now true c.in-Some.current.now (rounds_in c.in_ok-again.again.rounds) c.in_ok-begun.begun.items) c.leave_named_rounds.new.self
+    (c.leave_named_rounds.ensures ∙ ap (λ (k : Caller). after_by (runs_rounds true) k c.run_from-ran.new.state) c.in_ok-caller.ensures.kept)
 
 pub rounds::call_rounds-returns-clause-frames : goal.rounds::call_rounds-returns-clause-frames
 rounds::call_rounds-returns-clause-frames g t c =
     let y = rounds_within c.args.state.now true c.in-Some.current.now (rounds_in c.in_ok-again.again.rounds) c.in_ok-begun.begun.items in
-    frames_back c.args.state.now (record y { purpose = calls_block }) c.enter_rounds.new.self c.run_from-ran.new.state
+    frames_back c.args.state.now y c.enter_rounds.new.self c.run_from-ran.new.state
     (c.in_ok-caller.ensures.within c.in-Some.current.now c.in_ok-again.ensures.again.1) c.run_from-ran.ensures.keeps
-    (loop_frame (loop_again c.args.state.now c.in-Some.current.now (rounds_in c.in_ok-again.again.rounds) c.in_ok-begun.begun.items)) refl refl c.leave_block.new.self
+    (loop_frame (loop_again c.args.state.now c.in-Some.current.now (rounds_in c.in_ok-again.again.rounds) c.in_ok-begun.begun.items)) refl refl c.leave_named_rounds.new.self
     (ap (λ (w : World). w.frames)
-    (c.leave_block.ensures ∙ ap (λ (k : Caller). put_back k c.run_from-ran.new.state) c.in_ok-caller.ensures.kept))
+    (c.leave_named_rounds.ensures ∙ ap (λ (k : Caller). after_by (runs_rounds true) k c.run_from-ran.new.state) c.in_ok-caller.ensures.kept))
 
 -- what a call enters
 pub entries::run_entering-returns-in-Macro-clause-plan : goal.entries::run_entering-returns-in-Macro-clause-plan
@@ -1568,7 +1578,7 @@ entries::enter_call-run_entry-requires g t c κs within =
 pub entries::enter_call-returns-in_err-value-clause-does : goal.entries::enter_call-returns-in_err-value-clause-does
 entries::enter_call-returns-in_err-value-clause-does g t c code start w entered =
     let s = programs_under (g.T.Templates.standing c.args.program.templates.now) (g.T.Templates.joins c.args.program.templates.now) (g.T.Callbacks.callables c.args.program.templates.now) (option_map standing_of c.args.program.root) c.args.program.rules in
-    call_halts s (uniform (g.T.Templates.standing c.args.program.templates.now) (g.T.Templates.joins c.args.program.templates.now) (g.T.Callbacks.callables c.args.program.templates.now) (option_map standing_of c.args.program.root) c.args.program.rules) code start w c.args.state.now c.args.entry (operands_in c.args.operands.now) entered c.args.left.now c.run_entry.new.left (g.S.Sink.taken c.args.sink.now) (g.S.Sink.taken c.run_entry.new.sink) _ c.from_residual.result _ c.run_entry.new.state c.in_err-value.ensures.keeps c.in_err-value.ensures.plan c.from_residual.ensures.1
+    call_halts s code start w c.args.state.now c.args.entry (operands_in c.args.operands.now) entered c.args.left.now c.run_entry.new.left (g.S.Sink.taken c.args.sink.now) (g.S.Sink.taken c.run_entry.new.sink) _ c.from_residual.result _ c.run_entry.new.state c.in_err-value.ensures.keeps c.in_err-value.ensures.plan c.from_residual.ensures.1
 
 pub entries::enter_call-returns-in_err-value-clause-failures : goal.entries::enter_call-returns-in_err-value-clause-failures
 entries::enter_call-returns-in_err-value-clause-failures g t c =
@@ -1577,7 +1587,7 @@ entries::enter_call-returns-in_err-value-clause-failures g t c =
 pub entries::enter_call-returns-clause-does : goal.entries::enter_call-returns-clause-does
 entries::enter_call-returns-clause-does g t c code start w entered =
     let s = programs_under (g.T.Templates.standing c.args.program.templates.now) (g.T.Templates.joins c.args.program.templates.now) (g.T.Callbacks.callables c.args.program.templates.now) (option_map standing_of c.args.program.root) c.args.program.rules in
-    call_gives s (uniform (g.T.Templates.standing c.args.program.templates.now) (g.T.Templates.joins c.args.program.templates.now) (g.T.Callbacks.callables c.args.program.templates.now) (option_map standing_of c.args.program.root) c.args.program.rules) code start w c.args.state.now c.args.entry (operands_in c.args.operands.now) entered c.args.left.now c.run_entry.new.left (g.S.Sink.taken c.args.sink.now) (g.S.Sink.taken c.run_entry.new.sink) c.in_ok-value.value c.told_by.result _ c.run_entry.new.state c.in_ok-value.ensures.keeps c.in_ok-value.ensures.plan
+    call_gives s code start w c.args.state.now c.args.entry (operands_in c.args.operands.now) entered c.args.left.now c.run_entry.new.left (g.S.Sink.taken c.args.sink.now) (g.S.Sink.taken c.run_entry.new.sink) c.in_ok-value.value c.told_by.result _ c.run_entry.new.state c.in_ok-value.ensures.keeps c.in_ok-value.ensures.plan
     (told_done c.push.result c.told_by.result _ c.push.ensures.pushed c.told_by.ensures) (told_short c.push.result c.told_by.result c.push.ensures.refused c.told_by.ensures)
 
 pub entries::enter_call-returns-clause-failures : goal.entries::enter_call-returns-clause-failures

@@ -18,19 +18,19 @@ use Rattle.template_machine_loop.proofs.extending.extend.Goals as goal
 pub returns-then-is_some-clause-plan : goal.returns-then-is_some-clause-plan
 returns-then-is_some-clause-plan g c left taken =
     let s = programs_under (g.T.Templates.standing c.args.program.templates.now) (g.T.Templates.joins c.args.program.templates.now) (g.T.Callbacks.callables c.args.program.templates.now) (option_map standing_of c.args.program.root) c.args.program.rules in
-    refuses s (load_plan s.around c.args.state.now c.args.state.now.parent c.args.value.now) c.args.state.now left taken (λ (u : Unit {0}). done) c.new.result c.args.state.now
+    refuses s (load_plan s.around c.args.state.now c.args.state.now.parent c.args.value.now) c.args.state.now left taken (λ (u : Unit {0}). done) c.new.result
     (refused_as s (load_plan s.around c.args.state.now c.args.state.now.parent c.args.value.now) c.args.state.now (InvalidOperation ∷ []) c.new.result c.new.ensures (extends_already (g.T.Templates.standing c.args.program.templates.now) (g.T.Templates.joins c.args.program.templates.now) (g.T.Callbacks.callables c.args.program.templates.now) (option_map standing_of c.args.program.root) c.args.program.rules c.args.state.now c.args.value.now c.parent.result c.parent.ensures (sym c.is_some.ensures ∙ c.if-is_some.true)))
 
 pub returns-in_default-clause-plan : goal.returns-in_default-clause-plan
 returns-in_default-clause-plan g c left taken =
     let s = programs_under (g.T.Templates.standing c.args.program.templates.now) (g.T.Templates.joins c.args.program.templates.now) (g.T.Callbacks.callables c.args.program.templates.now) (option_map standing_of c.args.program.root) c.args.program.rules in
-    refuses s (load_plan s.around c.args.state.now c.args.state.now.parent c.args.value.now) c.args.state.now left taken (λ (u : Unit {0}). done) c.new-in_default.result c.args.state.now
+    refuses s (load_plan s.around c.args.state.now c.args.state.now.parent c.args.value.now) c.args.state.now left taken (λ (u : Unit {0}). done) c.new-in_default.result
     (refused_as s (load_plan s.around c.args.state.now c.args.state.now.parent c.args.value.now) c.args.state.now (InvalidOperation ∷ []) c.new-in_default.result c.new-in_default.ensures (extends_nothing (g.T.Templates.standing c.args.program.templates.now) (g.T.Templates.joins c.args.program.templates.now) (g.T.Callbacks.callables c.args.program.templates.now) (option_map standing_of c.args.program.root) c.args.program.rules c.args.state.now c.args.value.now c.parent.result c.parent.ensures (sym c.is_some.ensures ∙ c.if-is_some.false) (sym c.in_default.ensures)))
 
 pub returns-in_err-joined-clause-plan : goal.returns-in_err-joined-clause-plan
 returns-in_err-joined-clause-plan g c left taken =
     let s = programs_under (g.T.Templates.standing c.args.program.templates.now) (g.T.Templates.joins c.args.program.templates.now) (g.T.Callbacks.callables c.args.program.templates.now) (option_map standing_of c.args.program.root) c.args.program.rules in
-    stops_so (λ (u : Unit {0}). done) s (load_plan s.around c.args.state.now c.args.state.now.parent c.args.value.now) c.args.state.now left taken _ c.from_residual.result c.args.state.now c.from_residual.ensures.1
+    stops_so (λ (u : Unit {0}). done) s (load_plan s.around c.args.state.now c.args.state.now.parent c.args.value.now) c.args.state.now left taken _ c.from_residual.result c.from_residual.ensures.1
     (extends_stops (g.T.Templates.standing c.args.program.templates.now) (g.T.Templates.joins c.args.program.templates.now) (g.T.Callbacks.callables c.args.program.templates.now) (option_map standing_of c.args.program.root) c.args.program.rules c.args.state.now c.args.value.now c.parent.result c.parent.ensures (sym c.is_some.ensures ∙ c.if-is_some.false) c.in-Some.name.now (sym c.in-Some.ensures) c.here_name.result.now (c.here_name.ensures s.around) _ c.in_err-joined.ensures.refused)
 
 pub returns-in_err-joined-clause-spares : goal.returns-in_err-joined-clause-spares
@@ -43,14 +43,14 @@ returns-in_err-joined-clause-spares g c =
 pub returns-then-is_loaded-clause-plan : goal.returns-then-is_loaded-clause-plan
 returns-then-is_loaded-clause-plan g c left taken =
     let s = programs_under (g.T.Templates.standing c.args.program.templates.now) (g.T.Templates.joins c.args.program.templates.now) (g.T.Callbacks.callables c.args.program.templates.now) (option_map standing_of c.args.program.root) c.args.program.rules in
-    refuses s (load_plan s.around c.args.state.now c.args.state.now.parent c.args.value.now) c.args.state.now left taken (λ (u : Unit {0}). done) c.new-then-is_loaded.result c.args.state.now
+    refuses s (load_plan s.around c.args.state.now c.args.state.now.parent c.args.value.now) c.args.state.now left taken (λ (u : Unit {0}). done) c.new-then-is_loaded.result
     (refused_as s (load_plan s.around c.args.state.now c.args.state.now.parent c.args.value.now) c.args.state.now (InvalidOperation ∷ []) c.new-then-is_loaded.result c.new-then-is_loaded.ensures
     (extends_again (g.T.Templates.standing c.args.program.templates.now) (g.T.Templates.joins c.args.program.templates.now) (g.T.Callbacks.callables c.args.program.templates.now) (option_map standing_of c.args.program.root) c.args.program.rules c.args.state.now c.args.value.now c.parent.result c.parent.ensures (sym c.is_some.ensures ∙ c.if-is_some.false) c.in-Some.name.now (sym c.in-Some.ensures) c.here_name.result.now (c.here_name.ensures s.around) (cow_str_bytes c.in_ok-joined.joined) c.in_ok-joined.ensures.joined c.as_str-meant.result.now c.as_str-meant.ensures.value (sym c.is_loaded.ensures ∙ c.if-is_loaded.true)))
 
 pub returns-in_default-get-clause-plan : goal.returns-in_default-get-clause-plan
 returns-in_default-get-clause-plan g c left taken =
     let s = programs_under (g.T.Templates.standing c.args.program.templates.now) (g.T.Templates.joins c.args.program.templates.now) (g.T.Callbacks.callables c.args.program.templates.now) (option_map standing_of c.args.program.root) c.args.program.rules in
-    refuses s (load_plan s.around c.args.state.now c.args.state.now.parent c.args.value.now) c.args.state.now left taken (λ (u : Unit {0}). done) c.new-in_default-get.result c.args.state.now
+    refuses s (load_plan s.around c.args.state.now c.args.state.now.parent c.args.value.now) c.args.state.now left taken (λ (u : Unit {0}). done) c.new-in_default-get.result
     (refused_as s (load_plan s.around c.args.state.now c.args.state.now.parent c.args.value.now) c.args.state.now (TemplateNotFound ∷ []) c.new-in_default-get.result c.new-in_default-get.ensures
     (extends_missing (g.T.Templates.standing c.args.program.templates.now) (g.T.Templates.joins c.args.program.templates.now) (g.T.Callbacks.callables c.args.program.templates.now) (option_map standing_of c.args.program.root) c.args.program.rules c.args.state.now c.args.value.now c.parent.result c.parent.ensures (sym c.is_some.ensures ∙ c.if-is_some.false) c.in-Some.name.now (sym c.in-Some.ensures) c.here_name.result.now (c.here_name.ensures s.around) (cow_str_bytes c.in_ok-joined.joined) c.in_ok-joined.ensures.joined c.as_str-meant.result.now c.as_str-meant.ensures.value (sym c.is_loaded.ensures ∙ c.if-is_loaded.false) c.in_default-get.ensures.found))
 

@@ -22,7 +22,7 @@ pub returns-in_err-rule : goal.returns-in_err-rule
 returns-in_err-rule c s =
     refusal_at s codes.push_auto_escape _ c.args.state.now _ _ _ _ _
     (λ place left taken rule. behind_it (surrounded (spot place (operands_in c.args.operands.now) c.args.state.now left taken) (record c.args.state.now { escape = rule; saved = c.args.state.now.escape ∷ c.args.state.now.saved })) (operands_in c.take.new.self))
-    (escape_named c.args.state.now.first c.in_ok-value.value (text_in c.in_ok-value.value)) (world_stays c.args.state.now)
+    (escape_named c.args.state.now.first c.in_ok-value.value (text_in c.in_ok-value.value)) refl
     (λ before place left taken. open_escape_acts s before (spot place (operands_in c.args.operands.now) c.args.state.now left taken) c.in_ok-value.value _
     c.in_ok-value.ensures.taken)
     (escape_spares c.args.state.now.first c.in_ok-value.value (text_in c.in_ok-value.value))

@@ -1,4 +1,4 @@
-use Rattle.std.proofs.Common.{◌*◌, [], ◌∷◌, ap, ◌∙◌}
+use Rattle.std.proofs.Common.{◌*◌, [], ◌∷◌, refl, ap, ◌∙◌}
 use Rattle.template_values_core.specs.Shape.{pairs_in}
 use Rattle.template_walk.specs.Containers.{map_made}
 use Rattle.template_process.specs.Process as events
@@ -25,7 +25,7 @@ returns-in_err-built c program limit mode w =
     let pairs = c.in_ok-entries.ensures.taken in
     refusal_out (ruled program limit mode) (codes.build_map c.args.count) _ w _ _ _ _ _
     (λ x u. behind_it x (single u ∷ operands_in c.take_pairs.new.self))
-    (kinded (map_made (pairs_in c.in_ok-entries.entries.items))) (world_stays w)
+    (kinded (map_made (pairs_in c.in_ok-entries.entries.items))) refl
     (λ before x at around. pairs_act (ruled program limit mode) before x c.args.count pairs.0 _ _ (ap (λ o. taken (c.args.count * 2) o []) at ∙ pairs.1.0) pairs.1.1) (kinded_spares (map_made (pairs_in c.in_ok-entries.entries.items))) c.in_err-built.ensures c.from_residual-in_err-built.ensures.1
 
 pub returns : goal.returns

@@ -1,4 +1,4 @@
-use Rattle.std.proofs.Common.{◌∷◌, ap, ◌∙◌}
+use Rattle.std.proofs.Common.{◌∷◌, refl, ap, ◌∙◌}
 use Rattle.template_walk.specs.Containers.{tuple_made}
 use Rattle.template_process.specs.Process as events
 use Rattle.template_code.specs.Code as codes
@@ -24,7 +24,7 @@ pub returns-in_err-tuple : goal.returns-in_err-tuple
 returns-in_err-tuple c program limit mode w =
     refusal_out (ruled program limit mode) (codes.build_tuple c.args.count) _ w _ _ _ _ _
     (λ x u. behind_it x (single u ∷ operands_in c.take_handed.new.self))
-    (kinded (tuple_made c.in_ok-items.items.items)) (world_stays w)
+    (kinded (tuple_made c.in_ok-items.items.items)) refl
     (λ before x at around. tuple_acts (ruled program limit mode) before x c.args.count _ _ (ap (λ o. handed c.args.count o) at ∙ c.in_ok-items.ensures.taken)) (kinded_spares (tuple_made c.in_ok-items.items.items)) c.in_err-tuple.ensures c.from_residual-in_err-tuple.ensures.1
 
 pub returns : goal.returns

@@ -1,4 +1,4 @@
-use Rattle.std.proofs.Common.{[], ◌∷◌, ap, ◌∙◌}
+use Rattle.std.proofs.Common.{[], ◌∷◌, refl, ap, ◌∙◌}
 use Rattle.template_process.specs.Process as events
 use Rattle.template_code.specs.Code as codes
 use Rattle.template_code.specs.Code.{single}
@@ -23,7 +23,7 @@ pub returns-in_err-merged : goal.returns-in_err-merged
 returns-in_err-merged g c program limit w known =
     refusal_out (ruled program limit c.args.mode) (codes.merge_kwargs c.args.count) _ w _ _ _ _ _
     (λ x u. behind_it x (single u ∷ operands_in c.take_many.new.self))
-    (merged_keywords c.args.mode (g.R.Records.known c.args.records.now) c.as_slice.result.now) (world_stays w)
+    (merged_keywords c.args.mode (g.R.Records.known c.args.records.now) c.as_slice.result.now) refl
     (λ before x at around. merge_known (ruled program limit c.args.mode) before x w _ known around c.args.count _ _
     (taken_as c.args.count x.operands _ _ _ (ap (λ o. taken c.args.count o []) at ∙ c.in_ok-maps.ensures.taken) c.as_slice.ensures.value))
     (merged_spares c.args.mode (g.R.Records.known c.args.records.now) c.as_slice.result.now) c.in_err-merged.ensures c.from_residual-in_err-merged.ensures.1

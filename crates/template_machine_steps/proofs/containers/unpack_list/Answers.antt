@@ -1,4 +1,4 @@
-use Rattle.std.proofs.Common.{map, ◌++◌, ◌∙◌}
+use Rattle.std.proofs.Common.{map, ◌++◌, refl, ◌∙◌}
 use Rattle.template_code.specs.Code as codes
 use Rattle.template_code.specs.Code.{single}
 use Rattle.template_machine_meaning.specs.Surroundings.{unpacked, unpacked_into}
@@ -20,7 +20,7 @@ pub returns-in_err-items : goal.returns-in_err-items
 returns-in_err-items c program limit mode w =
     refusal_out (ruled program limit mode) (codes.unpack_list c.args.count) _ w _ _ _ _ _
     (λ x us. behind_it x (map single us ++ operands_in c.take.new.self))
-    (unpacked_into c.args.count (unpacked c.in_ok-value.value)) (world_stays w)
+    (unpacked_into c.args.count (unpacked c.in_ok-value.value)) refl
     (λ before x at around. unpack_acts (ruled program limit mode) before x c.args.count _ _ (at ∙ c.in_ok-value.ensures.taken)) (unpacked_spares c.args.count (unpacked c.in_ok-value.value)) c.in_err-items.ensures c.from_residual-in_err-items.ensures.1
 
 pub returns : goal.returns

@@ -1,4 +1,4 @@
-use Rattle.std.proofs.Common.{suc, [], ◌∷◌, ap, ◌∙◌}
+use Rattle.std.proofs.Common.{suc, [], ◌∷◌, refl, ap, ◌∙◌}
 use Rattle.template_process.specs.Process.{spread, asks, on_all}
 use Rattle.template_code.specs.Code as codes
 use Rattle.template_code.specs.Code.{counted}
@@ -23,7 +23,7 @@ pub returns-in_err-items : goal.returns-in_err-items
 returns-in_err-items g c program limit mode w known =
     refusal_out (ruled program limit mode) (codes.unpack_lists c.args.count) _ w _ _ _ _ _
     (λ x us. behind_it x (counted us ∷ operands_in c.take_many.new.self))
-    (items_of_each (g.R.Records.known c.args.records.now) c.as_slice.result.now) (world_stays w)
+    (items_of_each (g.R.Records.known c.args.records.now) c.as_slice.result.now) refl
     (λ before x at around. counted_known (ruled program limit mode) before x w _ known around c.args.count _ _
     (taken_as c.args.count x.operands _ _ _ (ap (λ o. taken c.args.count o []) at ∙ c.in_ok-lists.ensures.taken) c.as_slice.ensures.value))
     (items_spare (g.R.Records.known c.args.records.now) c.as_slice.result.now) c.in_err-items.ensures c.from_residual-in_err-items.ensures.1

@@ -15,7 +15,7 @@ use Rattle.template_process.specs.Process.{fails}
 use Rattle.template_environment.specs.Extras.{user_answers}
 use Rattle.template_environment.specs.Reading.{callables_of}
 use Rattle.template_environment.specs.States.{around_in, found_in, fuel_left_in, worded_in}
-use Rattle.template_environment.proofs.Told.{around_there, err_only, failed_frames, failed_left, failed_places, failed_rest, failing_left, failing_told, found_there, frames_behind, mark_put_back, meant, on_err, places_behind, printed_there, reached_there, remains_there, rest_from, same_kinds, stopped_remains, stopped_told, temps_frames, temps_places, temps_put_back, text_failed, told_there, turned_spares, unprinted_there, want_left, want_told, worded_told, world_there}
+use Rattle.template_environment.proofs.Told.{around_there, failed_frames, failed_left, failed_places, failed_rest, failing_in, failing_left, failing_told, found_there, frames_behind, mark_back, mark_put_back, meant, on_err, places_behind, printed_there, reached_there, remains_there, rest_from, same_kinds, stopped_in, stopped_remains, stopped_told, temps_frames, temps_places, temps_put_back, text_failed, told_there, turned_spares, unprinted_there, want_left, want_told, want_world, worded_told, world_there}
 use Rattle.template_environment.proofs.state.State.call_macro.Goals as goal
 
 -- no memory for the arguments
@@ -34,7 +34,15 @@ returns-in_err-given-clause-remains g c = λ n finished.
     want_left (fuel_left_in self) (fuel_left_in self) (meant says self (with_turning to_text p) n) _ _ c.in_err-given.ensures.refused c.from_residual.ensures.1
 
 pub returns-in_err-given-clause-world : goal.returns-in_err-given-clause-world
-returns-in_err-given-clause-world g c = err_only _ _ _ c.from_residual.ensures.1
+returns-in_err-given-clause-world g c = λ n finished.
+    let self = c.args.self.now in
+    let says = (user_answers g.E.Callable.Callable.answer g.E.Method.UnknownMethod.answer g.E.Formatter.Formatter.answer g.E.Join.PathJoin.answer) in
+    let rules = c.rules-rules.ensures in
+    let same = around_there says self c.rules-rules.result (rules.name ∙ c.own_name.ensures) rules.limit rules.undefined in
+    let a = around_under c.rules-rules.result (callables_of says self.environment.now) (around_in says self) in
+    let name = c.args.name.now in
+    let p = found_in says self name c.args.args.now in
+    want_world (fuel_left_in self) self.machine self.machine (meant says self (with_turning to_text p) n) _ _ c.in_err-given.ensures.refused c.from_residual.ensures.1
 
 pub returns-in_err-given-clause-put_back : goal.returns-in_err-given-clause-put_back
 returns-in_err-given-clause-put_back g c = on_err _ _ (temps_put_back c.args.self.now.machine c.args.self.now.machine refl)
@@ -58,7 +66,15 @@ returns-in_err-mark-clause-remains g c = λ n finished.
     want_left (fuel_left_in self) (fuel_left_in self) (meant says self (with_turning to_text p) n) _ _ c.in_err-mark.ensures.refused c.from_residual-in_err-mark.ensures.1
 
 pub returns-in_err-mark-clause-world : goal.returns-in_err-mark-clause-world
-returns-in_err-mark-clause-world g c = err_only _ _ _ c.from_residual-in_err-mark.ensures.1
+returns-in_err-mark-clause-world g c = λ n finished.
+    let self = c.args.self.now in
+    let says = (user_answers g.E.Callable.Callable.answer g.E.Method.UnknownMethod.answer g.E.Formatter.Formatter.answer g.E.Join.PathJoin.answer) in
+    let rules = c.rules-rules.ensures in
+    let same = around_there says self c.rules-rules.result (rules.name ∙ c.own_name.ensures) rules.limit rules.undefined in
+    let a = around_under c.rules-rules.result (callables_of says self.environment.now) (around_in says self) in
+    let name = c.args.name.now in
+    let p = found_in says self name c.args.args.now in
+    want_world (fuel_left_in self) self.machine self.machine (meant says self (with_turning to_text p) n) _ _ c.in_err-mark.ensures.refused c.from_residual-in_err-mark.ensures.1
 
 pub returns-in_err-mark-clause-put_back : goal.returns-in_err-mark-clause-put_back
 returns-in_err-mark-clause-put_back g c = on_err _ _ (temps_put_back c.args.self.now.machine c.args.self.now.machine refl)
@@ -92,6 +108,19 @@ returns-in-Err-clause-remains g c = λ n finished.
     let failed = text_failed c.call_found.new.state p c.in-Err.stop
     (found_there says self a name c.in_ok-given.given.items c.args.args.now (Err c.in-Err.stop) c.call_found.new.state same c.in_ok-given.ensures.ok (c.in-Err.ensures.told (around_in says self))) in
     failing_left says self (with_turning to_text p) c.call_found.new.state c.in-Err.stop failed {X = String Global} (Err c.into_error.result) c.into_error.ensures n finished
+
+pub returns-in-Err-clause-world : goal.returns-in-Err-clause-world
+returns-in-Err-clause-world g c = λ n finished.
+    let self = c.args.self.now in
+    let says = (user_answers g.E.Callable.Callable.answer g.E.Method.UnknownMethod.answer g.E.Formatter.Formatter.answer g.E.Join.PathJoin.answer) in
+    let rules = c.rules-rules.ensures in
+    let same = around_there says self c.rules-rules.result (rules.name ∙ c.own_name.ensures) rules.limit rules.undefined in
+    let a = around_under c.rules-rules.result (callables_of says self.environment.now) (around_in says self) in
+    let name = c.args.name.now in
+    let p = found_in says self name c.args.args.now in
+    let failed = text_failed c.call_found.new.state p c.in-Err.stop
+    (found_there says self a name c.in_ok-given.given.items c.args.args.now (Err c.in-Err.stop) c.call_found.new.state same c.in_ok-given.ensures.ok (c.in-Err.ensures.told (around_in says self))) in
+    failing_in says self (with_turning to_text p) c.call_found.new.state c.in-Err.stop failed {X = String Global} (Err c.into_error.result) c.into_error.ensures c.in-Err.ensures.kept n finished
 
 pub returns-in-Err-clause-put_back : goal.returns-in-Err-clause-put_back
 returns-in-Err-clause-put_back g c = temps_put_back c.args.self.now.machine c.call_found.new.state c.in-Err.ensures.kept
@@ -134,6 +163,22 @@ returns-in-Err-come_to-clause-remains g c = λ n finished.
     let whole = unprinted_there says self p c.come_to.new.self c.in-Err-come_to.stop there in
     failed_left self c.come_to.new.self c.failed.new.self c.failed.ensures.rest {X = String Global} (fuel_left_in self) (meant says self (with_turning to_text p) n) (Err c.failed.result)
     (stopped_remains says self (with_turning to_text p) c.come_to.new.self c.in-Err-come_to.stop whole c.in-Err-come_to.ensures.spares n finished {X = String Global} (Err c.failed.result) (c.failed.ensures.same ∙ c.into_error-in-Err-come_to.ensures))
+
+pub returns-in-Err-come_to-clause-world : goal.returns-in-Err-come_to-clause-world
+returns-in-Err-come_to-clause-world g c = λ n finished.
+    let self = c.args.self.now in
+    let says = (user_answers g.E.Callable.Callable.answer g.E.Method.UnknownMethod.answer g.E.Formatter.Formatter.answer g.E.Join.PathJoin.answer) in
+    let rules = c.rules-rules.ensures in
+    let same = around_there says self c.rules-rules.result (rules.name ∙ c.own_name.ensures) rules.limit rules.undefined in
+    let a = around_under c.rules-rules.result (callables_of says self.environment.now) (around_in says self) in
+    let name = c.args.name.now in
+    let p = found_in says self name c.args.args.now in
+    let planned = found_there says self a name c.in_ok-given.given.items c.args.args.now (Ok c.in-Ok.reached) c.call_found.new.state same c.in_ok-given.ensures.ok
+    (c.in-Ok.ensures.told (around_in says self)) in
+    let there = reached_there says self c.in-Ok.reached c.call_found.new.state p c.come_to.new.self (Err c.in-Err-come_to.stop) c.in-Ok.ensures.kept planned c.in-Err-come_to.ensures.does in
+    let whole = unprinted_there says self p c.come_to.new.self c.in-Err-come_to.stop there in
+    stopped_in says self (with_turning to_text p) c.come_to.new.self c.in-Err-come_to.stop whole c.in-Err-come_to.ensures.spares n finished {X = String Global} (Err c.failed.result) (c.failed.ensures.same ∙ c.into_error-in-Err-come_to.ensures) c.failed.new.self.machine
+    (mark_back self.machine c.come_to.new.self.machine c.failed.new.self.machine c.in_ok-mark.mark c.in_ok-mark.ensures.marked c.failed.ensures.put_back)
 
 pub returns-in-Err-come_to-clause-put_back : goal.returns-in-Err-come_to-clause-put_back
 returns-in-Err-come_to-clause-put_back g c = mark_put_back c.args.self.now.machine c.come_to.new.self.machine c.failed.new.self.machine c.in_ok-mark.mark c.in_ok-mark.ensures.marked c.failed.ensures.put_back
@@ -188,6 +233,25 @@ returns-in-Err-print_to-clause-remains g c = λ n finished.
     failed_left self c.come_to.new.self c.failed-in-Err-print_to.new.self c.failed-in-Err-print_to.ensures.rest {X = String Global} (fuel_left_in self) (meant says self (with_turning to_text p) n) (Err c.failed-in-Err-print_to.result)
     (stopped_remains says self (with_turning to_text p) c.come_to.new.self (stop_of c.in-Err-print_to.error) whole (turned_spares c.come_to.new.self.machine (to_text ∷ []) c.in-Ok-come_to.value (Err (stop_of c.in-Err-print_to.error)) refused) n finished
     {X = String Global} (Err c.failed-in-Err-print_to.result) (c.failed-in-Err-print_to.ensures.same ∙ sym (same_kinds c.in-Err-print_to.error)))
+
+pub returns-in-Err-print_to-clause-world : goal.returns-in-Err-print_to-clause-world
+returns-in-Err-print_to-clause-world g c = λ n finished.
+    let self = c.args.self.now in
+    let says = (user_answers g.E.Callable.Callable.answer g.E.Method.UnknownMethod.answer g.E.Formatter.Formatter.answer g.E.Join.PathJoin.answer) in
+    let rules = c.rules-rules.ensures in
+    let same = around_there says self c.rules-rules.result (rules.name ∙ c.own_name.ensures) rules.limit rules.undefined in
+    let a = around_under c.rules-rules.result (callables_of says self.environment.now) (around_in says self) in
+    let name = c.args.name.now in
+    let p = found_in says self name c.args.args.now in
+    let planned = found_there says self a name c.in_ok-given.given.items c.args.args.now (Ok c.in-Ok.reached) c.call_found.new.state same c.in_ok-given.ensures.ok
+    (c.in-Ok.ensures.told (around_in says self)) in
+    let there = reached_there says self c.in-Ok.reached c.call_found.new.state p c.come_to.new.self (Ok c.in-Ok-come_to.value) c.in-Ok.ensures.kept planned c.in-Ok-come_to.ensures.does in
+    let refused = told_so (λ kinds. with_turning to_text (value_left c.in-Ok-come_to.value c.come_to.new.self.machine) ≡ replies (told c.come_to.new.self.machine (fails kinds))) c.in-Err-print_to.error
+    (text_refused c.come_to.new.self.machine c.in-Ok-come_to.value _ _ _ c.new-text.ensures.bytes c.in-Err-print_to.ensures) in
+    let whole = printed_there says self p c.come_to.new.self c.in-Ok-come_to.value (Err (stop_of c.in-Err-print_to.error)) refused there in
+    stopped_in says self (with_turning to_text p) c.come_to.new.self (stop_of c.in-Err-print_to.error) whole (turned_spares c.come_to.new.self.machine (to_text ∷ []) c.in-Ok-come_to.value (Err (stop_of c.in-Err-print_to.error)) refused) n finished
+    {X = String Global} (Err c.failed-in-Err-print_to.result) (c.failed-in-Err-print_to.ensures.same ∙ sym (same_kinds c.in-Err-print_to.error)) c.failed-in-Err-print_to.new.self.machine
+    (mark_back self.machine c.come_to.new.self.machine c.failed-in-Err-print_to.new.self.machine c.in_ok-mark.mark c.in_ok-mark.ensures.marked c.failed-in-Err-print_to.ensures.put_back)
 
 pub returns-in-Err-print_to-clause-put_back : goal.returns-in-Err-print_to-clause-put_back
 returns-in-Err-print_to-clause-put_back g c = mark_put_back c.args.self.now.machine c.come_to.new.self.machine c.failed-in-Err-print_to.new.self.machine c.in_ok-mark.mark c.in_ok-mark.ensures.marked c.failed-in-Err-print_to.ensures.put_back

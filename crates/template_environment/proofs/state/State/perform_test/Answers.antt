@@ -9,7 +9,7 @@ use Rattle.template_values_model.specs.Val.{truth}
 use Rattle.template_environment.specs.Extras.{user_answers}
 use Rattle.template_environment.specs.Reading.{callables_of}
 use Rattle.template_environment.specs.States.{around_in, fuel_left_in}
-use Rattle.template_environment.proofs.Told.{around_there, err_only, failed_frames, failed_left, failed_places, failed_rest, failing_left, failing_told, frames_behind, mark_put_back, meant, on_err, places_behind, planned_there, reached_there, remains_there, rest_from, stopped_remains, stopped_told, temps_frames, temps_places, temps_put_back, test_told, told_there, want_left, want_told, world_there}
+use Rattle.template_environment.proofs.Told.{around_there, failed_frames, failed_left, failed_places, failed_rest, failing_in, failing_left, failing_told, frames_behind, mark_back, mark_put_back, meant, on_err, places_behind, planned_there, reached_there, remains_there, rest_from, stopped_in, stopped_remains, stopped_told, temps_frames, temps_places, temps_put_back, test_told, told_there, want_left, want_told, want_world, world_there}
 use Rattle.template_environment.proofs.state.State.perform_test.Goals as goal
 
 -- no memory for the mark
@@ -27,7 +27,14 @@ returns-in_err-mark-clause-remains g c = λ n finished.
     want_left (fuel_left_in self) (fuel_left_in self) (meant says self (call_plan (around_in says self) self.machine called) n) _ _ c.in_err-mark.ensures.refused c.from_residual.ensures.1
 
 pub returns-in_err-mark-clause-world : goal.returns-in_err-mark-clause-world
-returns-in_err-mark-clause-world g c = err_only _ _ _ c.from_residual.ensures.1
+returns-in_err-mark-clause-world g c = λ n finished.
+    let self = c.args.self.now in
+    let says = (user_answers g.E.Callable.Callable.answer g.E.Method.UnknownMethod.answer g.E.Formatter.Formatter.answer g.E.Join.PathJoin.answer) in
+    let rules = c.rules-rules.ensures in
+    let same = around_there says self c.rules-rules.result (rules.name ∙ c.own_name.ensures) rules.limit rules.undefined in
+    let a = around_under c.rules-rules.result (callables_of says self.environment.now) (around_in says self) in
+    let called = invokes (test_named c.args.name.now) c.args.args.now in
+    want_world (fuel_left_in self) self.machine self.machine (meant says self (call_plan (around_in says self) self.machine called) n) _ _ c.in_err-mark.ensures.refused c.from_residual.ensures.1
 
 pub returns-in_err-mark-clause-put_back : goal.returns-in_err-mark-clause-put_back
 returns-in_err-mark-clause-put_back g c = on_err _ _ (temps_put_back c.args.self.now.machine c.args.self.now.machine refl)
@@ -57,6 +64,17 @@ returns-in-Err-clause-remains g c = λ n finished.
     let called = invokes (test_named c.args.name.now) c.args.args.now in
     let failed = planned_there says self a called (Err c.in-Err.stop) c.call_test.new.state same (c.in-Err.ensures.told (around_in says self)) in
     failing_left says self (call_plan (around_in says self) self.machine called) c.call_test.new.state c.in-Err.stop failed {X = Bool} (Err c.into_error.result) c.into_error.ensures n finished
+
+pub returns-in-Err-clause-world : goal.returns-in-Err-clause-world
+returns-in-Err-clause-world g c = λ n finished.
+    let self = c.args.self.now in
+    let says = (user_answers g.E.Callable.Callable.answer g.E.Method.UnknownMethod.answer g.E.Formatter.Formatter.answer g.E.Join.PathJoin.answer) in
+    let rules = c.rules-rules.ensures in
+    let same = around_there says self c.rules-rules.result (rules.name ∙ c.own_name.ensures) rules.limit rules.undefined in
+    let a = around_under c.rules-rules.result (callables_of says self.environment.now) (around_in says self) in
+    let called = invokes (test_named c.args.name.now) c.args.args.now in
+    let failed = planned_there says self a called (Err c.in-Err.stop) c.call_test.new.state same (c.in-Err.ensures.told (around_in says self)) in
+    failing_in says self (call_plan (around_in says self) self.machine called) c.call_test.new.state c.in-Err.stop failed {X = Bool} (Err c.into_error.result) c.into_error.ensures c.in-Err.ensures.kept n finished
 
 pub returns-in-Err-clause-put_back : goal.returns-in-Err-clause-put_back
 returns-in-Err-clause-put_back g c = temps_put_back c.args.self.now.machine c.call_test.new.state c.in-Err.ensures.kept
@@ -95,6 +113,20 @@ returns-in-Err-come_to-clause-remains g c = λ n finished.
     c.in-Ok.ensures.kept planned c.in-Err-come_to.ensures.does in
     failed_left self c.come_to.new.self c.failed.new.self c.failed.ensures.rest {X = Bool} (fuel_left_in self) (meant says self (call_plan (around_in says self) self.machine called) n) (Err c.failed.result)
     (stopped_remains says self (call_plan (around_in says self) self.machine called) c.come_to.new.self c.in-Err-come_to.stop there c.in-Err-come_to.ensures.spares n finished {X = Bool} (Err c.failed.result) (c.failed.ensures.same ∙ c.into_error-in-Err-come_to.ensures))
+
+pub returns-in-Err-come_to-clause-world : goal.returns-in-Err-come_to-clause-world
+returns-in-Err-come_to-clause-world g c = λ n finished.
+    let self = c.args.self.now in
+    let says = (user_answers g.E.Callable.Callable.answer g.E.Method.UnknownMethod.answer g.E.Formatter.Formatter.answer g.E.Join.PathJoin.answer) in
+    let rules = c.rules-rules.ensures in
+    let same = around_there says self c.rules-rules.result (rules.name ∙ c.own_name.ensures) rules.limit rules.undefined in
+    let a = around_under c.rules-rules.result (callables_of says self.environment.now) (around_in says self) in
+    let called = invokes (test_named c.args.name.now) c.args.args.now in
+    let planned = planned_there says self a called (Ok c.in-Ok.reached) c.call_test.new.state same (c.in-Ok.ensures.told (around_in says self)) in
+    let there = reached_there says self c.in-Ok.reached c.call_test.new.state (call_plan (around_in says self) self.machine called) c.come_to.new.self (Err c.in-Err-come_to.stop)
+    c.in-Ok.ensures.kept planned c.in-Err-come_to.ensures.does in
+    stopped_in says self (call_plan (around_in says self) self.machine called) c.come_to.new.self c.in-Err-come_to.stop there c.in-Err-come_to.ensures.spares n finished {X = Bool} (Err c.failed.result) (c.failed.ensures.same ∙ c.into_error-in-Err-come_to.ensures) c.failed.new.self.machine
+    (mark_back self.machine c.come_to.new.self.machine c.failed.new.self.machine c.in_ok-mark.mark c.in_ok-mark.ensures.marked c.failed.ensures.put_back)
 
 pub returns-in-Err-come_to-clause-put_back : goal.returns-in-Err-come_to-clause-put_back
 returns-in-Err-come_to-clause-put_back g c = mark_put_back c.args.self.now.machine c.come_to.new.self.machine c.failed.new.self.machine c.in_ok-mark.mark c.in_ok-mark.ensures.marked c.failed.ensures.put_back

@@ -22,3 +22,11 @@ returns-in_err-render_block_to_write-clause-remains g c = λ n finished.
 
 pub returns-clause-remains : goal.returns-clause-remains
 returns-clause-remains g c = λ n finished. c.in_ok-render_block_to_write.ensures.remains refl n finished
+
+pub returns-in_err-render_block_to_write-clause-world : goal.returns-in_err-render_block_to_write-clause-world
+returns-in_err-render_block_to_write-clause-world g c = λ n finished.
+    let p = err_from_is_err_and c.from_residual.result c.from_residual.ensures.1 in
+    rw (p.1, p.2) (c.in_err-render_block_to_write.ensures.world refl n finished)
+
+pub returns-clause-world : goal.returns-clause-world
+returns-clause-world g c = λ n finished. c.in_ok-render_block_to_write.ensures.world refl n finished

@@ -41,7 +41,8 @@ returns-in-Ok-clause-world g c =
     let programs = c.program.ensures in
     let is = program_in says self c.program.result.templates.now _ c.program.result.rules.name.now c.program.result.rules.limit c.program.result.rules.undefined
     programs.templates programs.root programs.name programs.limit programs.undefined in
-    block_ends_in says self c.args.block.now _ _ _ _ _ _ c.run_block-done.result (Ok tt) (ap by_kinds (sym c.in-Ok.is)) is c.remaining-left.ensures c.run_block-done.ensures.plan
+    block_ends_in says self c.args.block.now _ _ _ _ _ _ c.run_block-done.result (Ok tt) _ _ (ap by_kinds (sym c.in-Ok.is)) is c.remaining-left.ensures c.run_block-done.ensures.plan
+    c.run_block-done.ensures.failures
 
 pub returns-clause-renders : goal.returns-clause-renders
 returns-clause-renders g c = λ n finished.
@@ -62,6 +63,16 @@ returns-clause-remains g c =
     programs.templates programs.root programs.name programs.limit programs.undefined in
     block_leaves says self c.args.block.now _ _ _ _ _ _ c.run_block-done.result (Err c.into_error.result) _ _ (ap (λ (ks : List ErrorKind). Err ks) c.into_error.ensures ∙ ap by_kinds (sym c.in-Err.is)) _ is c.remaining-left.ensures c.run_block-done.ensures.plan
     c.run_block-done.ensures.failures c.spend-self.ensures.left
+
+pub returns-clause-world : goal.returns-clause-world
+returns-clause-world g c =
+    let self = c.args.self.now in
+    let says = (user_answers g.E.Callable.Callable.answer g.E.Method.UnknownMethod.answer g.E.Formatter.Formatter.answer g.E.Join.PathJoin.answer) in
+    let programs = c.program.ensures in
+    let is = program_in says self c.program.result.templates.now _ c.program.result.rules.name.now c.program.result.rules.limit c.program.result.rules.undefined
+    programs.templates programs.root programs.name programs.limit programs.undefined in
+    block_ends_in says self c.args.block.now _ _ _ _ _ _ c.run_block-done.result (Err c.into_error.result) _ _ (ap (λ (ks : List ErrorKind). Err ks) c.into_error.ensures ∙ ap by_kinds (sym c.in-Err.is)) is c.remaining-left.ensures c.run_block-done.ensures.plan
+    c.run_block-done.ensures.failures
 
 pub returns-clause-failures : goal.returns-clause-failures
 returns-clause-failures g c = told_answers c.run_block-done.result (Err c.into_error.result) _ _ (ap (λ (ks : List ErrorKind). Err ks) c.into_error.ensures ∙ ap by_kinds (sym c.in-Err.is)) c.run_block-done.ensures.failures
