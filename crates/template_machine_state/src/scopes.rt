@@ -229,19 +229,12 @@ impl<'env> State<'env> {
 
     /// Closes the innermost frame, which is a loop's. The loop stays known where its value may be held; else what
     /// `changed` was called with for it is forgotten. Takes constant time where no open loop has called it; else linear in the
-    /// number of those.
-    ///
-    /// # Errors
-    ///
-    /// [`ErrorKind::OutOfMemory`]; the state is then as it was. There is room for a loop that stays known, so it does not happen.
-    pub fn close_loop(&mut self) -> Result<(), Error>
+    /// number of those. There is room for a loop that stays known.
+    pub fn close_loop(&mut self)
         requires { IsSome (innermost_loop self.old.frames) }
-        ensures closed { OnOk result (IfSome (innermost_loop self.old.frames) (λ l. self.new ≡ loop_closed l self.old)) }
-        ensures refused { IfErr result NoMemory }
-        ensures unchanged { OnErr result (self.new ≡ self.old) }
+        ensures { IfSome (innermost_loop self.old.frames) (λ l. self.new ≡ loop_closed l self.old) }
     {
         cut_loop(&mut self.ctx, &mut self.given, &mut self.closed, self.held);
-        Ok(())
     }
 
     /// Whether the innermost frame is that of a loop whose rounds were called.
