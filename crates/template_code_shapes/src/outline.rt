@@ -1,6 +1,7 @@
 //! The shapes that the check of a stream works on.
 
-ghost use Rattle.std.specs.Prelude.{◌≡◌, ◌↔◌, IsTrue, suc, nat_le, length, if◌then◌else◌, Some, None, IfOk, IfSome, IsNone};
+ghost use Rattle.std.specs.Prelude.{◌≡◌, ◌↔◌, IsTrue, suc, nat_le, length, if◌then◌else◌, Some, None, IfOk, IfErr, IfSome, IsNone};
+ghost use Rattle.template_values_errors.specs.Memory.{NoMemory};
 ghost use Rattle.template_code_shapes.specs.Shapes.{body_of, taken, run_taken, given, topped, opened, with_frame, escape_closed, capture_closed, frame_closed, innermost_loop, is_over, loop_closed, loop_opened, with_capture, with_escape, floor_of, start};
 ghost use Rattle.template_code_shapes.specs.Outlines.{form_in, shape_of, values_in, has_under, pair_taken};
 ghost use Rattle.template_code_shapes.specs.Streams.{end_of};
@@ -81,7 +82,8 @@ fn are_same_others(under: &[Under], others: &[Under]) -> bool
 
 // One more; an error where it could not be counted.
 fn one_more(count: usize) -> Result<usize, Error>
-    ensures { IfOk result (λ more. more ≡ suc count) }
+    ensures more { IfOk result (λ more. more ≡ suc count) }
+    ensures refused { IfErr result NoMemory }
 {
     match count.checked_add(1) {
         Some(more) => Ok(more),
@@ -231,7 +233,8 @@ impl Outline {
 
     /// Whether all operands are there that the innermost recursive loop found.
     fn is_above_floor(&self) -> Result<bool, Error>
-        ensures { IfOk result (λ is. is ≡ nat_le (floor_of (shape_of self.now).frames).operands (length (shape_of self.now).operands)) }
+        ensures above { IfOk result (λ is. is ≡ nat_le (floor_of (shape_of self.now).frames).operands (length (shape_of self.now).operands)) }
+        ensures refused { IfErr result NoMemory }
     {
         let floor = self.floor();
         if floor.operands <= self.values {
@@ -245,7 +248,8 @@ impl Outline {
 
     /// Takes so many values, where they lie there above the floor.
     pub fn take(&mut self, count: usize) -> Result<bool, Error>
-        ensures { IfOk result (λ taken_now. taken count (shape_of self.old) ≡ (if taken_now then Some (shape_of self.new) else None)) }
+        ensures taken { IfOk result (λ taken_now. taken count (shape_of self.old) ≡ (if taken_now then Some (shape_of self.new) else None)) }
+        ensures refused { IfErr result NoMemory }
     {
         if count > self.values {
             return Ok(false);
@@ -257,8 +261,9 @@ impl Outline {
 
     /// Takes a counted run, where one lies on top above the floor.
     pub fn take_run(&mut self) -> Result<bool, Error>
-        ensures { IfOk result
+        ensures taken { IfOk result
             (λ taken_now. run_taken (shape_of self.old) (shape_of self.old).operands ≡ (if taken_now then Some (shape_of self.new) else None)) }
+        ensures refused { IfErr result NoMemory }
     {
         if self.values != 0 {
             return Ok(false);
@@ -289,8 +294,9 @@ impl Outline {
 
     /// Takes a value and such an operand under it, where they lie there above the floor.
     pub fn take_pair(&mut self, other: Other) -> Result<bool, Error>
-        ensures { IfOk result
+        ensures taken { IfOk result
             (λ taken_now. pair_taken (form_in other) (shape_of self.old) ≡ (if taken_now then Some (shape_of self.new) else None)) }
+        ensures refused { IfErr result NoMemory }
     {
         if self.values != 1 {
             return Ok(false);
@@ -309,6 +315,7 @@ impl Outline {
     /// Puts so many values on top.
     pub fn give(&mut self, count: usize) -> Result<(), Error>
         ensures given { IfOk result (λ _. shape_of self.new ≡ given count (shape_of self.old)) }
+        ensures refused { IfErr result NoMemory }
     {
         match self.values.checked_add(count) {
             Some(values) => {
@@ -322,6 +329,7 @@ impl Outline {
     /// Puts an operand that is no value on top.
     pub fn top(&mut self, other: Other) -> Result<(), Error>
         ensures topped { IfOk result (λ _. shape_of self.new ≡ topped (form_in other) (shape_of self.old)) }
+        ensures refused { IfErr result NoMemory }
     {
         let under = Under {
             below: self.values,
@@ -337,7 +345,8 @@ impl Outline {
 
     /// Opens a frame.
     pub fn open(&mut self, frame: Opened) -> Result<(), Error>
-        ensures { IfOk result (λ _. shape_of self.new ≡ opened frame (shape_of self.old)) }
+        ensures opened { IfOk result (λ _. shape_of self.new ≡ opened frame (shape_of self.old)) }
+        ensures refused { IfErr result NoMemory }
     {
         match self.frames.push(frame) {
             Ok(()) => Ok(()),
@@ -411,7 +420,8 @@ impl Outline {
 
     /// The frame of a loop that is pushed at a place, with its flags.
     pub fn loop_frame(&self, flags: u8, push: u32) -> Result<Opened, Error>
-        ensures { IfOk result (λ frame. frame ≡ loop_opened flags push (shape_of self.now)) }
+        ensures frame { IfOk result (λ frame. frame ≡ loop_opened flags push (shape_of self.now)) }
+        ensures refused { IfErr result NoMemory }
     {
         if flags & LOOP_FLAG_RECURSIVE != 2 {
             return Ok(Opened::Loop(push));
@@ -432,6 +442,7 @@ impl Outline {
     /// One escape more.
     pub fn open_escape(&mut self) -> Result<(), Error>
         ensures opened { IfOk result (λ _. shape_of self.new ≡ with_escape (shape_of self.old)) }
+        ensures refused { IfErr result NoMemory }
     {
         self.escapes = one_more(self.escapes)?;
         Ok(())
@@ -440,6 +451,7 @@ impl Outline {
     /// One capture more.
     pub fn open_capture(&mut self) -> Result<(), Error>
         ensures opened { IfOk result (λ _. shape_of self.new ≡ with_capture (shape_of self.old)) }
+        ensures refused { IfErr result NoMemory }
     {
         self.captures = one_more(self.captures)?;
         Ok(())

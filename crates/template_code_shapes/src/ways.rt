@@ -1,6 +1,7 @@
 //! Where an instruction leads, with which shapes.
 
-ghost use Rattle.std.specs.Prelude.{◌≡◌, ◌&&◌, Some, None, IfOk, option_map, slice_get, suc, if◌then◌else◌, ◌*◌};
+ghost use Rattle.std.specs.Prelude.{◌≡◌, ◌&&◌, Some, None, IfOk, IfErr, option_map, slice_get, suc, if◌then◌else◌, ◌*◌};
+ghost use Rattle.template_values_errors.specs.Memory.{NoMemory};
 ghost use Rattle.template_code.specs.Listing.{code_in};
 ghost use Rattle.template_code.specs.Code.{export_locals, jump_if_false, jump_if_false_or_pop, iterate, push_loop, return};
 ghost use Rattle.template_code.specs.View.{code_of};
@@ -46,7 +47,8 @@ pub fn falling_ways(shape: Outline) -> Ways
 
 /// So many values are put on top.
 fn give(shape: Outline, gives: usize) -> Result<Option<Ways>, Error>
-    ensures { IfOk result (λ ways. option_map effect_in ways ≡ Some (falling (given gives (shape_of shape)))) }
+    ensures ways { IfOk result (λ ways. option_map effect_in ways ≡ Some (falling (given gives (shape_of shape)))) }
+    ensures refused { IfErr result NoMemory }
 {
     let mut shape = shape;
     shape.give(gives)?;
@@ -55,7 +57,8 @@ fn give(shape: Outline, gives: usize) -> Result<Option<Ways>, Error>
 
 /// So many values are taken, and so many given.
 pub fn trade(shape: Outline, takes: usize, gives: usize) -> Result<Option<Ways>, Error>
-    ensures { IfOk result (λ ways. option_map effect_in ways ≡ traded takes gives (shape_of shape)) }
+    ensures ways { IfOk result (λ ways. option_map effect_in ways ≡ traded takes gives (shape_of shape)) }
+    ensures refused { IfErr result NoMemory }
 {
     let mut shape = shape;
     if !shape.take(takes)? {
@@ -66,7 +69,8 @@ pub fn trade(shape: Outline, takes: usize, gives: usize) -> Result<Option<Ways>,
 
 /// So many values, or a counted run, are made into one.
 fn hand(shape: Outline, count: Option<usize>) -> Result<Option<Ways>, Error>
-    ensures { IfOk result (λ ways. option_map effect_in ways ≡ made single_form (handed count (shape_of shape))) }
+    ensures ways { IfOk result (λ ways. option_map effect_in ways ≡ made single_form (handed count (shape_of shape))) }
+    ensures refused { IfErr result NoMemory }
 {
     let mut shape = shape;
     let is_taken = match count {
@@ -81,7 +85,8 @@ fn hand(shape: Outline, count: Option<usize>) -> Result<Option<Ways>, Error>
 
 /// The same, where the count is that of a call.
 fn call(shape: Outline, count: Option<u16>) -> Result<Option<Ways>, Error>
-    ensures { IfOk result (λ ways. option_map effect_in ways ≡ made single_form (handed count (shape_of shape))) }
+    ensures ways { IfOk result (λ ways. option_map effect_in ways ≡ made single_form (handed count (shape_of shape))) }
+    ensures refused { IfErr result NoMemory }
 {
     match count {
         Some(count) => hand(shape, Some(count as usize)),
@@ -91,7 +96,8 @@ fn call(shape: Outline, count: Option<u16>) -> Result<Option<Ways>, Error>
 
 /// So many values are made into a counted run.
 fn spread(shape: Outline, count: usize) -> Result<Option<Ways>, Error>
-    ensures { IfOk result (λ ways. option_map effect_in ways ≡ made counted_form (taken count (shape_of shape))) }
+    ensures ways { IfOk result (λ ways. option_map effect_in ways ≡ made counted_form (taken count (shape_of shape))) }
+    ensures refused { IfErr result NoMemory }
 {
     let mut shape = shape;
     if !shape.take(count)? {
@@ -103,7 +109,8 @@ fn spread(shape: Outline, count: usize) -> Result<Option<Ways>, Error>
 
 /// A value and such an operand under it are made into another one.
 fn lift(shape: Outline, under: Other, other: Other) -> Result<Option<Ways>, Error>
-    ensures { IfOk result (λ ways. option_map effect_in ways ≡ made (form_in other) (pair_taken (form_in under) (shape_of shape))) }
+    ensures ways { IfOk result (λ ways. option_map effect_in ways ≡ made (form_in other) (pair_taken (form_in under) (shape_of shape))) }
+    ensures refused { IfErr result NoMemory }
 {
     let mut shape = shape;
     if !shape.take_pair(under)? {
@@ -115,10 +122,11 @@ fn lift(shape: Outline, under: Other, other: Other) -> Result<Option<Ways>, Erro
 
 /// A value goes above the counted run under it, where 1 is loaded next and added.
 fn count_ways(code: &Instructions, place: u32, shape: Outline) -> Result<Option<Ways>, Error>
-    ensures { IfOk result (λ ways. option_map effect_in ways
+    ensures ways { IfOk result (λ ways. option_map effect_in ways
         ≡ (if loads_one (slice_get (code_in code.now) (suc place)) && adds (slice_get (code_in code.now) (suc (suc place)))
         then made counting_form (pair_taken counted_form (shape_of shape))
         else None)) }
+    ensures refused { IfErr result NoMemory }
 {
     if adds_one(code, place) {
         return lift(shape, Other::Counted, Other::Counting);
@@ -128,8 +136,9 @@ fn count_ways(code: &Instructions, place: u32, shape: Outline) -> Result<Option<
 
 /// Two values change places, or a value goes above the counted run under it.
 fn swap_ways(code: &Instructions, place: u32, shape: Outline) -> Result<Option<Ways>, Error>
-    ensures { IfOk result
+    ensures ways { IfOk result
         (λ ways. option_map effect_in ways ≡ swapped (code_in code.now) place (shape_of shape) (shape_of shape).operands) }
+    ensures refused { IfErr result NoMemory }
 {
     if shape.has_under(Other::Counted) {
         let row = count_ways(code, place, shape)?;
@@ -141,8 +150,9 @@ fn swap_ways(code: &Instructions, place: u32, shape: Outline) -> Result<Option<W
 
 /// Two values make one, or 1 is added to a counted run and the value that goes into it.
 fn operate_ways(shape: Outline, adding: bool) -> Result<Option<Ways>, Error>
-    ensures { IfOk result
+    ensures ways { IfOk result
         (λ ways. option_map effect_in ways ≡ operated adding (shape_of shape) (shape_of shape).operands) }
+    ensures refused { IfErr result NoMemory }
 {
     if !shape.has_under(Other::Counting) {
         return trade(shape, 2, 1);
@@ -166,8 +176,9 @@ fn macro_ways(
     offset: u32,
     shape: Outline,
 ) -> Result<Option<Ways>, Error>
-    ensures { IfOk result (λ ways. option_map effect_in ways
+    ensures ways { IfOk result (λ ways. option_map effect_in ways
         ≡ making (code_in code.now) offset (texts_loaded (code_before (code_in code.now) place)) (shape_of shape)) }
+    ensures refused { IfErr result NoMemory }
 {
     let Some(count) = count_of_texts(before(code, place)) else {
         return Ok(None);
@@ -192,7 +203,8 @@ fn macro_ways(
 
 /// A module is made of the text of a capture.
 fn export_ways(code: &Instructions, place: u32, shape: Outline) -> Result<Option<Ways>, Error>
-    ensures { IfOk result (λ ways. option_map effect_in ways ≡ effect_of (code_in code.now) place export_locals (shape_of shape)) }
+    ensures ways { IfOk result (λ ways. option_map effect_in ways ≡ effect_of (code_in code.now) place export_locals (shape_of shape)) }
+    ensures refused { IfErr result NoMemory }
 {
     if !is_end_of_capture(before(code, place)) {
         return Ok(None);
@@ -255,7 +267,8 @@ pub fn jump_ways(
 
 /// The same shape once more.
 fn copied(shape: &Outline) -> Result<Outline, Error>
-    ensures { IfOk result (λ other. shape_of other ≡ shape_of shape.now) }
+    ensures copied { IfOk result (λ other. shape_of other ≡ shape_of shape.now) }
+    ensures refused { IfErr result NoMemory }
 {
     match shape.copy() {
         Ok(other) => Ok(other),
@@ -270,7 +283,8 @@ pub fn branch(
     to: u32,
     shape: Outline,
 ) -> Result<Option<Ways>, Error>
-    ensures { IfOk result (λ ways. option_map effect_in ways ≡ effect_of (code_in code.now) place (jump_if_false to) (shape_of shape)) }
+    ensures ways { IfOk result (λ ways. option_map effect_in ways ≡ effect_of (code_in code.now) place (jump_if_false to) (shape_of shape)) }
+    ensures refused { IfErr result NoMemory }
 {
     let mut below = shape;
     if !below.take(1)? {
@@ -287,8 +301,9 @@ pub fn branch_or_pop(
     to: u32,
     shape: Outline,
 ) -> Result<Option<Ways>, Error>
-    ensures { IfOk result
+    ensures ways { IfOk result
         (λ ways. option_map effect_in ways ≡ effect_of (code_in code.now) place (jump_if_false_or_pop to) (shape_of shape)) }
+    ensures refused { IfErr result NoMemory }
 {
     let mut below = copied(&shape)?;
     if !below.take(1)? {
@@ -304,7 +319,8 @@ pub fn iterate_ways(
     to: u32,
     shape: Outline,
 ) -> Result<Option<Ways>, Error>
-    ensures { IfOk result (λ ways. option_map effect_in ways ≡ effect_of (code_in code.now) place (iterate to) (shape_of shape)) }
+    ensures ways { IfOk result (λ ways. option_map effect_in ways ≡ effect_of (code_in code.now) place (iterate to) (shape_of shape)) }
+    ensures refused { IfErr result NoMemory }
 {
     let is_home = match shape.innermost_loop() {
         Some(push) => place as u64 == push as u64 + 1,
@@ -329,7 +345,8 @@ pub fn loop_ways(
     flags: u8,
     shape: Outline,
 ) -> Result<Option<Ways>, Error>
-    ensures { IfOk result (λ ways. option_map effect_in ways ≡ effect_of (code_in code.now) place (push_loop flags) (shape_of shape)) }
+    ensures ways { IfOk result (λ ways. option_map effect_in ways ≡ effect_of (code_in code.now) place (push_loop flags) (shape_of shape)) }
+    ensures refused { IfErr result NoMemory }
 {
     if !asks_item(next(code, place)) {
         return Ok(None);
@@ -350,9 +367,10 @@ pub fn scope_ways(
     instruction: &Instruction,
     shape: Outline,
 ) -> Result<Option<Ways>, Error>
-    ensures { IfOk result
+    ensures ways { IfOk result
         (λ ways. IsScope (code_of instruction.now)
         → option_map effect_in ways ≡ effect_of (code_in code.now) place (code_of instruction.now) (shape_of shape)) }
+    ensures refused { IfErr result NoMemory }
 {
     let mut shape = shape;
     let admissible = match instruction {
@@ -389,7 +407,8 @@ pub fn scope_ways(
 /// So many pairs of values are taken, and one value is given.
 #[tactic(auto, using(crate::proofs::OutlineLemmas::takes_too_many))]
 fn trade_pairs(shape: Outline, pairs: usize) -> Result<Option<Ways>, Error>
-    ensures { IfOk result (λ ways. option_map effect_in ways ≡ traded (pairs * 2) 1 (shape_of shape)) }
+    ensures ways { IfOk result (λ ways. option_map effect_in ways ≡ traded (pairs * 2) 1 (shape_of shape)) }
+    ensures refused { IfErr result NoMemory }
 {
     if pairs > shape.values() / 2 {
         return Ok(None);
@@ -409,8 +428,9 @@ pub fn ways_at(
     instruction: &Instruction,
     shape: Outline,
 ) -> Result<Option<Ways>, Error>
-    ensures { IfOk result
+    ensures ways { IfOk result
         (λ ways. option_map effect_in ways ≡ effect_of (code_in code.now) place (code_of instruction.now) (shape_of shape)) }
+    ensures refused { IfErr result NoMemory }
 {
     match instruction {
         Instruction::EmitRaw(_)
