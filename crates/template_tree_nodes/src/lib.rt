@@ -1,4 +1,4 @@
-//! What is asked of one node of a tree: the part that begins where it begins, and whether it has a walk; and samples of nodes.
+//! What is asked of one node of a tree: the part that begins where it begins; and samples of nodes.
 #![tactic(auto)]
 
 ghost use Rattle.std.specs.Prelude.{◌≡◌, ◌<◌, IfSome, option_map};
@@ -6,10 +6,8 @@ ghost use Rattle.template_tree.specs.View.{expression_of};
 ghost use Rattle.template_tree.specs.declared.expressions.Expr.{size-Expr};
 ghost use Rattle.template_tree_nodes.specs.Left.{left_of};
 
-mod constructs;
 mod samples;
 
-pub use constructs::has_walk;
 pub use samples::{difference, one_entry};
 use template_tree::Expr;
 
