@@ -15,11 +15,10 @@ use Rattle.template_machine_meaning.specs.Surroundings.{Programs}
 use Rattle.template_machine_meaning.specs.Keys as keys
 use Rattle.template_machine_meaning.specs.Keys.{Home, Stream, own, block_of, Part}
 use Rattle.template_machine_meaning.specs.Meaning as meanings
-use Rattle.template_machine_meaning.specs.Meaning.{Standing, template_at, tree_of, head_of, top}
+use Rattle.template_machine_meaning.specs.Meaning.{Standing, template_at, tree_of, head_of, named_so, top}
 use Rattle.template_machine_meaning.specs.Laws.{AreAllRunnable, ListsAll}
 use Rattle.template_machine_meaning.proofs.Ends.{every_run_ends}
 use Rattle.template_machine_codes.specs.Codes.{codes_of, part_coded}
-use Rattle.template_machine_renders.specs.Laws.{named_so}
 use Rattle.template_machine_renders.specs.Programs as units
 use Rattle.template_machine_renders.specs.Programs.{programs_of}
 use Rattle.template_machine_renders.specs.Runs.{KeyRuns}

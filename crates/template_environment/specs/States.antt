@@ -16,7 +16,7 @@ use Rattle.template_machine_meaning.specs.Calls.{call_plan}
 use Rattle.template_machine_meaning.specs.Captures.{captured}
 use Rattle.template_machine_meaning.specs.Functions.{Invoked, found_called, invokes}
 use Rattle.template_machine_meaning.specs.Keys.{Around, Head}
-use Rattle.template_machine_meaning.specs.Meaning.{head_of, no_head, walks_of}
+use Rattle.template_machine_meaning.specs.Meaning.{head_of, named_so, no_head, walks_of}
 use Rattle.template_machine_meaning.specs.Names as names
 use Rattle.template_machine_going.specs.declared.stop.Stop.{Stop}
 use Rattle.template_machine_meaning.specs.Plans.{Plan, caller_of, put_back, with_turning}
@@ -26,7 +26,7 @@ use Rattle.template_machine_meaning.specs.Turnings.{to_text}
 use Rattle.template_machine_meaning.specs.World.{Globals, World, first_world, keeps, looked_up}
 use Rattle.template_machine_calls.specs.Formatted.{outside}
 use Rattle.template_machine_codes.specs.Codes.{codes_of}
-use Rattle.template_machine_renders.specs.Laws.{block_run, named_so}
+use Rattle.template_machine_renders.specs.Laws.{block_run}
 use Rattle.template_machine_renders.specs.Plans.{DoesPlan, replies_of, run_of}
 use Rattle.template_machine_renders.specs.Renders.{FaultsAs, IsOver, IsShort}
 use Rattle.template_compiled.specs.Compiled.{Compiled, standing_of}

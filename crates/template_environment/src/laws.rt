@@ -1,11 +1,12 @@
 //! Laws of the templates and expressions of an environment, each as the contract of a function that does nothing.
 ghost use Rattle.std.specs.Prelude.{◌≡◌, ℕ, List};
-ghost use Rattle.std.specs.Option.{ForSome};
 ghost use Rattle.template_values_model.specs.Val.{Val};
 ghost use Rattle.template_process.specs.Approximants.{IsFinished};
 ghost use Rattle.template_walk.specs.Runnable.{IsRunnable, IsRunnableTemplate};
+ghost use Rattle.template_machine_meaning.specs.Functions.{Invoked};
 ghost use Rattle.template_machine_meaning.specs.Isolation.{AskNoNames};
 ghost use Rattle.template_machine_meaning.specs.World.{first_world};
+ghost use Rattle.template_machine_renders.specs.Plans.{run_of};
 ghost use Rattle.template_compiled.specs.Expressions.{HasExpression, expression_in};
 ghost use Rattle.template_compiled.specs.Plain.{IsPlain, text_kept};
 ghost use Rattle.template_compiled.specs.Sources.{HasTree};
@@ -14,7 +15,7 @@ ghost use Rattle.template_environment.specs.Extras.{no_answers, user_answers};
 ghost use Rattle.template_environment.specs.Isolated.{IsIsolated, tree_of};
 ghost use Rattle.template_environment.specs.Plain.{text_run};
 ghost use Rattle.template_environment.specs.Reading.{callables_of};
-ghost use Rattle.template_environment.specs.States.{block_in, template_in};
+ghost use Rattle.template_environment.specs.States.{block_in, call_in, macro_in};
 ghost use Rattle.template_environment.specs.Views.{globals_of, head_in, render_of, source_of};
 
 use crate::environment::Environment;
@@ -50,19 +51,22 @@ pub fn every_render_ends<E: Extension>(template: &Template<'_, '_, E>)
     let _code = template.compiled.get().instructions();
 }
 
-/// A law: each call of a block in the state of a template ends, whatever the state holds: its meaning is finished under some
-/// bound.
+/// A law: each call of a block in a state ends, whatever the state holds: its meaning is finished under some bound.
 pub fn every_block_ends<E: Extension>(state: &State<'_, '_, E>)
-    ensures { ForSome (template_in state.now) (λ c. (block : List ℕ) →
-        (n : ℕ) × IsFinished (block_in (user_answers E.Callable.answer E.Method.answer E.Formatter.answer E.Join.answer) state.now block n).end) }
+    ensures { (block : List ℕ) → (n : ℕ) × IsFinished (block_in (user_answers E.Callable.answer E.Method.answer E.Formatter.answer E.Join.answer) state.now block n).end }
 {
     let _standing = state.environment.registry.templates.values();
-    match state.template {
-        Some(template) => {
-            let _code = template.instructions();
-        }
-        None => {}
-    }
+}
+
+/// A law: so does each call of a filter or a test in a state, with all that it asks further, and each call of what stands under
+/// a name, as a macro, for its text.
+pub fn every_call_ends<E: Extension>(state: &State<'_, '_, E>)
+    ensures calls { (what : Invoked) (args : List Val) →
+        (n : ℕ) × IsFinished (run_of (call_in (user_answers E.Callable.answer E.Method.answer E.Formatter.answer E.Join.answer) state.now what args n)).end }
+    ensures texts { (name : List ℕ) (args : List Val) →
+        (n : ℕ) × IsFinished (run_of (macro_in (user_answers E.Callable.answer E.Method.answer E.Formatter.answer E.Join.answer) state.now name args n)).end }
+{
+    let _standing = state.environment.registry.templates.values();
 }
 
 /// A law: a template in whose source no marker starts renders to its text, at the price of one step, and to nothing where

@@ -17,8 +17,8 @@ mod template;
 pub use environment::Environment;
 pub use expression::Expression;
 pub use laws::{
-    every_block_ends, every_expression_runs, every_render_ends, every_template_runs,
-    isolated_renders, none_ask_names, plain_renders,
+    every_block_ends, every_call_ends, every_expression_runs, every_render_ends,
+    every_template_runs, isolated_renders, none_ask_names, plain_renders,
 };
 pub use registry::Registry;
 pub use state::State;

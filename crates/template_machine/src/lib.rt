@@ -55,10 +55,12 @@
 //!
 //! A render writes the text and ends as the meaning of the template's tree says, for the templates that
 //! stand, the context, the escape of its name and the fuel. It may also want memory or meet a failing sink,
-//! and then a beginning of the text is written. [`every_run_ends`] and [`one_meaning`] say that every render
-//! ends, and in one way, and [`every_block_ends`] that each block ends that a state is asked for; [`isolation`] that a render
-//! takes no more of its context than the names that are listed, and [`expression_isolation`] that an expression takes no
-//! more than those that stand in it, where nothing that a user brought asks for a name;
+//! and then a beginning of the text is written. [`every_render_ends`] says that every render ends, [`every_block_ends`] and
+//! [`every_call_ends`] that so do blocks, filters, tests and macros that a state is asked for, and [`one_meaning`] that
+//! this is in one way: [`every_template_runs`] and [`every_expression_runs`] that nothing is accepted but what runs.
+//! [`isolated_renders`] says that a render takes no more of its context than the names that are listed, and
+//! [`expression_isolation`] that an expression takes no more than those that stand in it, where nothing that a user brought
+//! asks for a name, as [`none_ask_names`] says where nothing can be brought; [`plain_renders`] what a text without markers gives;
 //! [`enough_is_enough`], [`fuel_adds_up`] and [`writes_beginning`] are the laws of fuel, and
 //! [`good_ends_well`] that of verified instructions. By [`faults_are_meant`] no fault of a template is told as want of
 //! memory, however many includes it happened in, where what a user brought states none so. An expression gives the value that its tree means under the fuel,

@@ -1,7 +1,7 @@
 -- Every run ends, in one way.
 use Rattle.std.proofs.Common.{◌≡◌, ℕ, ◌+◌, ◌<◌, ◌≤◌, ◌⊎◌, inl, inr, zero, suc, ◌==◌, Bool, true, false, if◌then◌else◌, IsTrue, List, [], ◌∷◌, ◌++◌, drop, length, Option, None, Some, option_map, refl, sym, ap, subst, ◌∙◌, append_assoc, append-nil, arith}
 use Rattle.std.specs.Prelude.{IsSome}
-use Rattle.std.specs.Option.{option_and_then}
+use Rattle.std.specs.Option.{ForSome, option_and_then}
 use Rattle.template_values_errors.specs.declared.ErrorKind.TheVariants.{TemplateNotFound}
 use Rattle.template_values_model.specs.Val as values
 use Rattle.template_values_model.specs.Val.{Val}
@@ -23,7 +23,7 @@ use Rattle.template_machine_meaning.specs.Plans.{ran, restarted, with_beneath, p
 use Rattle.template_machine_meaning.specs.Blocks.{is_among}
 use Rattle.template_machine_meaning.specs.Surroundings.{Programs, runners, gave_none, answer}
 use Rattle.template_machine_meaning.specs.Meaning as meanings
-use Rattle.template_machine_meaning.specs.Meaning.{Standing, Setting, template_at, tree_in, tree_of, part_walk, head_of, walks_of, meaning}
+use Rattle.template_machine_meaning.specs.Meaning.{Standing, Setting, template_at, tree_in, tree_of, part_walk, head_of, walks_of, named_so, meaning}
 use Rattle.template_machine_meaning.specs.Laws.{AreAllRunnable, ListsAll, MayBegin, MayGoRound, MayStart, EveryKeyEnds, EveryRunEnds, OneMeaning}
 use Rattle.template_machine_meaning.proofs.Bounds.{meanings_extend}
 use Rattle.template_machine_meaning.proofs.Settling.{Walk, Settles, Passes, Stops, settles_then, settles_now}
@@ -123,9 +123,10 @@ pub found_parent : (o : Option (World → Run World)) (w : World) (r : Run World
 found_parent None w r found = absurd found
 found_parent (Some runs) w r found = found
 
-module _ (names : List (List ℕ)) (setting : Setting) (root : Option Standing) (all : AreStreamsRunnable setting root) (lists : Lists names (walks_of setting root)) where
+module _ (names : List (List ℕ)) (setting : Setting) (root : Option Standing) (name_given : List ℕ) (all : AreStreamsRunnable setting root)
+    (lists : Lists names (named_so name_given (walks_of setting root))) where
   abbrev s : Programs
-  s = walks_of setting root
+  s = named_so name_given (walks_of setting root)
 
   -- where there is a tree the walk of a part of it is found, and what follows in a template that is extended
   finds_part : (part : Part) (n : ℕ) (w : World) (t : Statements) (p : Process) (q : Run World) → part_walk n part t ≡ Some p → followed (runners s n) part (run (answer s n) p w) ≡ q
@@ -512,39 +513,44 @@ module _ (names : List (List ℕ)) (setting : Setting) (root : Option Standing) 
       (part_comes (w.floor + w.outer) (all_come (suc setting.limit) (w.floor + w.outer) (omega arith)) key.stream key.part w starts (deep_at key.part w starts))
 
 -- the template that is rendered, and those that stand
-module _ (setting : Setting) (all : AreAllRunnable setting) (root : Standing) (h : IsRunnableTemplate root.tree) where
-  standing_at : (home : Home) (x : Standing) → template_at setting (Some root) home ≡ Some x → IsRunnableTemplate x.tree
-  standing_at keys.rendered x e = let same : root ≡ x = cc in subst (λ (y : Standing). IsRunnableTemplate y.tree) same h
+module _ (setting : Setting) (all : AreAllRunnable setting) (root : Option Standing) (h : ForSome root (λ (t : Standing). IsRunnableTemplate t.tree)) where
+  standing_at : (home : Home) (x : Standing) → template_at setting root home ≡ Some x → IsRunnableTemplate x.tree
+  standing_at keys.rendered x e = h x e
   standing_at (keys.standing name) x e = all name x e
   standing_at (keys.kept number) x e = absurd (cc)
 
-  own_runs : (home : Home) (o : Option Standing) → template_at setting (Some root) home ≡ o → (t : Statements) → option_map (λ (x : Standing). x.tree) o ≡ Some t → IsRunnableTemplate t
+  own_runs : (home : Home) (o : Option Standing) → template_at setting root home ≡ o → (t : Statements) → option_map (λ (x : Standing). x.tree) o ≡ Some t → IsRunnableTemplate t
   own_runs home None e t is = absurd (cc)
   own_runs home (Some x) e t is = let same : x.tree ≡ t = cc in subst IsRunnableTemplate same (standing_at home x e)
 
-  body_runs : (home : Home) (name : List ℕ) (o : Option Standing) → template_at setting (Some root) home ≡ o → (t : Statements) → option_and_then (meanings.body_of name) o ≡ Some t → IsRunnableTemplate t
+  body_runs : (home : Home) (name : List ℕ) (o : Option Standing) → template_at setting root home ≡ o → (t : Statements) → option_and_then (meanings.body_of name) o ≡ Some t → IsRunnableTemplate t
   body_runs home name None e t is = absurd (cc)
   body_runs home name (Some x) e t is = block_runs name x.tree (standing_at home x e) t is
 
-  runs : AreStreamsRunnable setting (Some root)
-  runs (own home) t e = own_runs home (template_at setting (Some root) home) refl t e
-  runs (block_of home name) t e = body_runs home name (template_at setting (Some root) home) refl t e
+  runs : AreStreamsRunnable setting root
+  runs (own home) t e = own_runs home (template_at setting root home) refl t e
+  runs (block_of home name) t e = body_runs home name (template_at setting root home) refl t e
 
 stands : (o : Option Standing) (h : Head) → option_map head_of o ≡ Some h → IsSome o
 stands None h e = absurd (cc)
 stands (Some x) h e = refl
 
-listed : (setting : Setting) (names : List (List ℕ)) → ListsAll setting names → (root : Option Standing) → Lists names (walks_of setting root)
-listed setting names all root name h e = all name (stands (setting.templates name) h e)
+listed : (setting : Setting) (names : List (List ℕ)) → ListsAll setting names → (root : Option Standing) (called : List ℕ)
+    → Lists names (named_so called (walks_of setting root))
+listed setting names all root called name h e = all name (stands (setting.templates name) h e)
+
+only_root : (root : Standing) → IsRunnableTemplate root.tree → ForSome (Some root) (λ (t : Standing). IsRunnableTemplate t.tree)
+only_root root h x e = let same : root ≡ x = cc in subst (λ (y : Standing). IsRunnableTemplate y.tree) same h
 
 pub every_run_ends : EveryRunEnds
 every_run_ends setting names lists all root h w may =
-    let at = stream_ends names setting (Some root) (runs setting all root h) (listed setting names lists (Some root)) (own keys.rendered) root.tree refl w may in
+    let at = stream_ends names setting (Some root) root.name (runs setting all (Some root) (only_root root h)) (listed setting names lists (Some root) root.name)
+    (own keys.rendered) root.tree refl w may in
     (at.0, at.1 (suc at.0) (omega arith))
 
 pub every_key_ends : EveryKeyEnds
-every_key_ends setting names lists all root h key some w may =
-    key_ends names setting (Some root) (runs setting all root h) (listed setting names lists (Some root)) key w may some
+every_key_ends setting names lists all root h name key some w may =
+    key_ends names setting root name (runs setting all root h) (listed setting names lists root name) key w may some
 
 not_both : (e : End) → IsFinished e → IsUnfinished e → ⊥
 not_both (ends operands) h u = u

@@ -1,5 +1,6 @@
 -- The laws of meanings under bounds.
 use Rattle.std.specs.Prelude.{◌≡◌, ℕ, ◌<◌, ◌≤◌, true, List, [], ◌∷◌, length, Option, None, Some, IsSome}
+use Rattle.std.specs.Option.{ForSome}
 use Rattle.template_values_model.specs.Val.{Val}
 use Rattle.template_tree.specs.Tree.{Expression}
 use Rattle.template_process.specs.Process.{Process, Below}
@@ -14,7 +15,7 @@ use Rattle.template_machine_meaning.specs.Plans.{ran}
 use Rattle.template_machine_meaning.specs.Blocks.{is_among}
 use Rattle.template_machine_meaning.specs.Keys.{Part, rounds_of, Key}
 use Rattle.template_machine_meaning.specs.Surroundings.{Programs, runners, answer}
-use Rattle.template_machine_meaning.specs.Meaning.{Standing, Setting, walks_of, meaning, evaluation, evaluated}
+use Rattle.template_machine_meaning.specs.Meaning.{Standing, Setting, walks_of, named_so, meaning, evaluation, evaluated}
 
 -- the second goes further
 abbrev pub ProcessGoesFurther : Option Process → Option Process → Type 0
@@ -74,11 +75,11 @@ abbrev pub EveryRunEnds : Type 0
 EveryRunEnds = (setting : Setting) (names : List (List ℕ)) → ListsAll setting names → AreAllRunnable setting → (root : Standing)
     → IsRunnableTemplate root.tree → (w : World) → MayBegin w → (n : ℕ) × IsFinished (meaning setting root n w).end
 
--- So does what each key comes to that finds something, in the render of a template.
+-- So does what each key comes to that finds something, where a template is rendered or none is, whatever its name is.
 abbrev pub EveryKeyEnds : Type 0
-EveryKeyEnds = (setting : Setting) (names : List (List ℕ)) → ListsAll setting names → AreAllRunnable setting → (root : Standing)
-    → IsRunnableTemplate root.tree → (key : Key) → IsSome ((walks_of setting (Some root)).process 0 key) → (w : World) → MayStart key.part w
-    → (n : ℕ) × IsFinished (ran (runners (walks_of setting (Some root)) n key) w).end
+EveryKeyEnds = (setting : Setting) (names : List (List ℕ)) → ListsAll setting names → AreAllRunnable setting → (root : Option Standing)
+    → ForSome root (λ t. IsRunnableTemplate t.tree) → (name : List ℕ) (key : Key) → IsSome ((walks_of setting root).process 0 key)
+    → (w : World) → MayStart key.part w → (n : ℕ) × IsFinished (ran (runners (named_so name (walks_of setting root)) n key) w).end
 
 -- A run that is finished under two bounds is the same under both.
 abbrev pub OneMeaning : Type 0

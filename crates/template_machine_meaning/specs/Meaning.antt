@@ -97,6 +97,10 @@ walks_of setting root = record {
   around = around_of setting root;
 }
 
+-- programs, where what is rendered or evaluated has a name
+abbrev pub named_so : List ℕ → Programs → Programs
+named_so name s = record s { around = record s.around { name = name } }
+
 -- the key of the template that is rendered
 abbrev pub top : Key
 top = whole_of (own keys.rendered)

@@ -32,7 +32,7 @@ pub fn every_run_ends()
     ensures { EveryRunEnds }
 {}
 
-/// What each key comes to that finds something ends, in the render of a template.
+/// What each key comes to that finds something ends, where a template is rendered or none is.
 pub fn every_key_ends()
     ensures { EveryKeyEnds }
 {}

@@ -10,13 +10,13 @@ use Rattle.template_machine_meaning.specs.Blocks.{block_plan}
 use Rattle.template_machine_meaning.specs.Plans.{Within, Plan, replies, enters, after_by, caller_of, given, told_by, came_from}
 use Rattle.template_machine_meaning.specs.Turnings.{Turning, turned}
 use Rattle.template_machine_meaning.specs.Surroundings.{Programs, runners}
-use Rattle.template_machine_meaning.specs.Meaning.{Standing, Setting, walks_of}
+use Rattle.template_machine_meaning.specs.Meaning.{Standing, Setting, walks_of, named_so}
 use Rattle.template_machine_meaning.proofs.Entering.{Finds, found_run}
 use Rattle.template_machine_codes.specs.Codes.{codes_of}
 use Rattle.template_machine_codes.proofs.Alike.{ProgramsFollow, codes_follow, runners_alike}
 use Rattle.template_machine_loop.specs.Plans.{Tells, end_of, replies_of, run_of}
 use Rattle.template_machine_loop.specs.Runs.{EndsSo}
-use Rattle.template_machine_renders.specs.Laws.{BlocksRender, block_run, named_so}
+use Rattle.template_machine_renders.specs.Laws.{BlocksRender, block_run}
 use Rattle.template_machine_renders.proofs.Coming.{ComeTo, breaks_meant, ended_there, ends_meant, stops_so}
 
 -- there is nothing under later bounds either; or a run from the world on that is finished is the same there

@@ -10,7 +10,7 @@ use Rattle.template_machine_going.proofs.Paths.{paid_nothing}
 use Rattle.template_machine_going.specs.Told.{FaultsSo}
 use Rattle.template_machine_going.specs.declared.stop.Stop.{Stop}
 use Rattle.template_machine_going.specs.declared.stop.Stop.TheVariants.{Fault, Want}
-use Rattle.template_machine_meaning.specs.Meaning.{Standing, Setting, walks_of}
+use Rattle.template_machine_meaning.specs.Meaning.{Standing, Setting, walks_of, named_so}
 use Rattle.template_machine_meaning.specs.Plans.{Plan, replies, Runners, settled, with_turning}
 use Rattle.template_machine_meaning.specs.Replies.{changed, told}
 use Rattle.template_machine_meaning.specs.Surroundings.{Programs, runners}
@@ -23,7 +23,6 @@ use Rattle.template_machine_codes.specs.Codes.{codes_of}
 use Rattle.template_machine_loop.specs.Plans.{DoesPlan, Tells, replies_of, run_of}
 use Rattle.template_machine_loop.specs.Runs.{Breaks, faulting}
 use Rattle.template_machine_loop.proofs.Turned.{does_from}
-use Rattle.template_machine_renders.specs.Laws.{named_so}
 use Rattle.template_machine_renders.specs.Renders.{IsDone, LeavesFuel, LeavesWorld, Renders}
 use Rattle.template_machine_renders.proofs.Blocks.{named_follow, plan_alike, replies_alike, tells_ends}
 use Rattle.template_machine_renders.proofs.Coming.{breaks_meant, ends_meant, stops_so}

@@ -13,7 +13,7 @@ use Rattle.template_machine_meaning.specs.Plans.{ran}
 use Rattle.template_machine_meaning.specs.Blocks.{block_plan}
 use Rattle.template_machine_meaning.specs.Surroundings.{Programs, runners}
 use Rattle.template_machine_meaning.specs.Laws.{IsAlone}
-use Rattle.template_machine_meaning.specs.Meaning.{Standing, Setting, walks_of, evaluation, meaning, top}
+use Rattle.template_machine_meaning.specs.Meaning.{Standing, Setting, walks_of, named_so, evaluation, meaning, top}
 use Rattle.template_machine_codes.specs.Codes.{codes_of}
 use Rattle.template_machine_going.specs.declared.stop.Stop.{Stop}
 use Rattle.template_machine_loop.specs.Plans.{DoesPlan, replies_of, run_of}
@@ -44,10 +44,6 @@ ExpressionsEvaluate = (setting : Setting) (e : Expression) → IsRunnable e → 
     (before taken : Option (List ℕ)) (result : Result Val Stop)
     → Evaluates (codes_of setting None) (standalone_code e) w fuel before result after left taken
     → GivesValue result after (under fuel (evaluation setting e w))
-
--- programs, where what is rendered or evaluated has a name
-abbrev pub named_so : List ℕ → Programs → Programs
-named_so name s = record s { around = record s.around { name = name } }
 
 -- what a block comes to that is called from outside, from a world on, under a bound
 abbrev pub block_run : Programs → World → List ℕ → ℕ → Run World
