@@ -1,5 +1,5 @@
 //! Compiled templates.
-ghost use Rattle.std.specs.Prelude.{◌≡◌, ◌↔◌, ◌≤◌, ◌^◌, ℕ, List, length, option_map, IsTrue, IfOk, IfErr, IsErrAnd, OnOk, OnErr};
+ghost use Rattle.std.specs.Prelude.{◌≡◌, ◌↔◌, ◌≤◌, ◌*◌, ◌^◌, ℕ, List, length, min, sum_by, option_map, IsTrue, IfOk, IfErr, IsErrAnd, OnOk, OnErr};
 ghost use Rattle.std.specs.BTreeSet.{contains_text};
 ghost use Rattle.std.specs.Cow.{cow_str_bytes};
 ghost use Rattle.template_values_errors.specs.Memory.{NoMemory};
@@ -8,6 +8,7 @@ ghost use Rattle.template_values_errors.specs.declared.ErrorKind.TheVariants.{To
 ghost use Rattle.template_tree.specs.Tree.{Statements, template};
 ghost use Rattle.template_tree_statements.specs.View.{statement_of};
 ghost use Rattle.template_code.specs.Listing.{code_in};
+ghost use Rattle.template_code_references.specs.Texts.{raw_length};
 ghost use Rattle.template_compiler_syntax.specs.Syntax.{IsUsable};
 ghost use Rattle.template_compiler_sources.specs.Source.{IsAlone, IsSource};
 ghost use Rattle.template_machine_surroundings.specs.Rule.{IsEscapeOf};
@@ -30,6 +31,7 @@ use std::collections::BTreeSet;
 use std::marker::Model;
 use template_code::Instructions;
 use template_code_blocks::{CompiledBlock, block_among, own_blocks};
+use template_code_references::buffer_size_hint;
 use template_compiler_numbers::number_names;
 use template_compiler_sources::parse;
 use template_compiler_statement_codegen::children;
@@ -304,6 +306,14 @@ impl<'source> CompiledTemplate<'source> {
         ensures faithful { IsFaithful self.now }
     {
         &self.instructions
+    }
+
+    /// How much room for the template's text is worth asking for: twice the bytes of the texts outside of its blocks, as far
+    /// as a `usize` goes. Linear in its instructions.
+    pub fn buffer_size_hint(&self) -> usize
+        ensures { result ≡ min (2 * sum_by raw_length (code_for self.now)) usize.MAX }
+    {
+        buffer_size_hint(self.instructions())
     }
 }
 

@@ -52,7 +52,7 @@ pub use template_code::{
     CaptureMode, CompareOp, Instruction, Instructions, LOOP_FLAG_RECURSIVE,
     LOOP_FLAG_WITH_LOOP_VAR, LocalId, MACRO_CALLER, MAX_LOCALS, code_rises,
 };
-pub use template_code_references::get_referenced_names;
+pub use template_code_references::{buffer_size_hint, get_referenced_names};
 pub use template_compiled::{
     CompiledBlock, CompiledExpression, CompiledTemplate, CompiledTemplates, TemplateConfig,
     one_standalone_tree, one_tree, plain_text,
@@ -60,7 +60,7 @@ pub use template_compiled::{
 pub use template_compiler_codegen::{
     expressions_perform, macros_perform, rounds_perform, templates_perform,
 };
-pub use template_compiler_folding::as_const;
+pub use template_compiler_folding::{as_const, fold_list, fold_map, fold_tuple};
 pub use template_compiler_generator::{CodeGenerator, blocks_generate};
 pub use template_compiler_grammar_laws::templates::{is_decided, one_template, reads_the_grammar};
 pub use template_compiler_numbers::{number_names, numbers_run_alike};

@@ -1,5 +1,4 @@
 pub mod Building
-pub mod Texts
 pub mod Segments
 pub mod Calm
 pub mod Aims

@@ -171,11 +171,6 @@ pub record MarksBehind (old new : Draft) : Type 0 where
   pub later : List Mark
   pub marks : new.marks ≡ old.marks ++ later
 
--- how many bytes of text an instruction writes as it stands
-abbrev pub raw_length : Code → ℕ
-raw_length (steps.emit_raw text) = length text
-raw_length _ = 0
-
 -- the code of what would be generated is too long, or a growth was refused
 abbrev pub IsTooLong : Draft → List ErrorKind → Type 0
 IsTooLong d kinds = ((too_many ≤ length d.code) × (kinds ≡ TooLarge ∷ [])) ⊎ (kinds ≡ OutOfMemory ∷ [])

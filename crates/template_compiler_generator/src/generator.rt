@@ -1,9 +1,9 @@
 //! The generator.
-ghost use Rattle.std.specs.Prelude.{◌≡◌, ◌*◌, ◌↔◌, ◌∷◌, [], None, IfOk, IfErr, OnOk, OnErr, IsOk, IsSomeAnd, MatchOption, Err, IsTrue, length, reverse, drop, min, slice_get, sum_by};
-ghost use Rattle.std.specs.Option.{option_map_or};
+ghost use Rattle.std.specs.Prelude.{◌≡◌, ◌*◌, ◌↔◌, ◌∷◌, [], None, IfOk, IfErr, OnOk, OnErr, IsOk, IsSomeAnd, MatchOption, Err, IsTrue, length, reverse, drop, min, sum_by};
 ghost use Rattle.template_values_errors.specs.Memory.{NoMemory};
 ghost use Rattle.template_code.specs.Listing.{name_in, source_in, code_in, places_in, line_mark, TakesNoMore};
 ghost use Rattle.template_code.specs.View.{code_of};
+ghost use Rattle.template_code_references.specs.Texts.{raw_length};
 ghost use Rattle.template_tree_statements.specs.View.{statement_of};
 ghost use Rattle.template_tree.specs.View.{expression_of};
 ghost use Rattle.template_walk.specs.Runnable.{IsRunnable, IsTarget};
@@ -12,12 +12,13 @@ ghost use Rattle.template_compiler_codegen.specs.Statements.{no_ways, statements
 ghost use Rattle.template_compiler_statement_codegen.specs.Listed.{IsRunnableTree, body_in};
 ghost use Rattle.template_compiler_emission.specs.Puts.{NoRoom};
 ghost use Rattle.template_compiler_numbers.specs.Numbers.{numbered_in};
-ghost use Rattle.template_compiler_generator.specs.Drafts.{Generates, IsTooLong, MarksBehind, is_branch, is_choice, is_loop, jumps_of, leap_of, loop_flags, next_jump, raw_length, span_on, with_block, with_blocks, with_choice, with_choice_end, with_chosen, with_code, with_code_from, with_else, with_end, with_if, with_jump, with_line, with_loop, with_loop_end, with_marked, with_span, with_told, without_span};
+ghost use Rattle.template_compiler_generator.specs.Drafts.{Generates, IsTooLong, MarksBehind, is_branch, is_choice, is_loop, jumps_of, leap_of, loop_flags, next_jump, span_on, with_block, with_blocks, with_choice, with_choice_end, with_chosen, with_code, with_code_from, with_else, with_end, with_if, with_jump, with_line, with_loop, with_loop_end, with_marked, with_span, with_told, without_span};
 ghost use Rattle.template_compiler_generator.specs.View.{draft_of, open_of, refused_of};
 
 use crate::blocks::{Block, Jump};
 use std::alloc::Global;
 use template_code::{Instruction, Instructions, LOOP_FLAG_RECURSIVE, LOOP_FLAG_WITH_LOOP_VAR};
+use template_code_references::buffer_size_hint;
 use template_compiler_emission::Leap;
 use template_compiler_expression_codegen::compile_expr;
 use template_compiler_numbers::number_names;
@@ -498,11 +499,7 @@ impl<'source> CodeGenerator<'source> {
     pub fn buffer_size_hint(&self) -> usize
         ensures { result ≡ min (2 * sum_by raw_length (draft_of self.now).code) usize.MAX }
     {
-        let mut raw: usize = 0;
-        for place in 0..self.next_instruction() {
-            raw = raw.saturating_add(raw_length(&self.code, place));
-        }
-        raw.saturating_mul(2)
+        buffer_size_hint(&self.code)
     }
 
     /// Whether no block is open.
@@ -559,15 +556,5 @@ fn leap_of(and: bool) -> Leap
         Leap::IfFalseOrPop
     } else {
         Leap::IfTrueOrPop
-    }
-}
-
-// How many bytes of text the instruction at a place writes as it stands.
-fn raw_length(code: &Instructions<'_>, place: u32) -> usize
-    ensures { result ≡ option_map_or raw_length (slice_get (code_in code.now) place) 0 }
-{
-    match code.get(place) {
-        Some(Instruction::EmitRaw(text)) => text.as_str().len(),
-        _ => 0,
     }
 }

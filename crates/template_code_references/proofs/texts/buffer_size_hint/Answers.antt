@@ -1,14 +1,14 @@
 use Rattle.std.proofs.Common.{◌≡◌, ℕ, ◌+◌, min, length, take, slice_get, sym, ap, ◌∙◌, add-one, arith}
 use Rattle.std.specs.List.{sum_by}
 use Rattle.std.specs.Option.{option_map_or}
-use Rattle.template_compiler_generator.specs.Drafts.{raw_length}
-use Rattle.template_compiler_generator.specs.View.{draft_of}
-use Rattle.template_compiler_generator.proofs.Texts.{sum_by-next, take-all, bounded-next, bounded-twice}
-use Rattle.template_compiler_generator.proofs.generator.CodeGenerator.buffer_size_hint.Goals as goal
+use Rattle.template_code.specs.Listing.{code_in}
+use Rattle.template_code_references.specs.Texts.{raw_length}
+use Rattle.template_code_references.proofs.Sums.{sum_by-next, take-all, bounded-next, bounded-twice}
+use Rattle.template_code_references.proofs.texts.buffer_size_hint.Goals as goal
 
 pub loop-place-preserved : goal.loop-place-preserved
 loop-place-preserved c =
-    let code = (draft_of c.args.self.now).code in
+    let code = code_in c.args.code.now in
     let k = c.loop-place.place in
     let more = option_map_or raw_length (slice_get code k) 0 in
     let bound : ℕ = 18446744073709551615 in
@@ -19,9 +19,9 @@ loop-place-preserved c =
 
 pub returns : goal.returns
 returns c =
-    let code = (draft_of c.args.self.now).code in
+    let code = code_in c.args.code.now in
     let all : c.loop-place.place ≡ length code =
-    omega (arith, c.loop-place-test.false, c.loop-place.auto.place-end, c.next_instruction-place-end.ensures) in
+    omega (arith, c.loop-place-test.false, c.loop-place.auto.place-end, c.len-count.ensures) in
     let bound : ℕ = 18446744073709551615 in
     let raw = c.loop-place.invariant ∙
     ap (λ n. min (sum_by raw_length (take n code)) bound) all ∙ ap (λ cs. min (sum_by raw_length cs) bound) (take-all code) in
