@@ -433,6 +433,9 @@ impl<'source> CodeGenerator<'source> {
     /// Adds the instructions of an expression, which gives its value. They come from the expression, whatever line and
     /// spans are open. Linear in the expression, besides what the operators of constant trees cost.
     ///
+    /// Every expression that a source has can be given (`expressions_run` of `template_compiler_runnable`). One that is made by
+    /// hand must have what each of them has: a value in each filter, and a comparison in each chain of them.
+    ///
     /// # Errors
     ///
     /// As [`CodeGenerator::start_if`].
@@ -454,6 +457,10 @@ impl<'source> CodeGenerator<'source> {
     /// Adds the instructions of a whole template. They come from its expressions and statements, whatever line and spans
     /// are open. Linear in the template, besides what the operators of constant trees cost.
     ///
+    /// Every template that a source has can be given (`templates_run` of `template_compiler_runnable`). One that is made by hand
+    /// must have what each of them has: `break` and `continue` in loops alone, a filter over each body that is filtered, targets
+    /// where values are stored, and expressions as [`CodeGenerator::compile_expr`] takes them.
+    ///
     /// # Errors
     ///
     /// As [`CodeGenerator::start_if`].
@@ -473,8 +480,9 @@ impl<'source> CodeGenerator<'source> {
         }
     }
 
-    /// Adds the instructions that store the value on top in a target. They come from the names, attributes and lists in
-    /// it, whatever line and spans are open. Linear in the target, besides what the operators of constant trees cost.
+    /// Adds the instructions that store the value on top in a target: a name, an attribute, or a list of targets, as every
+    /// target in a source is. They come from the names, attributes and lists in it, whatever line and spans are open. Linear in
+    /// the target, besides what the operators of constant trees cost.
     ///
     /// # Errors
     ///

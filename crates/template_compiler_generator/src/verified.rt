@@ -59,7 +59,7 @@ fn accepted<'source>(
 }
 
 /// Generates the instructions of a template with a name and its source, and has them checked. They are accepted, as a
-/// template's: never is `BadStream` told.
+/// template's: never is `BadStream` told. The tree is one that [`CodeGenerator::compile_stmt`] takes.
 ///
 /// # Errors
 ///
@@ -85,7 +85,7 @@ pub fn verified_template<'source>(
     accepted(alloc, instructions)
 }
 
-/// The same of an expression that stands alone.
+/// The same of an expression that stands alone, one that [`CodeGenerator::compile_expr`] takes.
 ///
 /// # Errors
 ///
