@@ -15,4 +15,6 @@ pub use Rattle.template_compiled.specs.Compiled
 pub use Rattle.template_machine_meaning.specs.Isolation
 pub use Rattle.template_machine_meaning.specs.Meaning
 pub use Rattle.template_machine_renders.specs.Outcomes
+pub use Rattle.template_values_forms.specs.Escaped
+pub use Rattle.template_walk.specs.Runnable
 pub use Rattle.template_machine_renders.specs.Renders

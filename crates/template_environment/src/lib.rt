@@ -3,6 +3,7 @@
 
 mod bringing;
 mod environment;
+mod escaping;
 mod expression;
 mod extensions;
 mod hosting;
@@ -15,6 +16,7 @@ mod state;
 mod template;
 
 pub use environment::Environment;
+pub use escaping::escape_formatter;
 pub use expression::Expression;
 pub use laws::{
     every_block_ends, every_call_ends, every_expression_runs, every_render_ends,

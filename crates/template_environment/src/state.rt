@@ -36,8 +36,9 @@ use template_machine_output::{NullWriter, Sink};
 use template_machine_renders::{Templates, run_block, run_entry};
 use template_machine_state::{Caller, State as MachineState};
 use template_machine_surroundings::StateIds;
-use template_values_core::Value;
+use template_values_core::{Entry as MapEntry, Value};
 use template_values_errors::{AutoEscape, Error, ErrorKind, UndefinedBehavior};
+use template_values_forms::{LoopView, MacroView, Records};
 use template_values_operators::growth::copies;
 use template_values_text::print_to;
 
@@ -540,6 +541,26 @@ impl<'env, 'source, E: Extension> State<'env, 'source, E> {
             Some(levels) => Some((levels.consumed, levels.remaining)),
             None => None,
         }
+    }
+}
+
+// A look into a namespace, a loop or a macro of this state finds it, so that values which it gave can be printed and looked into.
+impl<'env, 'source, E: Extension> Records for State<'env, 'source, E> {
+    ghost use Rattle.template_machine_meaning.specs.Records.{known_of};
+    ghost use Rattle.template_environment.specs.States.{world_in};
+
+    ghost known = { λ s. known_of (world_in s) };
+
+    fn namespace(&self, id: u64, number: usize) -> Option<&[MapEntry]> {
+        self.machine.namespace(id, number)
+    }
+
+    fn loop_view(&self, id: u64, number: usize) -> Option<LoopView<'_>> {
+        self.machine.loop_view(id, number)
+    }
+
+    fn macro_view(&self, id: u64, number: usize) -> Option<MacroView<'_>> {
+        self.machine.macro_view(id, number)
     }
 }
 

@@ -75,6 +75,9 @@ pub use Rattle.template_compiled.specs.Expressions as ExpressionSources
 pub use Rattle.template_compiled.specs.Plain as PlainSources
 pub use Rattle.template_environment.specs.Isolation
 pub use Rattle.template_environment.specs.Outcomes
+pub use Rattle.template_environment.specs.Escaped
+pub use Rattle.template_machine_operations.specs.Ranges
+pub use Rattle.template_environment.specs.Runnable
 pub use Rattle.template_environment.specs.Renders
 pub use Rattle.template_environment.specs.Extras
 pub use Rattle.template_environment.specs.Standing

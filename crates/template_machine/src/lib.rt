@@ -40,8 +40,9 @@
 //!   [`Answer`], from its arguments and what it sees of the run, a [`CallView`]. [`State::apply_filter`] and
 //!   [`State::perform_test`] call filters and tests without a render, and [`State::call_macro`] a macro that a render left.
 //! - There [`Environment::set_formatter`] takes a [`Formatter`] too: it says by a [`FormatAnswer`] what is printed in the
-//!   place of each value, and [`State::format`] gives that text. [`Environment::set_path_join_callback`] takes a
-//!   [`PathJoin`], which says which template a name means that stands in another template.
+//!   place of each value, and [`State::format`] gives that text; [`escape_formatter`] writes the text that a value has without a
+//!   formatter into a [`Sink`]. [`Environment::set_path_join_callback`] takes a [`PathJoin`], which says which template a name
+//!   means that stands in another template.
 //! - [`Environment::set_fuel`] bounds each render by its steps, and [`State::fuel_levels`] tells what one
 //!   consumed; [`Environment::set_recursion_limit`] bounds how deep it may be.
 //! - [`Environment::set_undefined_behavior`] says what may be done with undefined values, and
@@ -70,16 +71,20 @@
 
 pub use template_callables::{
     Answer, CallView, Callable, Either, Extension, FormatAnswer, Formatter, Further, NoCallable,
-    NoExtension, NoFormatter, NoJoin, NoMethod, PathJoin, UnknownMethod, copy_all,
+    NoExtension, NoFormatter, NoJoin, NoMethod, PathJoin, Temps, UnknownMethod, copy_all,
 };
+pub use template_code::CaptureMode;
 pub use template_code_blocks::CompiledBlock;
 pub use template_code_checked::{Checked, verify};
 pub use template_code_shapes::{StreamKind, certified_is_good, good_ends_well, good_goes_on};
 pub use template_compiler_syntax::{StartMarker, SyntaxConfig, SyntaxConfigBuilder};
 pub use template_environment::{
-    Captured, Environment, Expression, State, Template, every_block_ends,
+    Captured, Environment, Expression, State, Template, escape_formatter, every_block_ends,
+    every_call_ends, every_expression_runs, every_render_ends, every_template_runs,
+    isolated_renders, none_ask_names, plain_renders,
 };
-pub use template_machine_frames::{Context, Frame, LoopState};
+pub use template_machine_blocks::BlockStack;
+pub use template_machine_frames::{Closures, Context, Frame, LoopState};
 pub use template_machine_fuel::FuelTracker;
 pub use template_machine_globals::Globals;
 pub use template_machine_items::Items;
@@ -89,7 +94,9 @@ pub use template_machine_meaning::{
 };
 pub use template_machine_operands::Operands as Stack;
 pub use template_machine_output::{NullWriter, Sink, SinkFault, WriteWrapper, Writer, write_text};
-pub use template_machine_state::{Behind, Body, Caller, Home, State as MachineState};
+pub use template_machine_state::{
+    Behind, Body, Caller, Home, MacroRecord as Macro, Rounds, State as MachineState, Stream,
+};
 pub use template_machine_surroundings::{
     AutoEscapeRule, EscapeRule, NoRule, StateIds, default_auto_escape_callback, one_escape,
     one_rule,
