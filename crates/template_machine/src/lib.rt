@@ -93,6 +93,7 @@ pub use template_machine_meaning::{
     expression_isolation, faults_are_meant, isolation, one_meaning,
 };
 pub use template_machine_operands::Operands as Stack;
+pub use template_machine_operations::{dict, range};
 pub use template_machine_output::{NullWriter, Sink, SinkFault, WriteWrapper, Writer, write_text};
 pub use template_machine_state::{
     Behind, Body, Caller, Home, MacroRecord as Macro, Rounds, State as MachineState, Stream,

@@ -3,9 +3,9 @@ ghost use Rattle.template_machine_meaning.specs.Functions.{function_called, own_
 ghost use Rattle.template_machine_operations.specs.Called.{Comes};
 
 use crate::called::Called;
-use crate::dict::dict;
+use crate::dicts::dict;
 use crate::namespaces::namespace;
-use crate::range::range;
+use crate::ranges::range_given;
 use std::alloc::Global;
 use template_machine_globals::{DICT, OWN_FUNCTIONS, RANGE};
 use template_values_core::Value;
@@ -46,7 +46,7 @@ fn call_own(alloc: Global, number: usize, args: &[Value]) -> Result<Called, Erro
     ensures { Comes result args.now (own_called number args.now) }
 {
     if number == RANGE {
-        Ok(Called::Value(range(alloc, args)?))
+        Ok(Called::Value(range_given(alloc, args)?))
     } else if number == DICT {
         Ok(Called::Value(dict(alloc, args)?))
     } else {

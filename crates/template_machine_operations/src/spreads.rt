@@ -9,7 +9,7 @@ ghost use Rattle.template_machine_operations.specs.Answers.{Adds, Answers};
 ghost use Rattle.template_machine_operations.specs.Entries.{entries_given};
 
 use crate::containers::build_kwargs;
-use crate::dict::push_copies;
+use crate::dicts::push_copies;
 use std::alloc::Global;
 use template_machine_undefined as undefined;
 use template_machine_undefined::forbids_iterating;

@@ -1,7 +1,7 @@
 use Rattle.std.proofs.Common.{◌≡◌, ◌+◌, ◌∷◌, sym, subst, drop, add-one}
 use Rattle.std.proofs.Math.Seq.{drop-cons}
 use Rattle.template_machine_operations.proofs.Mapping.{copied_next}
-use Rattle.template_machine_operations.proofs.dict.push_copies.Goals as goal
+use Rattle.template_machine_operations.proofs.dicts.push_copies.Goals as goal
 
 pub loop-entry-preserved : goal.loop-entry-preserved
 loop-entry-preserved c =

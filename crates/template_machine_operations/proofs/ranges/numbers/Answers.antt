@@ -8,7 +8,7 @@ use Rattle.template_machine_meaning.specs.Functions.{numbers_from}
 use Rattle.template_machine_meaning.specs.Replies.{kinded}
 use Rattle.template_machine_operations.specs.Answers.{Answers}
 use Rattle.template_machine_operations.proofs.Ranging.{numbers_made}
-use Rattle.template_machine_operations.proofs.range.numbers.Goals as goal
+use Rattle.template_machine_operations.proofs.ranges.numbers.Goals as goal
 
 pub returns : goal.returns
 returns c =

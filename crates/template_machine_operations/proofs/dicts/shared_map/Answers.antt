@@ -1,5 +1,5 @@
 use Rattle.template_machine_operations.proofs.Mapping.{copied_answers, map_again}
-use Rattle.template_machine_operations.proofs.dict.shared_map.Goals as goal
+use Rattle.template_machine_operations.proofs.dicts.shared_map.Goals as goal
 
 pub returns : goal.returns
 returns c =

@@ -6,7 +6,7 @@ use Rattle.template_machine_meaning.specs.Functions.{base_in, dict_of}
 use Rattle.template_machine_meaning.specs.Replies.{kinded}
 use Rattle.template_machine_operations.specs.Answers.{Answers}
 use Rattle.template_machine_operations.proofs.Mapping.{base_given}
-use Rattle.template_machine_operations.proofs.dict.dict_of.Goals as goal
+use Rattle.template_machine_operations.proofs.dicts.dict_of.Goals as goal
 
 pub returns : goal.returns
 returns c =

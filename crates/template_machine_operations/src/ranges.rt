@@ -5,6 +5,7 @@ ghost use Rattle.template_values_operators.specs.Slices.{distance, step_count, s
 ghost use Rattle.template_machine_meaning.specs.Functions as functions;
 ghost use Rattle.template_machine_meaning.specs.Functions.{bound_in, numbers_from, range_by, range_given, range_limit};
 ghost use Rattle.template_machine_operations.specs.Answers.{Answers};
+ghost use Rattle.template_machine_operations.specs.Ranges.{range_from};
 
 use crate::containers::build_list;
 use std::alloc::Global;
@@ -15,15 +16,35 @@ use template_values_operators::refusal;
 // The most numbers that a range has.
 const RANGE_LIMIT: u128 = 100_000;
 
-/// The whole numbers from a start on that lie before a stop, each a step from the one before: a stop alone, where they start
-/// at 0, a start and a stop, or both and a step, which is 1 elsewhere. Linear in their number.
+/// The list of the whole numbers from `lower` on that lie before `upper`, each a step from the one before, which is 1 if none is
+/// given; without `upper` those from 0 on that lie before `lower`. So gives `range` in a template. Linear in their number.
+///
+/// # Errors
+///
+/// [`ErrorKind::InvalidOperation`] at a step of 0, and where there would be more than 100,000 numbers;
+/// [`ErrorKind::OutOfMemory`].
+pub fn range(
+    alloc: Global,
+    lower: i64,
+    upper: Option<i64>,
+    step: Option<i64>,
+) -> Result<Value, Error>
+    ensures { Answers result (range_from lower upper step) }
+{
+    let step = step.unwrap_or(1);
+    match upper {
+        Some(upper) => range_between(alloc, lower, upper, step),
+        None => range_between(alloc, 0, lower, step),
+    }
+}
+
+/// What `range` gives for the arguments of a call: a stop alone, a start and a stop, or both and a step.
 ///
 /// # Errors
 ///
 /// [`ErrorKind::MissingArgument`] and [`ErrorKind::TooManyArguments`]; [`ErrorKind::InvalidOperation`] at other values than
-/// whole numbers of 64 bits, at a step of 0, and where there would be more than 100,000 numbers;
-/// [`ErrorKind::OutOfMemory`].
-pub(crate) fn range(alloc: Global, args: &[Value]) -> Result<Value, Error>
+/// whole numbers of 64 bits; else those of [`range`].
+pub(crate) fn range_given(alloc: Global, args: &[Value]) -> Result<Value, Error>
     ensures { Answers result (range_given args.now) }
 {
     match args {

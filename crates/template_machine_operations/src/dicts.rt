@@ -14,8 +14,8 @@ use template_values_errors::Error;
 use template_values_model::DEPTH_LIMIT;
 use template_values_operators::refusal;
 
-/// A map of the entries of a map, or of none where that is undefined or left out, and of keyword arguments: of equal keys the
-/// last value stands. A map alone is shared; else it is as dear as [`build_map`].
+/// What `dict` gives in a template for these arguments: a map of the entries of a map, or of none where that is undefined or left
+/// out, and of keyword arguments, which stand behind it as one keyword map: of equal keys the last value stands. A map alone is shared; else it is as dear as [`build_map`].
 ///
 /// # Errors
 ///
@@ -24,7 +24,7 @@ use template_values_operators::refusal;
 ///
 /// [`ErrorKind::InvalidOperation`]: template_values_errors::ErrorKind::InvalidOperation
 /// [`ErrorKind::OutOfMemory`]: template_values_errors::ErrorKind::OutOfMemory
-pub(crate) fn dict(alloc: Global, args: &[Value]) -> Result<Value, Error>
+pub fn dict(alloc: Global, args: &[Value]) -> Result<Value, Error>
     ensures { Answers result (dict_given args.now) }
 {
     match args {
