@@ -3,6 +3,7 @@ use crate::NAME;
 use crate::numbers::write_numbers;
 use crate::report::Report;
 use crate::runs::write_runs;
+use crate::syntax::parts_of_syntax;
 use std::alloc::Global;
 use std::borrow::CowStr;
 use template_code::{
@@ -13,7 +14,7 @@ use template_compiled::{CompiledBlock, CompiledTemplate, CompiledTemplates, Temp
 use template_values_core::{Content, Value};
 use template_values_errors::Error;
 
-/// What is asked of the code of a template: `code`, `owned`, `blocks`, `numbers`, `runs` or `references`.
+/// What is asked of the code of a template: `code`, `owned`, `blocks`, `numbers`, `runs`, `references`, `hint` or `under`.
 pub(crate) fn about_code(alloc: Global, source: &str, ask: &str, out: &mut Report) {
     let compiled = compiled(alloc, source, ask == "owned");
     about_compiled(alloc, &compiled, ask, out)
@@ -51,6 +52,8 @@ fn write_code(alloc: Global, template: &CompiledTemplate<'_>, ask: &str, out: &m
         "references" => write_references(alloc, code, out),
         "owned" => write_owned(template, out),
         "blocks" => write_blocks(template.blocks(), out),
+        "hint" => out.tell(" ", &template.buffer_size_hint()),
+        "under" => parts_of_syntax(alloc, template.syntax(), out),
         _ => write_instructions(code, out),
     }
     out.push(')')

@@ -20,17 +20,19 @@
 //!   for it;
 //! - `runs`: where its instructions come from, as `(line count "text")` for each run of them that come from one place;
 //! - `references`: the names that the instructions up to each one refer to, and up to one past the last, the latest
-//!   first, as `(index name ..)`;
+//!   first, as `(index name ..)`; `hint`: how much room for its text is worth asking for;
+//!   `under`: what the syntax has that it was read under;
 //! - `names`: the names that it uses; `nested`: the same, each with the dotted names that stand directly behind it;
 //!   `closures`: the names that each macro and each body of a call block encloses that stands in the template's body,
 //!   after the macro's name; `units`: the names that each of its units uses, in order of place;
 //! - `generated`, with two more entries, `calls` of a generator and `places`: how many instructions come of the calls, the
 //!   hint of room for them and where those at the places come from, each with a `;` behind it, and then the instructions.
 //!   A call is its name, or an array of its name and a text, a line, or the line that a span starts in; `template`
-//!   compiles the source. Where there is an entry `numbers`, those of filters and tests stand in place of the instructions.
+//!   compiles the source. Where there is an entry `numbers`, those of filters and tests stand in place of the instructions;
+//! - `verified`: of what its code is a stream, once that is checked, and its instructions.
 //!
 //! An object with `expression` is the text of an expression. Its `ask` is `value`: what the expression prints, if it is
-//! constant, else `-`; or it has `calls`, which the stream of its tokens answers in turn, with a `;` behind each answer. A
+//! constant, else `-`; or `verified`: as of a template; or it has `calls`, which the stream of its tokens answers in turn, with a `;` behind each answer. A
 //! call is one of these, or an array of a word, which it passes where that stands next:
 //!
 //! - `(`, `)`, `factor`, `term`, `dotted`, `keyword`: passes what it says, where that stands next; `text`: the same,
@@ -63,6 +65,7 @@
 #![tactic(auto)]
 
 mod calls;
+mod checked;
 mod code;
 mod fuels;
 mod generated;
@@ -79,6 +82,7 @@ mod trees;
 mod unit_names;
 
 use crate::calls::answers_of_stream;
+use crate::checked::checked_expression;
 use crate::code::{about_code, standing};
 use crate::fuels::tracked;
 use crate::listed::listed;
@@ -157,9 +161,8 @@ fn about_source<'line>(
     let ask = text_in(entries, "ask").unwrap_or("");
     match ask {
         "tokens" | "stream" | "syntax" => about_syntax(alloc, source, ask, entries, out),
-        "code" | "owned" | "blocks" | "runs" | "references" | "numbers" => about_code(
-            alloc, source, ask, out,
-        ),
+        "code" | "owned" | "blocks" | "runs" | "references" | "numbers" | "hint" | "under" =>
+            about_code(alloc, source, ask, out),
         _ => about_template(alloc, source, ask, entries, out),
     }
 }
@@ -192,6 +195,7 @@ fn about_expression(alloc: Global, source: &str, entries: &Map<String, Json>, ou
             answers_of_stream(alloc, source, calls.as_slice(), out)
         }
         (None, Some("value")) => value(alloc, source, out),
+        (None, Some("verified")) => checked_expression(alloc, source, out),
         _ => out.refuse(ErrorKind::SyntaxError),
     }
 }

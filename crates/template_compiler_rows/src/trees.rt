@@ -4,6 +4,7 @@ ghost use Rattle.template_tree_statements.specs.View.{statement_of};
 ghost use Rattle.template_compiler_statement_codegen.specs.Listed.{IsRunnableTree};
 
 use crate::NAME;
+use crate::checked::checked_template;
 use crate::generated::generated;
 use crate::report::Report;
 use crate::unit_names::{closures, write_units};
@@ -18,7 +19,7 @@ use template_tree::Expr;
 use template_tree_statements::Stmt;
 use template_values_errors::{Error, ErrorKind};
 
-/// What is asked of the tree of a template: `names`, `nested`, or what a generator makes of it.
+/// What is asked of the tree of a template: the names in it, or what a generator makes of it.
 pub(crate) fn about_template<'line>(
     alloc: Global,
     source: &'line str,
@@ -56,6 +57,7 @@ fn about_tree<'line>(
 {
     match ask {
         "generated" => generated(alloc, tree, entries, out),
+        "verified" => checked_template(alloc, tree, out),
         "names" => names(alloc, tree, false, out),
         "nested" => names(alloc, tree, true, out),
         "closures" => closures(alloc, tree, out),
