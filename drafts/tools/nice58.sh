@@ -8,5 +8,5 @@ while true; do
     cur=$(ps -o ni= -p $p 2>/dev/null | tr -d ' '); [ "$cur" = "$n" ] || for t in $(ls /proc/$p/task 2>/dev/null); do renice -n $n -p $t >/dev/null 2>&1; done
   done
   for p in $(pgrep -f "bin/rt ci"); do cur=$(ps -o ni= -p $p 2>/dev/null | tr -d " "); [ "$cur" = "-18" ] || for t in $(ls /proc/$p/task 2>/dev/null); do renice -n -18 -p $t >/dev/null 2>&1; done; done
-  sleep 3
+  sleep 4
 done
