@@ -161,13 +161,13 @@ fn bring<E: Made>(
 ) -> Result<(), Error> {
     bring_globals(environment, brings)?;
     for (name, brought) in described(alloc, &brings.filters)? {
-        environment.add_filter(name, E::filter(brought))?;
+        environment.add_filter(name, E::callable(brought))?;
     }
     for (name, brought) in described(alloc, &brings.tests)? {
-        environment.add_test(name, E::function(brought))?;
+        environment.add_test(name, E::callable(brought))?;
     }
     for (name, brought) in described(alloc, &brings.functions)? {
-        environment.add_function(name, E::function(brought))?;
+        environment.add_function(name, E::callable(brought))?;
     }
     for (_name, brought) in described(alloc, &brings.method)? {
         environment.set_unknown_method_callback(E::method(brought));

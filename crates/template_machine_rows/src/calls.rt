@@ -3,7 +3,7 @@ use crate::case::{Call, Case, Source, Subject};
 use crate::invoked::call_all;
 use crate::renders::{tell_captured, tell_render};
 use crate::report::Report;
-use crate::tellings::{tell_globals, tell_new_state, tell_syntax, tell_templates};
+use crate::tellings::{tell_globals, tell_new_state, tell_templates};
 use std::alloc::Global;
 use std::borrow::CowStr;
 use template_callables::Extension;
@@ -24,10 +24,6 @@ pub(crate) fn ask<'line, E: Extension>(
         Call::Globals => {
             drop(context);
             tell_globals(environment, out)
-        }
-        Call::Syntax => {
-            drop(context);
-            tell_syntax(environment.syntax(), out)
         }
         Call::Calls => {
             drop(context);

@@ -143,7 +143,6 @@ pub(crate) enum Call {
     Escape,
     Templates,
     Globals,
-    Syntax,
     /// Calls on a state without a template.
     Calls,
     /// Calls on a new state of the template.
@@ -391,7 +390,6 @@ fn call_of(entries: &Map<String, Json>, out: &mut Report) -> Call {
         Some("initial_auto_escape") => Call::Escape,
         Some("templates") => Call::Templates,
         Some("globals") => Call::Globals,
-        Some("syntax") => Call::Syntax,
         Some(_) => {
             out.refuse(ErrorKind::SyntaxError);
             Call::Usual

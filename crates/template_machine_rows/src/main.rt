@@ -16,10 +16,8 @@
 //!   a function; or namespaces, macros and loops, each an object with such an array under `namespace`, `macro` or `loop`: that
 //!   of a state, and its own;
 //! - `calls`: calls on a state in place of a render, an array of objects: `apply_filter` or `perform_test`, a name, with
-//!   `args`, an array, and so `call_macro`; `lookup`, a name; `get_temp`, a name; `set_temp`, a name, with a `value`; `format` or
-//!   `escape_formatter`, a value; `attribute`, a name, of what stands under the name `of`; `handed`, a name, whose value the
-//!   template `to` is rendered over in another state; `range`, one to three numbers, and
-//!   `dict`, an array of arguments; `render_block`, a name; `get_template`, a name; `current_block`; or `tell`, which tells the state. The state is a new
+//!   `args`, an array, and so `call_macro`; `lookup`, a name; `get_temp`, a name; `set_temp`, a name, with a `value`; `format`, a
+//!   value; `render_block`, a name; `get_template`, a name; `current_block`; or `tell`, which tells the state. The state is a new
 //!   one of the template `main`, where this is named, else one without a template;
 //! - `after`: such calls on the state that a render left;
 //! - `temps`: the names of the temps that are told behind a render, an array of texts;
@@ -31,7 +29,7 @@
 //! - `expression`: an expression that is evaluated in its place;
 //! - `call`: what is asked of the template in place of a render into `room`: `render`, `render_captured`, `states` (a new
 //!   state of it, then one without a template), `undeclared_variables`, `initial_auto_escape` or `templates`; of an
-//!   expression `undeclared_variables` alone; or `globals` or `syntax`, which are asked of the environment;
+//!   expression `undeclared_variables` alone; or `globals`, which is asked of the environment;
 //! - `room`: how many bytes the writer takes that the text goes to, or `null` where it goes nowhere; left out, it goes
 //!   to a text;
 //! - `context`: the context, an object; empty, if left out;
@@ -79,13 +77,12 @@
 //!   of its environment; a value that a state knows may also be `namespace N of M`, `macro N of M` or `loop N of M`, M being the
 //!   number of its state;
 //! - ` temps [name value, name -]` behind that, where temps are asked for, with `-` where there is none; ` after ` and what the
-//!   calls on the state that is left give, where there are such; of `render_captured` ` of N` before that, N being its number;
+//!   calls on the state that is left give, where there are such;
 //! - what each of the calls on a state gives, with `, ` between: a value, a text, `true` or `false`, the name of a template or of
 //!   a block, and `-` where there is no temp or no block;
 //! - `[name, name]` where names are asked for, and two such lists for those that are used: without what stands behind
 //!   dots, then with it;
-//! - `[name "source", name "source"]` for the templates that stand, `[name value, name value]` for the globals, and the
-//!   delimiters of blocks and the prefixes of line statements and line comments, `-` for none, for the syntax;
+//! - `[name "source", name "source"]` for the templates that stand, and `[name value, name value]` for the globals;
 //! - `state N of name, escape Escape, undefined Mode, limit N, exports [name], knows [name value]` for a state, N being
 //!   its number, with `, fuel N + M` before `exports` under a fuel: what was consumed, and what remains;
 //! - `? Kind` where the line is no case.

@@ -1,8 +1,6 @@
 //! What a case may bring, by its types.
 use std::alloc::Global;
-use template_callables::{
-    Either, Extension, NoCallable, NoExtension, NoFormatter, NoJoin, NoMethod,
-};
+use template_callables::{Extension, NoCallable, NoExtension, NoFormatter, NoJoin, NoMethod};
 use template_machine_rows_brought::{Brought, Joined};
 use template_machine_surroundings::{AutoEscapeRule, NoRule};
 use template_values_errors::AutoEscape;
@@ -12,9 +10,7 @@ pub(crate) trait Made: Extension {
     /// The rule that names of fewer bytes are escaped.
     fn shorter_than(length: usize) -> Self::Rule;
 
-    fn filter(brought: Brought) -> Self::Callable;
-
-    fn function(brought: Brought) -> Self::Callable;
+    fn callable(brought: Brought) -> Self::Callable;
 
     fn method(brought: Brought) -> Self::Method;
 
@@ -28,11 +24,7 @@ impl Made for NoExtension {
         NoRule
     }
 
-    fn filter(_brought: Brought) -> NoCallable {
-        NoCallable
-    }
-
-    fn function(_brought: Brought) -> NoCallable {
+    fn callable(_brought: Brought) -> NoCallable {
         NoCallable
     }
 
@@ -49,11 +41,11 @@ impl Made for NoExtension {
     }
 }
 
-/// All that a case may bring; filters are callables of the first type, and tests and functions of the second.
+/// All that a case may bring.
 pub(crate) struct Own;
 
 impl Extension for Own {
-    type Callable = Either<Brought, Brought>;
+    type Callable = Brought;
 
     type Method = Brought;
 
@@ -69,12 +61,8 @@ impl Made for Own {
         ShortNames { length }
     }
 
-    fn filter(brought: Brought) -> Either<Brought, Brought> {
-        Either::First(brought)
-    }
-
-    fn function(brought: Brought) -> Either<Brought, Brought> {
-        Either::Second(brought)
+    fn callable(brought: Brought) -> Brought {
+        brought
     }
 
     fn method(brought: Brought) -> Brought {

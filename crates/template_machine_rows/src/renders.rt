@@ -136,9 +136,6 @@ pub(crate) fn tell_captured<E: Extension>(
     match template.render_captured(ids, context) {
         Ok(captured) => {
             out.quoted(captured.output().as_bytes());
-            if case.after.value_at("it").is_some() {
-                out.tell(" of ", &captured.id());
-            }
             tell_left(captured, case, out);
         }
         Err(error) => out.fault(&error),

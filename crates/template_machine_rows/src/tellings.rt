@@ -2,7 +2,6 @@
 use crate::report::Report;
 use std::collections::BTreeSet;
 use template_callables::Extension;
-use template_compiler_syntax::SyntaxConfig;
 use template_environment::{Environment, State, Template};
 use template_values_core::Value;
 use template_values_errors::Error;
@@ -51,21 +50,6 @@ fn tell_values(globals: &[(&str, &Value)], out: &mut Report) {
         out.value(*value);
     }
     out.push(']');
-}
-
-/// The delimiters of blocks, and the prefixes of line statements and line comments.
-pub(crate) fn tell_syntax(syntax: &SyntaxConfig, out: &mut Report) {
-    let (start, end) = syntax.block_delimiters();
-    out.push_str(start);
-    out.push(' ');
-    out.push_str(end);
-    tell_prefix(syntax.line_statement_prefix(), out);
-    tell_prefix(syntax.line_comment_prefix(), out);
-}
-
-fn tell_prefix(prefix: Option<&str>, out: &mut Report) {
-    out.push(' ');
-    out.push_str(prefix.unwrap_or("-"));
 }
 
 /// What a state tells, or why there is none.
