@@ -1,15 +1,11 @@
 //! A user's own filter, function and test, and methods of values: they are called from a template, and the filter from a state
 //! too. What the filter makes of a text is proved.
-#![tactic(auto)]
-
-mod callables;
-
 ghost use Rattle.std.specs.Prelude.{◌≡◌, ◌++◌, IfOk, codes};
 ghost use Rattle.template_values.specs.Val as values;
 ghost use Rattle.template_machine.specs.Reading.{extras_of};
-ghost use Rattle.template_example_callables.specs.Labels.{Labels};
+ghost use Rattle.template_example.specs.Labels.{Labels};
 
-use callables::{Cheap, FilterMethods, Label, Link, Own, Shop};
+use crate::callables::{Cheap, FilterMethods, Label, Link, Own, Shop};
 use std::alloc::Global;
 use template_machine::{Environment, Error, StateIds, Value, context_from_json};
 
@@ -20,13 +16,14 @@ const PAGE: &str = "{% for item in items %}\
 const CONTEXT: &[u8] =
     b"{\"farewell\": \"Bye\", \"items\": [{\"name\": \"Lamp\", \"page\": \"/lamp\", \"price\": 20}, {\"name\": \"Desk\", \"page\": \"/desk\", \"price\": 120}]}";
 
-fn main(rt: HostRuntime) -> anyhow::Result<()> {
+/// Prints a page and a label of the shop, and what the page comes to once its filter is gone.
+pub fn run(rt: &HostRuntime) -> anyhow::Result<()> {
     let mut ids = StateIds::new(0);
     let mut environment = open_shop(rt.alloc(), &mut ids)?;
-    print_page(&rt, &environment, &mut ids)?;
-    print_label(&rt, &environment, &mut ids)?;
+    print_page(rt, &environment, &mut ids)?;
+    print_label(rt, &environment, &mut ids)?;
     close_shop(&mut environment);
-    print_page(&rt, &environment, &mut ids)
+    print_page(rt, &environment, &mut ids)
 }
 
 // An environment with a page and the shop's own.

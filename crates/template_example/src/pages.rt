@@ -1,5 +1,4 @@
 //! Rendered pages that are kept: a page is rendered anew only where the context differs at a name that can matter to it.
-#![tactic(auto)]
 
 use std::alloc::Global;
 use std::collections::{BTreeMap, BTreeSet};
@@ -17,12 +16,13 @@ const REQUESTS: [&[u8]; 4] = [
     b"{\"title\": \"Lamp\", \"price\": 20, \"visitor\": 4}",
 ];
 
-fn main(rt: HostRuntime) -> anyhow::Result<()> {
+/// Prints the page for each request, and whether it was kept.
+pub fn run(rt: &HostRuntime) -> anyhow::Result<()> {
     let mut ids = StateIds::new(0);
     let mut environment = Environment::new(rt.alloc(), &mut ids)?;
     environment.add_template("price.html", PRICE)?;
     environment.add_template("page.html", PAGE)?;
-    answer_all(&rt, &environment, &mut ids)
+    answer_all(rt, &environment, &mut ids)
 }
 
 fn answer_all(

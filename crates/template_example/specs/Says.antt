@@ -7,12 +7,12 @@ use Rattle.template_values.specs.Answers.{text_in}
 use Rattle.template_values.specs.Fault.{Fault, kind_of, invalid_operation, missing_argument}
 use Rattle.template_values.specs.Keywords.{keywords, argument}
 use Rattle.template_machine.specs.Callables.{View, Stated, finishes, refuses, goes_on, Says, filter}
-use Rattle.template_example_callables.specs.declared.callables.Cheap.{Cheap}
-use Rattle.template_example_callables.specs.declared.callables.FilterMethods.{FilterMethods}
-use Rattle.template_example_callables.specs.declared.callables.Label.{Label}
-use Rattle.template_example_callables.specs.declared.callables.Link.{Link}
-use Rattle.template_example_callables.specs.declared.callables.Own.{Own}
-use Rattle.template_example_callables.specs.declared.callables.Own.TheVariants as owns
+use Rattle.template_example.specs.declared.callables.Cheap.{Cheap}
+use Rattle.template_example.specs.declared.callables.FilterMethods.{FilterMethods}
+use Rattle.template_example.specs.declared.callables.Label.{Label}
+use Rattle.template_example.specs.declared.callables.Link.{Link}
+use Rattle.template_example.specs.declared.callables.Own.{Own}
+use Rattle.template_example.specs.declared.callables.Own.TheVariants as owns
 
 -- a text behind the prefix
 abbrev pub labelled : List ℕ → Option (List ℕ) → Stated

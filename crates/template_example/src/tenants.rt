@@ -1,6 +1,5 @@
 //! One environment and two tenants, each with a fuel of its own: each report is written into a writer as it comes, and stops where
 //! its tenant's fuel ends.
-#![tactic(auto)]
 
 use template_machine::{Environment, Error, ErrorKind, StateIds, WriteWrapper, context_from_json};
 
@@ -23,12 +22,13 @@ const LARGE: Tenant = Tenant {
     context: b"{\"title\": \"South\", \"orders\": [{\"count\": 4, \"what\": \"chairs\"}, {\"count\": 1, \"what\": \"table\"}]}",
 };
 
-fn main(rt: HostRuntime) -> anyhow::Result<()> {
+/// Prints the report of each tenant, and what it took.
+pub fn run(rt: &HostRuntime) -> anyhow::Result<()> {
     let mut ids = StateIds::new(0);
     let mut environment = Environment::new(rt.alloc(), &mut ids)?;
     environment.add_template("report.txt", REPORT)?;
-    report(&rt, &mut environment, &mut ids, &SMALL)?;
-    report(&rt, &mut environment, &mut ids, &LARGE)
+    report(rt, &mut environment, &mut ids, &SMALL)?;
+    report(rt, &mut environment, &mut ids, &LARGE)
 }
 
 // Writes the report of a tenant to standard output, and tells what it took.

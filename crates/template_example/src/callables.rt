@@ -6,7 +6,7 @@ ghost use Rattle.template_values.specs.Memory.{NoMemory};
 ghost use Rattle.template_values.specs.Val as values;
 ghost use Rattle.template_machine.specs.CallableAnswers.{asked_by};
 ghost use Rattle.template_machine.specs.Callables.{filter};
-ghost use Rattle.template_example_callables.specs.Says as says;
+ghost use Rattle.template_example.specs.Says as says;
 
 use std::alloc::Global;
 use template_machine::{

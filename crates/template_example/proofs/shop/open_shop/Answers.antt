@@ -1,6 +1,6 @@
 use Rattle.std.proofs.Common.{◌∙◌, ap, codes}
 use Rattle.template_machine.specs.Extras.{Extras}
-use Rattle.template_example_callables.proofs.open_shop.Goals as goal
+use Rattle.template_example.proofs.shop.open_shop.Goals as goal
 
 -- what comes behind the filter leaves it
 pub returns : goal.returns

@@ -9,12 +9,12 @@ use Rattle.template_machine.specs.Joins.{keeps_name}
 use Rattle.template_machine.specs.Reading.{extras_of}
 use Rattle.template_machine.specs.States.{around_in, environment_in, world_in}
 use Rattle.template_machine.specs.declared.Environment.{Environment}
-use Rattle.template_example_callables.specs.Says.{labelled, methods_say, own_says}
-use Rattle.template_example_callables.specs.declared.callables.FilterMethods.{FilterMethods}
-use Rattle.template_example_callables.specs.declared.callables.Own.{Own}
-use Rattle.template_example_callables.specs.declared.callables.Own.TheVariants as owns
-use Rattle.template_example_callables.proofs.Labels.{call_gives, call_tells}
-use Rattle.template_example_callables.proofs.labelled.Goals as goal
+use Rattle.template_example.specs.Says.{labelled, methods_say, own_says}
+use Rattle.template_example.specs.declared.callables.FilterMethods.{FilterMethods}
+use Rattle.template_example.specs.declared.callables.Own.{Own}
+use Rattle.template_example.specs.declared.callables.Own.TheVariants as owns
+use Rattle.template_example.proofs.Labels.{call_gives, call_tells}
+use Rattle.template_example.proofs.shop.labelled.Goals as goal
 
 -- what each of them answers, where nothing says how values are printed, and which templates are meant
 abbrev shop_says : {F J : Type 0} → UserAnswers Own FilterMethods F J
