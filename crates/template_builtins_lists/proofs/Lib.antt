@@ -1,0 +1,3 @@
+pub mod Counting
+pub mod Joining
+pub mod Pairing

@@ -1,0 +1,4 @@
+pub mod Counts
+pub mod Filters
+pub mod Joins
+pub mod Lists
