@@ -1,0 +1,5 @@
+pub mod Ends
+pub mod Entries
+pub mod Equals
+pub mod Stable
+pub mod Steps
