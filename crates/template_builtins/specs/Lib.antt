@@ -1,0 +1,2 @@
+pub mod Installed
+pub mod Brought
