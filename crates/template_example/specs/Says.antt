@@ -7,6 +7,7 @@ use Rattle.template_values.specs.Answers.{text_in}
 use Rattle.template_values.specs.Fault.{Fault, kind_of, invalid_operation, missing_argument}
 use Rattle.template_values.specs.Keywords.{keywords, argument}
 use Rattle.template_machine.specs.Callables.{View, Stated, finishes, refuses, goes_on, Says, filter}
+use Rattle.template_builtins_callables.specs.Says.{builtin_says}
 use Rattle.template_example.specs.declared.callables.Cheap.{Cheap}
 use Rattle.template_example.specs.declared.callables.FilterMethods.{FilterMethods}
 use Rattle.template_example.specs.declared.callables.Label.{Label}
@@ -58,6 +59,7 @@ cheap_says cheap view [] = refuses (MissingArgument ∷ [])
 
 -- each of them
 abbrev pub own_says : Own → Says
+own_says (owns.Builtin builtin) = builtin_says builtin
 own_says (owns.Label label) = label_says label
 own_says (owns.Link link) = link_says link
 own_says (owns.Cheap cheap) = cheap_says cheap

@@ -9,6 +9,7 @@ ghost use Rattle.template_machine.specs.Callables.{filter};
 ghost use Rattle.template_example.specs.Says as says;
 
 use std::alloc::Global;
+use template_builtins::Builtin;
 use template_machine::{
     Answer, CallView, Callable, Content, Error, ErrorKind, Extension, Further, NoFormatter, NoJoin,
     NoRule, UnknownMethod, Value,
@@ -30,12 +31,25 @@ impl Extension for Shop {
     type Rule = NoRule;
 }
 
-/// A filter, a function or a test.
+/// A filter, a function or a test, or a builtin.
 #[derive(Drop)]
 pub enum Own {
+    Builtin(Builtin),
     Label(Label),
     Link(Link),
     Cheap(Cheap),
+}
+
+/// By this the builtins are installed beside the shop's own.
+impl From<Builtin> for Own {
+    ghost use Rattle.std.specs.Prelude.{◌≡◌};
+    ghost use Rattle.template_example.specs.declared.callables.Own.TheVariants as owns;
+
+    ghost from_gives = { λ builtin own. own ≡ owns.Builtin builtin };
+
+    fn from(builtin: Builtin) -> Own {
+        Own::Builtin(builtin)
+    }
 }
 
 impl Callable for Own {
@@ -43,6 +57,7 @@ impl Callable for Own {
 
     fn invoke(&self, view: &CallView<'_>, args: &[Value]) -> Answer {
         match self {
+            Own::Builtin(builtin) => builtin.invoke(view, args),
             Own::Label(label) => label.invoke(view, args),
             Own::Link(link) => link.invoke(view, args),
             Own::Cheap(cheap) => cheap.invoke(view, args),

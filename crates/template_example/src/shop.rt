@@ -1,5 +1,5 @@
-//! A user's own filter, function and test, and methods of values: they are called from a template, and the filter from a state
-//! too. What the filter makes of a text is proved.
+//! A user's own filter, function and test, and methods of values, beside the builtin filters: they are called from a template, and
+//! the filter from a state too. What the filter makes of a text is proved.
 ghost use Rattle.std.specs.Prelude.{◌≡◌, ◌++◌, IfOk, codes};
 ghost use Rattle.template_values.specs.Val as values;
 ghost use Rattle.template_machine.specs.Reading.{extras_of};
@@ -7,9 +7,11 @@ ghost use Rattle.template_example.specs.Labels.{Labels};
 
 use crate::callables::{Cheap, FilterMethods, Label, Link, Own, Shop};
 use std::alloc::Global;
+use template_builtins::install;
 use template_machine::{Environment, Error, StateIds, Value, context_from_json};
 
-const PAGE: &str = "{% for item in items %}\
+const PAGE: &str = "{{ items|map(attribute='name')|sort|join(', ') }}\n\
+    {% for item in items %}\
     {{ link(item.name, to=item.page) }} {{ item.price }}{% if item.price is cheap %} {{ 'today'|label }}{% endif %}\n\
     {% endfor %}{{ farewell.label() }}";
 
@@ -26,7 +28,7 @@ pub fn run(rt: &HostRuntime) -> anyhow::Result<()> {
     print_page(rt, &environment, &mut ids)
 }
 
-// An environment with a page and the shop's own.
+// An environment with a page, the builtins and the shop's own.
 fn open_shop<'source>(
     alloc: Global,
     ids: &mut StateIds,
@@ -35,6 +37,7 @@ fn open_shop<'source>(
 {
     let mut environment: Environment<'source, Shop> = Environment::extended(alloc, ids)?;
     environment.add_template("page.txt", PAGE)?;
+    install(alloc, &mut environment)?;
     let prefix = String::from_str(alloc, "sale: ")?;
     environment.add_filter("label", Own::Label(Label { alloc, prefix }))?;
     environment.add_function("link", Own::Link(Link { alloc }))?;
@@ -43,7 +46,7 @@ fn open_shop<'source>(
     Ok(environment)
 }
 
-// No filter is left.
+// The shop's filter is gone.
 fn close_shop(environment: &mut Environment<'_, Shop>) {
     environment.remove_filter("label");
 }
