@@ -3,13 +3,14 @@ ghost use Rattle.std.specs.Prelude.{◌≡◌, ℕ, List, min};
 ghost use Rattle.template_environment.specs.Reading.{extras_of, registry_of};
 ghost use Rattle.template_environment.specs.Standing.{greatest_limit, settings_of, source_at};
 
+use template_callables::Extension;
 use template_environment::Environment;
 use template_values_errors::UndefinedBehavior;
 
 /// Sets what the renders of an environment keep to: their fuel, if any, how deep they may be, and what may be done with
 /// undefined values. All else stays.
-pub fn set_bounds(
-    environment: &mut Environment<'_>,
+pub fn set_bounds<E: Extension>(
+    environment: &mut Environment<'_, E>,
     fuel: Option<u64>,
     limit: usize,
     undefined: UndefinedBehavior,

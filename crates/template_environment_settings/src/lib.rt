@@ -1,8 +1,8 @@
 //! The laws of what an environment is for its renders: the sources that stand under names, the globals, what its user brought, the
 //! limit and what undefined values may do are all that they see of it. So histories of changes that agree on each name come to
 //! environments where each template renders to the same. The functions of this crate do nothing: each stands for the law in its
-//! contract; save the one that sets what renders keep to. Environments, templates and the laws that renders end, and that nothing
-//! asks for names where nothing of a user's own can be brought, are passed on, so that programs name this crate alone.
+//! contract; save the one that sets what renders keep to. Environments, templates and the law that renders end are passed on, so
+//! that programs name this crate alone.
 #![tactic(auto)]
 
 ghost use Rattle.template_environment.specs.Extras.{user_answers};
@@ -13,7 +13,7 @@ mod bounds;
 
 pub use bounds::set_bounds;
 use template_callables::Extension;
-pub use template_environment::{Environment, Template, every_render_ends, none_ask_names};
+pub use template_environment::{Environment, Template, every_render_ends};
 
 /// Environments where the same sources stand under the names, and that have the same globals, are answered the same where they ask
 /// what their users brought, keep to the same limit and let undefined values do the same, give their renders one setting. An

@@ -10,18 +10,18 @@ use Rattle.template_values_model.specs.Val.{Val}
 use Rattle.template_process.specs.Approximants.{IsFinished}
 use Rattle.template_process.specs.Fuel.{IsSameRun, under}
 use Rattle.template_process.specs.Trace.{Item, Run, text_of}
-use Rattle.template_machine_meaning.proofs.Isolated.{no_callables_ask}
 use Rattle.template_machine_meaning.specs.Meaning.{Standing, rendered}
 use Rattle.template_machine_meaning.specs.World.{World}
 use Rattle.template_environment.proofs.Importing.{source_imports, standing_import}
-use Rattle.template_environment_settings.specs.Extras.{nothing_brought}
-use Rattle.template_environment_settings.specs.Isolation.{AgreesAt, ImportsNames, IsolatesNames}
+use Rattle.template_environment_settings.specs.Extras.{Brought}
+use Rattle.template_environment_settings.specs.Isolation.{AgreesAt, AskNoNames, ImportsNames, IsolatesNames}
 use Rattle.template_environment_settings.specs.Plain.{IsRefusedForRoom}
 use Rattle.template_environment_settings.specs.Renderings.{Renders}
 use Rattle.template_environment_settings.specs.Registry.{Registry}
+use Rattle.template_environment_settings.specs.Standing.{setting_of}
 use Rattle.template_program_run.specs.Additions.{IsRefusedAddition, RefusesOne}
-use Rattle.template_program_run.specs.Answers.{HasNames, IsTemplateOf, IsUntouched, Performed, Rendered, TellsNames, definitions_of}
-use Rattle.template_program_run.specs.Environments.{IsMade, plain_setting}
+use Rattle.template_program_run.specs.Answers.{AnswersWith, HasNames, IsTemplateOf, IsUntouched, Performed, Rendered, TellsNames, definitions_of}
+use Rattle.template_program_run.specs.Environments.{IsMade}
 use Rattle.template_program_run.specs.History.{source_for, standing}
 use Rattle.template_program_run.specs.Ids.{IsLastId}
 use Rattle.template_program_run.specs.Lines.{lines_of}
@@ -30,7 +30,7 @@ use Rattle.template_program_parts.specs.declared.outcome.Outcome.TheVariants.{Do
 use Rattle.template_program_parts.specs.declared.command.Command.{Command}
 use Rattle.template_program_parts.specs.declared.command.Command.TheVariants as asked
 use Rattle.template_program_run.specs.declared.request.Request.{Request}
-use Rattle.template_program_answers.specs.Law.{Answer, AreAlike, IsUnwanting, OneAnswer, TellsWant}
+use Rattle.template_program_answers.specs.Law.{Answer, AreAlike, IsUnwanting, TellsWant}
 use Rattle.template_program_answers.proofs.Contexts.{agree_everywhere, one_refusal, refused_or_had}
 use Rattle.template_program_answers.proofs.Refusals.{all_or_refused, same_refused}
 use Rattle.template_program_answers.proofs.Renders.{IsWhole, one_end, quiet_render, whole_render}
@@ -96,59 +96,61 @@ template_imports : (name text : List ℕ) (t : Standing) → IsTemplateOf name t
 template_imports name text t is = subst ImportsNames (sym is.tree) (source_imports (source_for text))
 
 -- two renders of one template over contexts that agree, in states of one number
-renders_alike : IsolatesNames → (request : Request) (additions : List (List ℕ × List ℕ)) (a b : Answer) (e f : Registry)
+renders_alike : IsolatesNames → (k : Brought) → AskNoNames k.callables
+    → (request : Request) (additions : List (List ℕ × List ℕ)) (a b : Answer) (e f : Registry)
     → IsMade request additions a.next e → IsMade request additions b.next f → (t u : Standing) → ImportsNames t.tree → t ≡ u
     → (c d : Val) → ((name : List ℕ) → AgreesAt c d name)
-    → Rendered e t c (a.next + 1) a.outcome a.before a.after a.failed a.fails
-    → Rendered f u d (b.next + 1) b.outcome b.before b.after b.failed b.fails
+    → Rendered k e t c (a.next + 1) a.outcome a.before a.after a.failed a.fails
+    → Rendered k f u d (b.next + 1) b.outcome b.before b.after b.failed b.fails
     → a.next ≡ b.next → IsUnwanting a → IsUnwanting b → AreAlike a b
-renders_alike isolates request additions a b e f made more t u imports standing c d agree one other next ua ub =
+renders_alike isolates k ask request additions a b e f made more t u imports standing c d agree one other next ua ub =
     let ra = one.1 ua.second_id in
     let rb = other.1 ub.second_id in
     let id = a.next + 1 in
     let n = ra.2.finished.0 in
     let too = of_number request additions f (sym next) more in
-    let setting = one_setting request additions a.next e f made too in
+    let setting = one_setting k request additions a.next e f made too in
     let fuel = one_fuel request additions a.next e f made too in
-    let isolated = isolates (plain_setting e) no_callables_ask (standing_import nothing_brought e) id t imports c d (λ name can_matter. agree name) n in
-    let there : rendered (plain_setting e) id n t d ≡ rendered (plain_setting f) (b.next + 1) n u d =
+    let isolated = isolates (setting_of k e) ask (standing_import k e) id t imports c d (λ name can_matter. agree name) n in
+    let there : rendered (setting_of k e) id n t d ≡ rendered (setting_of k f) (b.next + 1) n u d =
     λ i. rendered (setting i) (next i + 1) n (standing i) d in
-    let finished : IsFinished (rendered (plain_setting f) (b.next + 1) n u d).end =
+    let finished : IsFinished (rendered (setting_of k f) (b.next + 1) n u d).end =
     subst (λ (r : Run World). IsFinished r.end) there (subst IsFinished (isolated None).1 ra.2.finished.1) in
-    let front : Renders ra.0 a.before a.after a.failed a.fails (under e.fuel (rendered (plain_setting e) id n t c)) = ra.2.renders n ra.2.finished.1 in
-    let back : Renders rb.0 b.before b.after b.failed b.fails (under e.fuel (rendered (plain_setting e) id n t d)) =
+    let front : Renders ra.0 a.before a.after a.failed a.fails (under e.fuel (rendered (setting_of k e) id n t c)) = ra.2.renders n ra.2.finished.1 in
+    let back : Renders rb.0 b.before b.after b.failed b.fails (under e.fuel (rendered (setting_of k e) id n t d)) =
     subst (λ (r : Run World). Renders rb.0 b.before b.after b.failed b.fails r) (sym (λ i. under (fuel i) (there i))) (rb.2.renders n finished) in
-    rendered_alike a b (under e.fuel (rendered (plain_setting e) id n t c)) (under e.fuel (rendered (plain_setting e) id n t d)) (isolated e.fuel)
-    (whole_render a.outcome ra.0 a.before a.after a.failed a.fails (under e.fuel (rendered (plain_setting e) id n t c)) ra.1 ua.unwanted front)
-    (whole_render b.outcome rb.0 b.before b.after b.failed b.fails (under e.fuel (rendered (plain_setting e) id n t d)) rb.1 ub.unwanted back)
-    (quiet_render a.outcome ra.0 a.before a.after a.failed a.fails (under e.fuel (rendered (plain_setting e) id n t c)) ra.1 ua.unwanted front)
-    (quiet_render b.outcome rb.0 b.before b.after b.failed b.fails (under e.fuel (rendered (plain_setting e) id n t d)) rb.1 ub.unwanted back)
+    rendered_alike a b (under e.fuel (rendered (setting_of k e) id n t c)) (under e.fuel (rendered (setting_of k e) id n t d)) (isolated e.fuel)
+    (whole_render a.outcome ra.0 a.before a.after a.failed a.fails (under e.fuel (rendered (setting_of k e) id n t c)) ra.1 ua.unwanted front)
+    (whole_render b.outcome rb.0 b.before b.after b.failed b.fails (under e.fuel (rendered (setting_of k e) id n t d)) rb.1 ub.unwanted back)
+    (quiet_render a.outcome ra.0 a.before a.after a.failed a.fails (under e.fuel (rendered (setting_of k e) id n t c)) ra.1 ua.unwanted front)
+    (quiet_render b.outcome rb.0 b.before b.after b.failed b.fails (under e.fuel (rendered (setting_of k e) id n t d)) rb.1 ub.unwanted back)
 
 -- names that are told
-record IsTold (e : Registry) (t : Standing) (outcome : Outcome) (before after : Option (List ℕ)) (failed fails : ℕ) : Type 0 where
+record IsTold (k : Brought) (e : Registry) (t : Standing) (outcome : Outcome) (before after : Option (List ℕ)) (failed fails : ℕ)
+    : Type 0 where
   pub done : outcome ≡ Done
   pub names : BTreeSet (String Global)
-  pub has : HasNames e t names
+  pub has : HasNames k e t names
   pub text : Appends before after (lines_of names.keys)
   pub quiet : fails ≡ failed
 
-told : (e : Registry) (t : Standing) (outcome : Outcome) (before after : Option (List ℕ)) (failed fails : ℕ)
-    → TellsNames e t outcome before after failed fails → ¬ TellsWant outcome → IsTold e t outcome before after failed fails
-told e t Done before after failed fails tells room =
+told : (k : Brought) (e : Registry) (t : Standing) (outcome : Outcome) (before after : Option (List ℕ)) (failed fails : ℕ)
+    → TellsNames k e t outcome before after failed fails → ¬ TellsWant outcome → IsTold k e t outcome before after failed fails
+told k e t Done before after failed fails tells room =
     record { done = refl; names = tells.0; has = tells.1; text = tells.2; quiet = tells.3 }
-told e t (Render kinds) before after failed fails tells room = absurd (room tells.2)
-told e t (Context kinds) before after failed fails tells room = absurd tells
-told e t (Template kinds) before after failed fails tells room = absurd (room (inr tells.0))
+told k e t (Render kinds) before after failed fails tells room = absurd (room tells.2)
+told k e t (Context kinds) before after failed fails tells room = absurd tells
+told k e t (Template kinds) before after failed fails tells room = absurd (room (inr tells.0))
 
 -- two tellings of the names of one template
-tells_alike : (request : Request) (additions : List (List ℕ × List ℕ)) (a b : Answer) (e f : Registry)
+tells_alike : (k : Brought) (request : Request) (additions : List (List ℕ × List ℕ)) (a b : Answer) (e f : Registry)
     → IsMade request additions a.next e → IsMade request additions b.next f → a.next ≡ b.next → (t u : Standing) → t ≡ u
-    → IsTold e t a.outcome a.before a.after a.failed a.fails → IsTold f u b.outcome b.before b.after b.failed b.fails → AreAlike a b
-tells_alike request additions a b e f made more next t u standing one other =
-    let setting = one_setting request additions a.next e f made (of_number request additions f (sym next) more) in
+    → IsTold k e t a.outcome a.before a.after a.failed a.fails → IsTold k f u b.outcome b.before b.after b.failed b.fails → AreAlike a b
+tells_alike k request additions a b e f made more next t u standing one other =
+    let setting = one_setting k request additions a.next e f made (of_number request additions f (sym next) more) in
     let lines : lines_of one.names.keys ≡ lines_of other.names.keys =
     same_lines one.names other.names one.has.0 other.has.0
-    (same_sets (plain_setting e) (plain_setting f) t u setting standing one.names other.names one.has.1 other.has.1) in
+    (same_sets (setting_of k e) (setting_of k f) t u setting standing one.names other.names one.has.1 other.has.1) in
     record {
       end = one.done ∙ sym other.done;
       write = (
@@ -163,48 +165,53 @@ tells_alike request additions a b e f made more next t u standing one other =
     }
 
 -- what is done with the main template
-performed_alike : IsolatesNames → (command : Command) (request : Request) (additions : List (List ℕ × List ℕ)) (json : Option (List ℕ)) (a b : Answer)
-    → Performed command request additions json a.next a.outcome a.before a.after a.failed a.fails
-    → Performed command request additions json b.next b.outcome b.before b.after b.failed b.fails
+performed_alike : IsolatesNames → (k : Brought) → AskNoNames k.callables
+    → (command : Command) (request : Request) (additions : List (List ℕ × List ℕ)) (json : Option (List ℕ)) (a b : Answer)
+    → Performed k command request additions json a.next a.outcome a.before a.after a.failed a.fails
+    → Performed k command request additions json b.next b.outcome b.before b.after b.failed b.fails
     → a.next ≡ b.next → IsUnwanting a → IsUnwanting b → AreAlike a b
-performed_alike isolates asked.Render request additions json a b p q next ua ub =
+performed_alike isolates k ask asked.Render request additions json a b p q next ua ub =
     let main = string_bytes request.main in
     let template = one_template main p.2.0 q.2.0 p.2.2.0 q.2.2.0 (same_Some _ _ (sym p.2.1 ∙ q.2.1)) p.2.2.1 q.2.2.1 in
     let one = p.2.2.2 in
     let other = q.2.2.2 in
-    renders_alike isolates request additions a b p.0 q.0 p.1 q.1 p.2.2.0 q.2.2.0 (template_imports main p.2.0 p.2.2.0 p.2.2.1) template one.0 other.0
+    renders_alike isolates k ask request additions a b p.0 q.0 p.1 q.1 p.2.2.0 q.2.2.0 (template_imports main p.2.0 p.2.2.0 p.2.2.1) template
+    one.0 other.0
     (agree_everywhere json (definitions_of request) one.0 other.0 one.1 other.1) one.2 other.2 next ua ub
-performed_alike isolates asked.Names request additions json a b p q next ua ub =
+performed_alike isolates k ask asked.Names request additions json a b p q next ua ub =
     let main = string_bytes request.main in
     let template = one_template main p.2.0 q.2.0 p.2.2.0 q.2.2.0 (same_Some _ _ (sym p.2.1 ∙ q.2.1)) p.2.2.1 q.2.2.1 in
-    tells_alike request additions a b p.0 q.0 p.1 q.1 next p.2.2.0 q.2.2.0 template
-    (told p.0 p.2.2.0 a.outcome a.before a.after a.failed a.fails p.2.2.2 ua.unwanted)
-    (told q.0 q.2.2.0 b.outcome b.before b.after b.failed b.fails q.2.2.2 ub.unwanted)
+    tells_alike k request additions a b p.0 q.0 p.1 q.1 next p.2.2.0 q.2.2.0 template
+    (told k p.0 p.2.2.0 a.outcome a.before a.after a.failed a.fails p.2.2.2 ua.unwanted)
+    (told k q.0 q.2.2.0 b.outcome b.before b.after b.failed b.fails q.2.2.2 ub.unwanted)
 
-pub one_answer : IsolatesNames → OneAnswer
-one_answer isolates request additions json a b (inl p) (inl q) same_id ua ub =
+pub one_answer : IsolatesNames → (k : Brought) → AskNoNames k.callables → (request : Request) (additions : List (List ℕ × List ℕ))
+    (json : Option (List ℕ)) (a b : Answer) → AnswersWith k request additions json a.next a.outcome a.before a.after a.failed a.fails
+    → AnswersWith k request additions json b.next b.outcome b.before b.after b.failed b.fails → a.next ≡ b.next
+    → IsUnwanting a → IsUnwanting b → AreAlike a b
+one_answer isolates k ask request additions json a b (inl p) (inl q) same_id ua ub =
     let same = one_refusal request.command json p.0 q.0 p.2 q.2 (unwanted a ua (Context p.0) p.1) (unwanted b ub (Context q.0) q.1) in
     nothing_written a b (p.1 ∙ ap (λ (ks : List ErrorKind). Context ks) same ∙ sym q.1) p.3 q.3
-one_answer isolates request additions json a b (inl p) (inr (had, q)) same_id ua ub =
+one_answer isolates k ask request additions json a b (inl p) (inr (had, q)) same_id ua ub =
     absurd (refused_or_had request.command json (definitions_of request) p.0 had.0 p.2 (unwanted a ua (Context p.0) p.1) had.1)
-one_answer isolates request additions json a b (inr (had, p)) (inl q) same_id ua ub =
+one_answer isolates k ask request additions json a b (inr (had, p)) (inl q) same_id ua ub =
     absurd (refused_or_had request.command json (definitions_of request) q.0 had.0 q.2 (unwanted b ub (Context q.0) q.1) had.1)
-one_answer isolates request additions json a b (inr (had, inl p)) (inr (has, inl q)) same_id ua ub =
+one_answer isolates k ask request additions json a b (inr (had, inl p)) (inr (has, inl q)) same_id ua ub =
     let room = unwanted a ua (Template p.0) p.1 in
     let more = unwanted b ub (Template q.0) q.1 in
     let same = same_refused additions p.0 q.0 (refuses additions a.next p.0 p.2 ua.first_id room) (refuses additions b.next q.0 q.2 ub.first_id more) room more in
     nothing_written a b (p.1 ∙ ap (λ (ks : List ErrorKind). Template ks) same ∙ sym q.1) p.3 q.3
-one_answer isolates request additions json a b (inr (had, inl p)) (inr (has, inr q)) same_id ua ub =
+one_answer isolates k ask request additions json a b (inr (had, inl p)) (inr (has, inr q)) same_id ua ub =
     let room = unwanted a ua (Template p.0) p.1 in
     absurd (all_or_refused additions p.0 (refuses additions a.next p.0 p.2 ua.first_id room) room q.1)
-one_answer isolates request additions json a b (inr (had, inr p)) (inr (has, inl q)) same_id ua ub =
+one_answer isolates k ask request additions json a b (inr (had, inr p)) (inr (has, inl q)) same_id ua ub =
     let room = unwanted b ub (Template q.0) q.1 in
     absurd (all_or_refused additions q.0 (refuses additions b.next q.0 q.2 ub.first_id room) room p.1)
-one_answer isolates request additions json a b (inr (had, inr (first, all, inl p))) (inr (has, inr (next, each, inl q))) same_id ua ub =
+one_answer isolates k ask request additions json a b (inr (had, inr (first, all, inl p))) (inr (has, inr (next, each, inl q))) same_id ua ub =
     nothing_written a b (p.0 ∙ sym q.0) p.2 q.2
-one_answer isolates request additions json a b (inr (had, inr (first, all, inl p))) (inr (has, inr (next, each, inr q))) same_id ua ub =
+one_answer isolates k ask request additions json a b (inr (had, inr (first, all, inl p))) (inr (has, inr (next, each, inr q))) same_id ua ub =
     absurd (none-some _ (sym p.1 ∙ q.2.1))
-one_answer isolates request additions json a b (inr (had, inr (first, all, inr p))) (inr (has, inr (next, each, inl q))) same_id ua ub =
+one_answer isolates k ask request additions json a b (inr (had, inr (first, all, inr p))) (inr (has, inr (next, each, inl q))) same_id ua ub =
     absurd (none-some _ (sym q.1 ∙ p.2.1))
-one_answer isolates request additions json a b (inr (had, inr (first, all, inr p))) (inr (has, inr (next, each, inr q))) same_id ua ub =
-    performed_alike isolates request.command request additions json a b p q same_id ua ub
+one_answer isolates k ask request additions json a b (inr (had, inr (first, all, inr p))) (inr (has, inr (next, each, inr q))) same_id ua ub =
+    performed_alike isolates k ask request.command request additions json a b p q same_id ua ub

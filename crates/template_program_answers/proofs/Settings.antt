@@ -5,19 +5,20 @@ use Rattle.std.specs.Prelude.{String}
 use Rattle.std.specs.declared.alloc.Global.{Global}
 use Rattle.template_machine_surroundings.proofs.OneRule.{one_rule}
 use Rattle.template_machine_meaning.specs.Meaning.{Setting, Standing}
-use Rattle.template_environment_settings.specs.Extras.{nothing_brought}
+use Rattle.template_environment_settings.specs.Extras.{Brought}
 use Rattle.template_environment_settings.specs.Isolation.{IsContextName}
 use Rattle.template_environment_settings.specs.Sources.{tree_in}
 use Rattle.template_environment_settings.specs.Registry.{Registry}
+use Rattle.template_environment_settings.specs.Standing.{setting_of}
 use Rattle.template_environment_settings.proofs.Settings as settings
 use Rattle.template_program_run.specs.Answers.{IsTemplateOf}
-use Rattle.template_program_run.specs.Environments.{IsMade, plain_setting}
+use Rattle.template_program_run.specs.Environments.{IsMade}
 use Rattle.template_program_run.specs.History.{source_for}
 use Rattle.template_program_run.specs.declared.request.Request.{Request}
 
-pub one_setting : (request : Request) (additions : List (List ℕ × List ℕ)) (id : ℕ) (e other : Registry) → IsMade request additions id e
-    → IsMade request additions id other → plain_setting e ≡ plain_setting other
-one_setting request additions id e other made more = settings.one_setting nothing_brought nothing_brought e other (record {
+pub one_setting : (k : Brought) (request : Request) (additions : List (List ℕ × List ℕ)) (id : ℕ) (e other : Registry)
+    → IsMade request additions id e → IsMade request additions id other → setting_of k e ≡ setting_of k other
+one_setting k request additions id e other made more = settings.one_setting k k e other (record {
   sources = λ name. made.sources name ∙ sym (more.sources name);
   globals = made.settings.globals ∙ sym more.settings.globals;
   users = refl;

@@ -12,11 +12,12 @@ use Rattle.template_machine_meaning.specs.Keeps.{IsMeant, AreMeant, IsFault, IsM
 use Rattle.template_machine_meaning.specs.Meaning.{Standing, head_of, rendered, top, walks_of}
 use Rattle.template_machine_meaning.specs.World.{first_world}
 use Rattle.template_machine_meaning.proofs.RunsKept.{key_faults_are_meant, nothing_brought_meant}
+use Rattle.template_environment_settings.specs.Extras.{nothing_brought}
 use Rattle.template_environment_settings.specs.Outcomes.{IsWant}
 use Rattle.template_environment_settings.specs.Registry.{Registry}
 use Rattle.template_environment_settings.specs.Renderings.{Renders, whole, broken}
+use Rattle.template_environment_settings.specs.Standing.{setting_of}
 use Rattle.template_program_run.specs.Answers.{AnswersRequest, IsOutcomeOf, Performed, Rendered}
-use Rattle.template_program_run.specs.Environments.{plain_setting}
 use Rattle.template_program_run.specs.Ids.{last_id}
 use Rattle.template_program_parts.specs.Status.{IsUnlessMemory}
 use Rattle.template_program_parts.specs.declared.outcome.Outcome.{Outcome}
@@ -71,10 +72,12 @@ render_wants kinds (Err others) before after failed fails r meant is (broken (in
 render_wants kinds (Err others) before after failed fails r meant is (broken (inr failure) text) status = wanted kinds (inr (is ∙ failure.0)) status
 
 -- where nothing is brought, a render ends with no fault but those that a template means
-rendered_meant : (e : Registry) (t : Standing) (context : Val) (id n : ℕ) (fuel : Option ℕ) → IsMeantEnd (under fuel (rendered (plain_setting e) id n t context)).end
+rendered_meant : (e : Registry) (t : Standing) (context : Val) (id n : ℕ) (fuel : Option ℕ)
+    → IsMeantEnd (under fuel (rendered (setting_of nothing_brought e) id n t context)).end
 rendered_meant e t context id n fuel =
-    key_faults_are_meant (walks_of (plain_setting e) (Some t)) (nothing_brought_meant (walks_of (plain_setting e) (Some t)).around refl refl) (suc n) top
-    (first_world id (plain_setting e).globals (head_of t) context) fuel
+    key_faults_are_meant (walks_of (setting_of nothing_brought e) (Some t))
+    (nothing_brought_meant (walks_of (setting_of nothing_brought e) (Some t)).around refl refl) (suc n) top
+    (first_world id (setting_of nothing_brought e).globals (head_of t) context) fuel
 
 kinds_are : {kinds others : List ErrorKind} → Render kinds ≡ Render others → kinds ≡ others
 kinds_are same = cc
@@ -86,7 +89,7 @@ no_template : {kinds others : List ErrorKind} → Render kinds ≡ Template othe
 no_template same = cc
 
 rendered_wants : (e : Registry) (t : Standing) (context : Val) (next : ℕ) (kinds : List ErrorKind) (before after : Option (List ℕ)) (failed fails : ℕ)
-    → Rendered e t context next (Render kinds) before after failed fails → IsUnlessMemory kinds 1 6 → NoMemory kinds
+    → Rendered nothing_brought e t context next (Render kinds) before after failed fails → IsUnlessMemory kinds 1 6 → NoMemory kinds
 rendered_wants e t context next kinds before after failed fails rendered status = elim (eqb_tells next last_id) [
   | inl last ↦ absurd (not_six kinds (subst NoneIsMemory (sym (kinds_are (rendered.0 last.1).0)) (tt, tt)) status)
   | inr live ↦
@@ -97,7 +100,7 @@ rendered_wants e t context next kinds before after failed fails rendered status 
 
 performed_wants : (command : Command) (request : Request) (additions : List (List ℕ × List ℕ)) (json : Option (List ℕ)) (next : ℕ)
     (kinds : List ErrorKind) (before after : Option (List ℕ)) (failed fails : ℕ)
-    → Performed command request additions json next (Render kinds) before after failed fails → IsUnlessMemory kinds 1 6 → NoMemory kinds
+    → Performed nothing_brought command request additions json next (Render kinds) before after failed fails → IsUnlessMemory kinds 1 6 → NoMemory kinds
 performed_wants asked.Render request additions json next kinds before after failed fails p status =
     let does = p.2.2.2 in
     rendered_wants p.0 p.2.2.0 does.0 (next + 1) kinds before after failed fails does.2 status

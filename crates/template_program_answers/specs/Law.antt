@@ -5,11 +5,13 @@ use Rattle.template_values_errors.specs.declared.ErrorKind.{ErrorKind}
 use Rattle.template_values_errors.specs.Memory.{NoMemory}
 use Rattle.template_environment_settings.specs.Outcomes.{IsWant}
 use Rattle.template_environment_settings.specs.Plain.{IsRefusedForRoom}
-use Rattle.template_program_run.specs.Answers.{AnswersRequest}
+use Rattle.template_program_run.specs.Answers.{AnswersRequest, AnswersWith}
+use Rattle.template_program_run.specs.Brought.{brought_under}
 use Rattle.template_program_run.specs.Ids.{IsLastId}
 use Rattle.template_program_parts.specs.Status.{IsStatusOf}
 use Rattle.template_program_parts.specs.declared.outcome.Outcome.{Outcome}
 use Rattle.template_program_parts.specs.declared.outcome.Outcome.TheVariants.{Done, Render, Context, Template}
+use Rattle.template_program_run.specs.declared.options.Options.{Options}
 use Rattle.template_program_run.specs.declared.request.Request.{Request}
 
 -- an answer: how the request ended, with the state id that was next, what the sink had taken before and after, and how often
@@ -22,9 +24,10 @@ pub record Answer : Type 0 where
   pub failed : ℕ
   pub fails : ℕ
 
--- it is one to the request, with these templates and this context
-abbrev pub IsAnswerTo : Request → List (List ℕ × List ℕ) → Option (List ℕ) → Answer → Type 0
-IsAnswerTo request additions json a = AnswersRequest request additions json a.next a.outcome a.before a.after a.failed a.fails
+-- it is one to the request under the options, with these templates and this context
+abbrev pub IsAnswerTo : Options → Request → List (List ℕ × List ℕ) → Option (List ℕ) → Answer → Type 0
+IsAnswerTo options request additions json a =
+    AnswersWith (brought_under options) request additions json a.next a.outcome a.before a.after a.failed a.fails
 
 -- the outcome tells a want: of memory, of a sink that works, or of room for a source or its code
 abbrev pub TellsWant : Outcome → Type 0
@@ -51,14 +54,16 @@ pub record AreAlike (a b : Answer) : Type 0 where
   pub end : a.outcome ≡ b.outcome
   pub write : (text : List ℕ) × WriteBoth a b text
 
--- Two answers to one request, with the same templates and context, and given while the same state id was next, are alike,
--- where nothing is wanted.
+-- Two answers to one request, under the same options, with the same templates and context, and given while the same state id was
+-- next, are alike, where nothing is wanted.
 abbrev pub OneAnswer : Type 0
-OneAnswer = (request : Request) (additions : List (List ℕ × List ℕ)) (json : Option (List ℕ)) (a b : Answer)
-    → IsAnswerTo request additions json a → IsAnswerTo request additions json b → a.next ≡ b.next
+OneAnswer = (options : Options) (request : Request) (additions : List (List ℕ × List ℕ)) (json : Option (List ℕ)) (a b : Answer)
+    → IsAnswerTo options request additions json a → IsAnswerTo options request additions json b → a.next ≡ b.next
     → IsUnwanting a → IsUnwanting b → AreAlike a b
 
--- Where a render's outcome has status 6, a growth was refused in it: no fault of a template is told so, at any depth.
+-- Where nothing is brought and a render's outcome has status 6, a growth was refused in it: no fault of a template is told so, at
+-- any depth.
 abbrev pub SixIsWant : Type 0
 SixIsWant = (request : Request) (additions : List (List ℕ × List ℕ)) (json : Option (List ℕ)) (a : Answer) (kinds : List ErrorKind)
-    → IsAnswerTo request additions json a → a.outcome ≡ Render kinds → IsStatusOf (Render kinds) 6 → NoMemory kinds
+    → AnswersRequest request additions json a.next a.outcome a.before a.after a.failed a.fails
+    → a.outcome ≡ Render kinds → IsStatusOf (Render kinds) 6 → NoMemory kinds

@@ -1,22 +1,25 @@
-//! The law that a request has one answer, where nothing is wanted: what `run` tells and writes is decided by the request,
-//! the templates, the context and the state id that is next; and the law of status 6. Each function does nothing: it stands
-//! for the law in its contract.
+//! The law that a request has one answer, where nothing is wanted: what `run_with` tells and writes is decided by the request, the
+//! options, the templates, the context and the state id that is next, and what `run` does, which is it at no options; and the law
+//! of status 6. Each function does nothing: it stands for the law in its contract.
 #![tactic(auto)]
 
 ghost use Rattle.template_program_answers.specs.Law.{OneAnswer, SixIsWant};
 
+use template_builtins::builtins_ask_no_names;
 use template_machine_meaning::isolation;
 
-/// Two answers to one request with the same templates and the same context, given while the same state id was next, as the
-/// contract of `run` tells them, end with the same outcome, kinds of errors and all, and write the same bytes, where neither
-/// wants anything: memory, a sink that works, room for a source or its code, or a state id.
+/// Two answers to one request under the same options, with the same templates and the same context, given while the same state id
+/// was next, as the contract of `run_with` tells them, end with the same outcome, kinds of errors and all, and write the same bytes,
+/// where neither wants anything: memory, a sink that works, room for a source or its code, or a state id.
 pub fn one_answer()
     ensures { OneAnswer }
 {
     isolation();
+    builtins_ask_no_names();
 }
 
-/// A render whose status is 6 lacked memory. No fault of a template is told so, however many includes it happened in.
+/// A render without the builtins whose status is 6 lacked memory. No fault of a template is told so, however many includes it
+/// happened in.
 pub fn six_is_want()
     ensures { SixIsWant }
 {}

@@ -5,6 +5,7 @@ use Rattle.template_values_errors.specs.declared.ErrorKind.{ErrorKind}
 use Rattle.template_values_errors.specs.declared.ErrorKind.TheVariants.{InvalidOperation}
 use Rattle.template_values_errors.specs.Memory.{NoMemory}
 use Rattle.template_values_model.specs.Val.{Val}
+use Rattle.template_environment_settings.specs.Extras.{Brought}
 use Rattle.template_environment_settings.specs.Meaning.{Standing}
 use Rattle.template_environment_settings.specs.Registry.{Registry}
 use Rattle.template_program_run.specs.Additions.{IsRefusedEnvironment}
@@ -43,41 +44,41 @@ environment_counts next end counted exhausted = elim (eqb_tells next last_id) [
 ]
 
 -- a render ends done or with an error of the render
-takes_two : (e : Registry) (t : Standing) (context : Val) (id : ℕ) (outcome : Outcome) (before after : Option (List ℕ)) (failed fails : ℕ)
-    → Rendered e t context id outcome before after failed fails
+takes_two : (k : Brought) (e : Registry) (t : Standing) (context : Val) (id : ℕ) (outcome : Outcome) (before after : Option (List ℕ)) (failed fails : ℕ)
+    → Rendered k e t context id outcome before after failed fails
     → (next : ℕ) → behind_request asked.Render outcome next ≡ behind_one (behind_one next)
-takes_two e t context id Done before after failed fails rendered next = refl
-takes_two e t context id (Render kinds) before after failed fails rendered next = refl
-takes_two e t context id (Context kinds) before after failed fails rendered next = elim (last_or_not id) [
+takes_two k e t context id Done before after failed fails rendered next = refl
+takes_two k e t context id (Render kinds) before after failed fails rendered next = refl
+takes_two k e t context id (Context kinds) before after failed fails rendered next = elim (last_or_not id) [
   | inl last ↦ let is = (rendered.0 last).0 in cc
   | inr more ↦ absurd (rendered.1 more).1
 ]
-takes_two e t context id (Template kinds) before after failed fails rendered next = elim (last_or_not id) [
+takes_two k e t context id (Template kinds) before after failed fails rendered next = elim (last_or_not id) [
   | inl last ↦ let is = (rendered.0 last).0 in cc
   | inr more ↦ absurd (rendered.1 more).1
 ]
 
 -- and so does a telling of names
-takes_one : (e : Registry) (t : Standing) (outcome : Outcome) (before after : Option (List ℕ)) (failed fails : ℕ)
-    → TellsNames e t outcome before after failed fails
+takes_one : (k : Brought) (e : Registry) (t : Standing) (outcome : Outcome) (before after : Option (List ℕ)) (failed fails : ℕ)
+    → TellsNames k e t outcome before after failed fails
     → (next : ℕ) → behind_request asked.Names outcome next ≡ behind_one next
-takes_one e t Done before after failed fails told next = refl
-takes_one e t (Render kinds) before after failed fails told next = refl
-takes_one e t (Context kinds) before after failed fails told next = absurd told
-takes_one e t (Template kinds) before after failed fails told next = refl
+takes_one k e t Done before after failed fails told next = refl
+takes_one k e t (Render kinds) before after failed fails told next = refl
+takes_one k e t (Context kinds) before after failed fails told next = absurd told
+takes_one k e t (Template kinds) before after failed fails told next = refl
 
-pub rendered_counts : (e : Registry) (t : Standing) (context : Val) (id : ℕ) (outcome : Outcome) (before after : Option (List ℕ)) (failed fails : ℕ)
-    → Rendered e t context id outcome before after failed fails
+pub rendered_counts : (k : Brought) (e : Registry) (t : Standing) (context : Val) (id : ℕ) (outcome : Outcome) (before after : Option (List ℕ)) (failed fails : ℕ)
+    → Rendered k e t context id outcome before after failed fails
     → (command : Command) → command ≡ asked.Render → (next end : ℕ) → id ≡ behind_one next → end ≡ behind_one id
     → end ≡ behind_request command outcome next
-rendered_counts e t context id outcome before after failed fails rendered command is next end first second =
-    second ∙ ap behind_one first ∙ sym (takes_two e t context id outcome before after failed fails rendered next)
+rendered_counts k e t context id outcome before after failed fails rendered command is next end first second =
+    second ∙ ap behind_one first ∙ sym (takes_two k e t context id outcome before after failed fails rendered next)
     ∙ ap (λ (c : Command). behind_request c outcome next) (sym is)
 
-pub told_counts : (e : Registry) (t : Standing) (outcome : Outcome) (before after : Option (List ℕ)) (failed fails : ℕ)
-    → TellsNames e t outcome before after failed fails
+pub told_counts : (k : Brought) (e : Registry) (t : Standing) (outcome : Outcome) (before after : Option (List ℕ)) (failed fails : ℕ)
+    → TellsNames k e t outcome before after failed fails
     → (command : Command) → command ≡ asked.Names → (next end : ℕ) → end ≡ behind_one next
     → end ≡ behind_request command outcome next
-told_counts e t outcome before after failed fails told command is next end first =
-    first ∙ sym (takes_one e t outcome before after failed fails told next)
+told_counts k e t outcome before after failed fails told command is next end first =
+    first ∙ sym (takes_one k e t outcome before after failed fails told next)
     ∙ ap (λ (c : Command). behind_request c outcome next) (sym is)

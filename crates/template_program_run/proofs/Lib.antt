@@ -1,5 +1,6 @@
 pub mod Histories
 pub mod Settings
+pub mod Bringing
 pub mod MainStands
 pub mod Rendering
 pub mod Naming

@@ -4,6 +4,7 @@ use Rattle.std.proofs.lemmas.Option.{none-some, same_Some}
 use Rattle.std.specs.Option.{option_map}
 use Rattle.template_values_model.specs.Val.{Val}
 use Rattle.template_machine_surroundings.specs.Rule.{IsEscapeOf}
+use Rattle.template_environment_settings.specs.Extras.{Brought}
 use Rattle.template_environment_settings.specs.Meaning.{Standing}
 use Rattle.template_environment_settings.specs.Compiled.{Compiled, standing_of}
 use Rattle.template_environment_settings.specs.Sources.{Source, tree_in}
@@ -14,7 +15,7 @@ use Rattle.template_program_run.specs.Additions.{AllAreAccepted}
 use Rattle.template_program_run.specs.Environments.{IsMade}
 use Rattle.template_program_run.specs.History.{source_for, standing}
 use Rattle.template_program_run.specs.Ids.{IsLastId}
-use Rattle.template_program_run.specs.Answers.{AnswersRequest, Does, IsTemplateOf, Rendered, definitions_of}
+use Rattle.template_program_run.specs.Answers.{AnswersWith, Does, IsTemplateOf, Rendered, definitions_of}
 use Rattle.template_program_parts.specs.declared.outcome.Outcome.{Outcome}
 use Rattle.template_program_parts.specs.declared.command.Command.{Command}
 use Rattle.template_program_parts.specs.declared.command.Command.TheVariants as asked
@@ -47,23 +48,23 @@ found_there request additions id e c made named found rule =
       },
     )
 
-pub answers_done : (request : Request) (additions : List (List ℕ × List ℕ)) (json : Option (List ℕ)) (next : ℕ) (outcome : Outcome)
+pub answers_done : (k : Brought) (request : Request) (additions : List (List ℕ × List ℕ)) (json : Option (List ℕ)) (next : ℕ) (outcome : Outcome)
     (before after : Option (List ℕ)) (failed fails : ℕ)
     → (context : Val) → HasContext request.command json (definitions_of request) context
     → ¬ IsLastId next → AllAreAccepted additions → (e : Registry) → IsMade request additions next e
     → (c : Compiled) → c.name ≡ string_bytes request.main → source_at e (string_bytes request.main) ≡ Some c.source
     → IsEscapeOf c.source.escapes (string_bytes request.main) c.escape → (command : Command) → request.command ≡ command
-    → Does command e (standing_of c) request json next outcome before after failed fails
-    → AnswersRequest request additions json next outcome before after failed fails
-answers_done request additions json next outcome before after failed fails context has had accepted e made c named found rule command is does =
+    → Does k command e (standing_of c) request json next outcome before after failed fails
+    → AnswersWith k request additions json next outcome before after failed fails
+answers_done k request additions json next outcome before after failed fails context has had accepted e made c named found rule command is does =
     let there = found_there request additions next e c made named found rule in
-    let done = subst (λ (k : Command). Does k e (standing_of c) request json next outcome before after failed fails) (sym is) does in
+    let done = subst (λ (asks : Command). Does k asks e (standing_of c) request json next outcome before after failed fails) (sym is) does in
     inr ((context, has), inr (had, accepted, inr (e, made, (there.0, there.1, (standing_of c, there.2, done)))))
 
-pub rendered_does : (request : Request) (json : Option (List ℕ)) (next : ℕ) (outcome : Outcome) (before after : Option (List ℕ)) (failed fails : ℕ)
+pub rendered_does : (k : Brought) (request : Request) (json : Option (List ℕ)) (next : ℕ) (outcome : Outcome) (before after : Option (List ℕ)) (failed fails : ℕ)
     → (context : Val) → HasContext request.command json (definitions_of request) context → request.command ≡ asked.Render
-    → (e : Registry) (t : Standing) (id : ℕ) → id ≡ next + 1 → Rendered e t context id outcome before after failed fails
-    → Does asked.Render e t request json next outcome before after failed fails
-rendered_does request json next outcome before after failed fails context has is e t id counted rendered =
+    → (e : Registry) (t : Standing) (id : ℕ) → id ≡ next + 1 → Rendered k e t context id outcome before after failed fails
+    → Does k asked.Render e t request json next outcome before after failed fails
+rendered_does k request json next outcome before after failed fails context has is e t id counted rendered =
     let read = subst (λ (command : Command). HasContext command json (definitions_of request) context) is has in
-    (context, read.1, subst (λ (i : ℕ). Rendered e t context i outcome before after failed fails) counted rendered)
+    (context, read.1, subst (λ (i : ℕ). Rendered k e t context i outcome before after failed fails) counted rendered)

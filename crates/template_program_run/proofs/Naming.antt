@@ -1,11 +1,11 @@
--- The names that can matter, where nothing is brought.
-use Rattle.std.proofs.Common.{◌≡◌, ℕ, List, Option, IsTrue, ◌↔◌, String, subst}
+-- The names that can matter.
+use Rattle.std.proofs.Common.{ℕ, List, Option, IsTrue, ◌↔◌, String}
 use Rattle.std.specs.BTreeSet.{BTreeSet, contains_text, IsOrdered}
 use Rattle.std.specs.String.{string_cmp}
 use Rattle.std.specs.declared.alloc.Global.{Global}
 use Rattle.template_values_model.specs.Val.{Val}
 use Rattle.template_process.specs.Fuel.{IsSameRun, under}
-use Rattle.template_environment_settings.specs.Extras.{Brought, nothing_brought}
+use Rattle.template_environment_settings.specs.Extras.{Brought}
 use Rattle.template_environment_settings.specs.Isolated.{AgreeAmong}
 use Rattle.template_environment_settings.specs.Isolation.{IsContextName}
 use Rattle.template_environment_settings.specs.Meaning.{Standing, rendered}
@@ -19,8 +19,6 @@ Tells k e t names = ((name : List ℕ) → IsTrue (contains_text names name) ↔
     × ((c d : Val) → AgreeAmong names c d → (id n : ℕ) (fuel : Option ℕ)
     → IsSameRun (under fuel (rendered (setting_of k e) id n t c)) (under fuel (rendered (setting_of k e) id n t d)))
 
-pub has_names : (k : Brought) (e : Registry) (t : Standing) (names : BTreeSet (String Global)) → k ≡ nothing_brought → IsOrdered string_cmp names
-    → Tells k e t names → HasNames e t names
-has_names k e t names none ordered tells =
-    let told = subst (λ (b : Brought). Tells b e t names) none tells in
-    (ordered, told.0, told.1)
+pub has_names : (k : Brought) (e : Registry) (t : Standing) (names : BTreeSet (String Global)) → IsOrdered string_cmp names
+    → Tells k e t names → HasNames k e t names
+has_names k e t names ordered told = (ordered, told.0, told.1)

@@ -1,11 +1,11 @@
--- What a call of a render does, as what the request's outcome tells; and of names, where nothing is brought.
-use Rattle.std.proofs.Common.{◌≡◌, ℕ, List, Option, Result, Ok, Err, subst}
+-- What a call of a render does, as what the request's outcome tells.
+use Rattle.std.proofs.Common.{ℕ, List, Option, Result, Ok, Err}
 use Rattle.template_values_errors.specs.declared.ErrorKind.{ErrorKind}
 use Rattle.template_values_model.specs.Val.{Val}
 use Rattle.template_process.specs.Approximants.{IsFinished}
 use Rattle.template_process.specs.Fuel.{under}
 use Rattle.template_process.specs.Trace.{Run}
-use Rattle.template_environment_settings.specs.Extras.{Brought, nothing_brought}
+use Rattle.template_environment_settings.specs.Extras.{Brought}
 use Rattle.template_environment_settings.specs.Meaning.{Standing, rendered}
 use Rattle.template_environment_settings.specs.Renderings.{Renders, whole, broken}
 use Rattle.template_environment_settings.specs.Standing.{setting_of}
@@ -22,21 +22,19 @@ renders_failed : {X S : Type 0} (kinds : List ErrorKind) (before after : Option 
 renders_failed kinds before after failed fails r (whole ends text quiet) = whole ends text quiet
 renders_failed kinds before after failed fails r (broken cut text) = broken cut text
 
--- what is told of a render where nothing is brought
+-- what is told of a render, by what is brought
 abbrev Tells : Brought → Registry → ℕ → Standing → Val → (X : Type 0) → Result X (List ErrorKind) → Option (List ℕ) → Option (List ℕ) → ℕ → ℕ → Type 0
 Tells k e id t context X result before after failed fails = ((n : ℕ) × IsFinished (rendered (setting_of k e) id n t context).end)
     × ((n : ℕ) → IsFinished (rendered (setting_of k e) id n t context).end
     → Renders {X = X} result before after failed fails (under e.fuel (rendered (setting_of k e) id n t context)))
 
 pub rendered_done : {X : Type 0} (v : X) (k : Brought) (e : Registry) (id : ℕ) (t : Standing) (context : Val) (before after : Option (List ℕ)) (failed fails : ℕ)
-    → k ≡ nothing_brought → Tells k e id t context X (Ok v) before after failed fails → IsRendered e id t context (Ok tt) before after failed fails
-rendered_done {X} v k e id t context before after failed fails none tells =
-    let told = subst (λ (b : Brought). Tells b e id t context X (Ok v) before after failed fails) none tells in
+    → Tells k e id t context X (Ok v) before after failed fails → IsRendered k e id t context (Ok tt) before after failed fails
+rendered_done v k e id t context before after failed fails told =
     record { finished = told.0; renders = λ n done. renders_done v before after failed fails _ (told.1 n done) }
 
 pub rendered_failed : (X : Type 0) (kinds : List ErrorKind) (k : Brought) (e : Registry) (id : ℕ) (t : Standing) (context : Val)
-    (before after : Option (List ℕ)) (failed fails : ℕ) → k ≡ nothing_brought → Tells k e id t context X (Err kinds) before after failed fails
-    → IsRendered e id t context (Err kinds) before after failed fails
-rendered_failed X kinds k e id t context before after failed fails none tells =
-    let told = subst (λ (b : Brought). Tells b e id t context X (Err kinds) before after failed fails) none tells in
+    (before after : Option (List ℕ)) (failed fails : ℕ) → Tells k e id t context X (Err kinds) before after failed fails
+    → IsRendered k e id t context (Err kinds) before after failed fails
+rendered_failed X kinds k e id t context before after failed fails told =
     record { finished = told.0; renders = λ n done. renders_failed kinds before after failed fails _ (told.1 n done) }

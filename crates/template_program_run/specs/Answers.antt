@@ -1,4 +1,4 @@
--- How a request is answered.
+-- How a request is answered, in an environment to which this is brought.
 use Rattle.std.specs.Prelude.{◌≡◌, ℕ, ◌+◌, ◌⊎◌, ◌↔◌, List, [], ◌∷◌, Option, None, Some, Result, Ok, Err, IsTrue, String, string_bytes}
 use Rattle.std.specs.BTreeSet.{BTreeSet, contains_text, IsOrdered}
 use Rattle.std.specs.String.{string_cmp}
@@ -12,6 +12,7 @@ use Rattle.template_process.specs.Approximants.{IsFinished}
 use Rattle.template_process.specs.Fuel.{IsSameRun, under}
 use Rattle.template_machine_surroundings.specs.Rule.{IsRuleOf}
 use Rattle.template_machine_output.specs.Writes.{AppendsBeginning}
+use Rattle.template_environment_settings.specs.Extras.{Brought, nothing_brought}
 use Rattle.template_environment_settings.specs.Outcomes.{IsWant, TellsFailures}
 use Rattle.template_environment_settings.specs.Meaning.{Standing, rendered}
 use Rattle.template_environment_settings.specs.Isolation.{IsContextName}
@@ -19,10 +20,11 @@ use Rattle.template_environment_settings.specs.Renderings.{Renders}
 use Rattle.template_environment_settings.specs.Sources.{tree_in}
 use Rattle.template_environment_settings.specs.Isolated.{AgreeAmong}
 use Rattle.template_environment_settings.specs.Registry.{Registry}
+use Rattle.template_environment_settings.specs.Standing.{setting_of}
 use Rattle.template_program_parts.specs.Asked.{HasContext, IsRefusedContext}
 use Rattle.template_program_parts.specs.Context.{IsContextOf, text_pairs}
 use Rattle.template_program_run.specs.Additions.{AllAreAccepted, IsRefusedAddition}
-use Rattle.template_program_run.specs.Environments.{IsMade, plain_setting}
+use Rattle.template_program_run.specs.Environments.{IsMade}
 use Rattle.template_program_run.specs.History.{source_for, standing}
 use Rattle.template_program_run.specs.Ids.{IsLastId}
 use Rattle.template_program_run.specs.Lines.{lines_of}
@@ -54,64 +56,64 @@ pub record IsTemplateOf (name text : List ℕ) (t : Standing) : Type 0 where
 
 -- Its render, in the state of a number, ends: it is finished under some bound. Under each bound where it is, it decides,
 -- with the fuel, the text and the end.
-pub record IsRendered (e : Registry) (id : ℕ) (t : Standing) (context : Val) (result : Result (Unit {0}) (List ErrorKind))
-    (before after : Option (List ℕ)) (failed fails : ℕ) : Type 0 where
-  pub finished : (n : ℕ) × IsFinished (rendered (plain_setting e) id n t context).end
-  pub renders : (n : ℕ) → IsFinished (rendered (plain_setting e) id n t context).end
-      → Renders result before after failed fails (under e.fuel (rendered (plain_setting e) id n t context))
+pub record IsRendered (brought : Brought) (e : Registry) (id : ℕ) (t : Standing) (context : Val)
+    (result : Result (Unit {0}) (List ErrorKind)) (before after : Option (List ℕ)) (failed fails : ℕ) : Type 0 where
+  pub finished : (n : ℕ) × IsFinished (rendered (setting_of brought e) id n t context).end
+  pub renders : (n : ℕ) → IsFinished (rendered (setting_of brought e) id n t context).end
+      → Renders result before after failed fails (under e.fuel (rendered (setting_of brought e) id n t context))
 
 -- A template that stands is rendered over the context, in the state of the next id. The render is refused where no state id
 -- is left.
-abbrev pub Rendered : Registry → Standing → Val → ℕ → Outcome → Option (List ℕ) → Option (List ℕ) → ℕ → ℕ → Type 0
-Rendered e t context next outcome before after failed fails =
+abbrev pub Rendered : Brought → Registry → Standing → Val → ℕ → Outcome → Option (List ℕ) → Option (List ℕ) → ℕ → ℕ → Type 0
+Rendered brought e t context next outcome before after failed fails =
     (IsLastId next → (outcome ≡ Render (InvalidOperation ∷ [])) × IsUntouched before after failed fails)
     × (¬ IsLastId next → (result : Result (Unit {0}) (List ErrorKind)) × IsOutcomeOf outcome result
-    × IsRendered e next t context result before after failed fails)
+    × IsRendered brought e next t context result before after failed fails)
 
 -- The set has just the names that can matter to a render of the template: contexts that agree at these make no difference, in
 -- no state, at no bound and under no fuel.
-abbrev pub HasNames : Registry → Standing → BTreeSet (String Global) → Type 0
-HasNames e t names = IsOrdered string_cmp names
-    × ((name : List ℕ) → IsTrue (contains_text names name) ↔ IsContextName (plain_setting e) t.tree name)
+abbrev pub HasNames : Brought → Registry → Standing → BTreeSet (String Global) → Type 0
+HasNames brought e t names = IsOrdered string_cmp names
+    × ((name : List ℕ) → IsTrue (contains_text names name) ↔ IsContextName (setting_of brought e) t.tree name)
     × ((c d : Val) → AgreeAmong names c d → (id n : ℕ) (fuel : Option ℕ)
-    → IsSameRun (under fuel (rendered (plain_setting e) id n t c)) (under fuel (rendered (plain_setting e) id n t d)))
+    → IsSameRun (under fuel (rendered (setting_of brought e) id n t c)) (under fuel (rendered (setting_of brought e) id n t d)))
 
 -- The names that can matter are written in their order, one a line; or a beginning of that, for want of
 -- memory or of a sink that works. Where they cannot be found for want of memory, nothing is written.
-abbrev pub TellsNames : Registry → Standing → Outcome → Option (List ℕ) → Option (List ℕ) → ℕ → ℕ → Type 0
-TellsNames e t Done before after failed fails =
-    (names : BTreeSet (String Global)) × HasNames e t names × Appends before after (lines_of names.keys) × (fails ≡ failed)
-TellsNames e t (Render kinds) before after failed fails =
-    (names : BTreeSet (String Global)) × HasNames e t names × IsWant kinds
+abbrev pub TellsNames : Brought → Registry → Standing → Outcome → Option (List ℕ) → Option (List ℕ) → ℕ → ℕ → Type 0
+TellsNames brought e t Done before after failed fails =
+    (names : BTreeSet (String Global)) × HasNames brought e t names × Appends before after (lines_of names.keys) × (fails ≡ failed)
+TellsNames brought e t (Render kinds) before after failed fails =
+    (names : BTreeSet (String Global)) × HasNames brought e t names × IsWant kinds
     × AppendsBeginning before after (lines_of names.keys)
     × ((result : Result (Unit {0}) (List ErrorKind)) × (result ≡ Err kinds) × TellsFailures result failed fails)
-TellsNames e t (Template kinds) before after failed fails =
+TellsNames brought e t (Template kinds) before after failed fails =
     NoMemory kinds × IsUntouched before after failed fails
-TellsNames e t _ before after failed fails = ⊥
+TellsNames brought e t _ before after failed fails = ⊥
 
 -- what is done with the main template
-abbrev pub Does : Command → Registry → Standing → Request → Option (List ℕ) → ℕ → Outcome
+abbrev pub Does : Brought → Command → Registry → Standing → Request → Option (List ℕ) → ℕ → Outcome
     → Option (List ℕ) → Option (List ℕ) → ℕ → ℕ → Type 0
-Does asked.Render e t request json next outcome before after failed fails =
+Does brought asked.Render e t request json next outcome before after failed fails =
     (context : Val) × IsContextOf json (definitions_of request) context
-    × Rendered e t context (next + 1) outcome before after failed fails
-Does asked.Names e t request json next outcome before after failed fails =
-    TellsNames e t outcome before after failed fails
+    × Rendered brought e t context (next + 1) outcome before after failed fails
+Does brought asked.Names e t request json next outcome before after failed fails =
+    TellsNames brought e t outcome before after failed fails
 
 -- The main template stands, in an environment of the request that took the next id, and that is done with it.
-abbrev pub Performed : Command → Request → List (List ℕ × List ℕ) → Option (List ℕ) → ℕ → Outcome
+abbrev pub Performed : Brought → Command → Request → List (List ℕ × List ℕ) → Option (List ℕ) → ℕ → Outcome
     → Option (List ℕ) → Option (List ℕ) → ℕ → ℕ → Type 0
-Performed command request additions json next outcome before after failed fails =
+Performed brought command request additions json next outcome before after failed fails =
     (e : Registry) × IsMade request additions next e
     × ((text : List ℕ) × (standing additions (string_bytes request.main) ≡ Some text)
     × ((t : Standing) × IsTemplateOf (string_bytes request.main) text t
-    × Does command e t request json next outcome before after failed fails))
+    × Does brought command e t request json next outcome before after failed fails))
 
 -- The context of a render is refused; or else the additions are, or the main template does not stand; or else
 -- what is asked is done. With no state id left, or no memory for the environment, the additions are refused.
-abbrev pub AnswersRequest : Request → List (List ℕ × List ℕ) → Option (List ℕ) → ℕ → Outcome
+abbrev pub AnswersWith : Brought → Request → List (List ℕ × List ℕ) → Option (List ℕ) → ℕ → Outcome
     → Option (List ℕ) → Option (List ℕ) → ℕ → ℕ → Type 0
-AnswersRequest request additions json next outcome before after failed fails =
+AnswersWith brought request additions json next outcome before after failed fails =
     ((kinds : List ErrorKind) × (outcome ≡ Context kinds) × IsRefusedContext request.command json kinds
     × IsUntouched before after failed fails)
     ⊎ (((context : Val) × HasContext request.command json (definitions_of request) context)
@@ -120,4 +122,9 @@ AnswersRequest request additions json next outcome before after failed fails =
     ⊎ (¬ IsLastId next × AllAreAccepted additions
     × (((outcome ≡ Template (TemplateNotFound ∷ [])) × (standing additions (string_bytes request.main) ≡ None)
     × IsUntouched before after failed fails)
-    ⊎ Performed request.command request additions json next outcome before after failed fails))))
+    ⊎ Performed brought request.command request additions json next outcome before after failed fails))))
+
+-- the same where nothing is brought
+abbrev pub AnswersRequest : Request → List (List ℕ × List ℕ) → Option (List ℕ) → ℕ → Outcome
+    → Option (List ℕ) → Option (List ℕ) → ℕ → ℕ → Type 0
+AnswersRequest = AnswersWith nothing_brought

@@ -2,10 +2,8 @@
 use Rattle.std.specs.Prelude.{◌≡◌, ℕ, List, min}
 use Rattle.template_compiler_syntax.specs.Syntax.{default_syntax}
 use Rattle.template_machine_surroundings.specs.declared.escape.EscapeRule.TheVariants.{ByName}
-use Rattle.template_environment_settings.specs.Extras.{nothing_brought}
 use Rattle.template_environment_settings.specs.Globals.{own_globals}
-use Rattle.template_environment_settings.specs.Meaning.{Setting}
-use Rattle.template_environment_settings.specs.Standing.{Settings, greatest_limit, setting_of, settings_of, source_at}
+use Rattle.template_environment_settings.specs.Standing.{Settings, greatest_limit, settings_of, source_at}
 use Rattle.template_environment_settings.specs.Registry.{Registry}
 use Rattle.template_program_run.specs.History.{source_standing}
 use Rattle.template_program_run.specs.declared.request.Request.{Request}
@@ -23,7 +21,3 @@ pub record IsSetFor (request : Request) (id : ℕ) (s : Settings) : Type 0 where
 pub record IsMade (request : Request) (additions : List (List ℕ × List ℕ)) (id : ℕ) (e : Registry) : Type 0 where
   pub sources : (name : List ℕ) → source_at e name ≡ source_standing additions name
   pub settings : IsSetFor request id (settings_of e)
-
--- the setting that its renders have: nothing is brought to it
-abbrev pub plain_setting : Registry → Setting
-plain_setting e = setting_of nothing_brought e

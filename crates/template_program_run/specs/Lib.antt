@@ -2,6 +2,7 @@ pub mod Ids
 pub mod History
 pub mod Additions
 pub mod Environments
+pub mod Brought
 pub mod Lines
 pub mod Answers
 pub mod Plain

@@ -5,13 +5,15 @@
 mod additions;
 mod inputs;
 mod names;
+mod options;
 mod performing;
 mod request;
 mod running;
 mod starting;
 mod telling;
 
+pub use options::Options;
 pub use request::Request;
-pub use running::run;
+pub use running::{run, run_with};
 pub use starting::{refuse_arguments, start};
 pub use template_program_parts::{Command, Outcome, status_of};

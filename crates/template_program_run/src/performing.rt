@@ -4,7 +4,7 @@ ghost use Rattle.template_program_parts.specs.Context.{text_pairs};
 ghost use Rattle.template_program_run.specs.Starts.{PerformsRequest, RunsFlushed, TellsOutcome};
 
 use crate::inputs::Inputs;
-use crate::run;
+use crate::run_with;
 use crate::telling::{tell_error, tell_memory};
 use std::alloc::Global;
 use template_machine_surroundings::StateIds;
@@ -21,7 +21,7 @@ pub(crate) fn perform<O: Output, F: Output>(
     out: O,
     fault: &mut F,
 ) -> (u8, O)
-    ensures { PerformsRequest inputs.now.request (text_pairs inputs.now.templates.items)
+    ensures { PerformsRequest inputs.now.request inputs.now.options (text_pairs inputs.now.templates.items)
         (option_map (λ bytes. bytes.items) inputs.now.context) (O.shown out) (O.shown result.1)
         (F.shown fault.old) (F.shown fault.new) result.0 }
 {
@@ -37,14 +37,15 @@ pub(crate) fn perform<O: Output, F: Output>(
 // Runs the request over an empty buffer, and flushes what it has written.
 fn run_flushed<O: Output>(alloc: Global, inputs: &Inputs, out: O, buffer: Vec<u8>) -> (Outcome, O)
     requires { buffer.items ≡ [] }
-    ensures { RunsFlushed inputs.now.request (text_pairs inputs.now.templates.items)
+    ensures { RunsFlushed inputs.now.request inputs.now.options (text_pairs inputs.now.templates.items)
         (option_map (λ bytes. bytes.items) inputs.now.context) (O.shown out) (O.shown result.1) result.0 }
 {
     let mut ids = StateIds::new(0);
     let mut sink = Buffered::new(out, buffer);
-    let outcome = run(
+    let outcome = run_with(
         alloc,
         &inputs.request,
+        inputs.options,
         inputs.templates.as_slice(),
         context_bytes(&inputs.context),
         &mut ids,

@@ -3,21 +3,24 @@ ghost use Rattle.std.specs.Prelude.{◌≡◌, ℕ, List, Some, option_copied, s
 ghost use Rattle.template_program_parts.specs.Context.{text_pairs};
 ghost use Rattle.template_machine_surroundings.specs.Rule.{IsEscapeOf};
 ghost use Rattle.template_environment_settings.specs.Compiled.{standing_of};
-ghost use Rattle.template_environment_settings.specs.Extras.{no_extras};
+ghost use Rattle.template_environment_settings.specs.Isolation.{AskNoNames};
 ghost use Rattle.template_environment_settings.specs.Plain.{IsPlain, text_kept};
-ghost use Rattle.template_environment_settings.specs.Reading.{extras_of, registry_of};
+ghost use Rattle.template_environment_settings.specs.Reading.{brought_of, callables_of, registry_of};
 ghost use Rattle.template_environment_settings.specs.Views.{compiled_in, environment_of as place_of, name_of, source_of};
 ghost use Rattle.template_program_parts.specs.Asked.{HasContext, IsRefusedContext};
-ghost use Rattle.template_program_run.specs.Answers.{AnswersRequest, Rendered, TellsNames, definitions_of};
+ghost use Rattle.template_program_run.specs.Answers.{AnswersRequest, AnswersWith, Rendered, TellsNames, definitions_of};
+ghost use Rattle.template_program_run.specs.Brought.{brought_under, program_answers};
 ghost use Rattle.template_program_run.specs.History.{source_for, standing};
 ghost use Rattle.template_program_run.specs.Ids.{behind_one, behind_request};
 ghost use Rattle.template_program_run.specs.Plain.{WritesOnDone, WritesOnRender};
 
 use crate::additions::environment_of;
 use crate::names::write_lines;
+use crate::options::Options;
 use crate::request::Request;
 use std::alloc::Global;
-use template_environment_settings::{Environment, Template, every_render_ends, none_ask_names};
+use template_builtins::{Builtins, builtins_ask_no_names};
+use template_environment_settings::{Environment, Template, every_render_ends};
 use template_machine_output::Sink;
 use template_machine_surroundings::StateIds;
 use template_program_parts::{Command, Outcome, context_for};
@@ -54,11 +57,45 @@ pub fn run<S: Sink>(
         → IsPlain (source_for text) →
         WritesOnRender request.now.command (S.taken sink.old) (S.taken sink.new) (text_kept (source_for text)) result }
 {
+    run_with(
+        alloc,
+        request,
+        Options::new(),
+        templates,
+        context,
+        ids,
+        sink,
+    )
+}
+
+/// The same with options, which say what else stands in the environment.
+///
+/// # Errors
+///
+/// As [`run`].
+pub fn run_with<S: Sink>(
+    alloc: Global,
+    request: &Request,
+    options: Options,
+    templates: &[(String, String)],
+    context: Option<&[u8]>,
+    ids: &mut StateIds,
+    sink: &mut S,
+) -> Outcome
+    ensures answers { AnswersWith (brought_under options) request.now (text_pairs templates.now) (option_copied context.entry) ids.old
+        result (S.taken sink.old) (S.taken sink.new) (S.failures sink.old) (S.failures sink.new) }
+    ensures counted { ids.new ≡ behind_request request.now.command result ids.old }
+
+    // A main template in which no marker starts renders to its text, without the newline at its end.
+    ensures plain { (text : List ℕ) → standing (text_pairs templates.now) (string_bytes request.now.main) ≡ Some text
+        → IsPlain (source_for text) →
+        WritesOnRender request.now.command (S.taken sink.old) (S.taken sink.new) (text_kept (source_for text)) result }
+{
     let context = match context_of(alloc, request, context) {
         Ok(context) => context,
         Err(error) => return Outcome::Context(error),
     };
-    let environment = match environment_of(alloc, templates, request, ids) {
+    let environment = match environment_of(alloc, templates, request, options, ids) {
         Ok(environment) => environment,
         Err(error) => return Outcome::Template(error),
     };
@@ -66,6 +103,7 @@ pub fn run<S: Sink>(
         Ok(template) => template,
         Err(error) => return Outcome::Template(error),
     };
+    builtins_ask_no_names();
     match request.command {
         Command::Render => render(&template, context, ids, sink),
         Command::Names => tell_names(&environment, &template, sink),
@@ -82,14 +120,13 @@ fn context_of(alloc: Global, request: &Request, context: Option<&[u8]>) -> Resul
 
 // Renders the main template.
 fn render<S: Sink>(
-    template: &Template<'_, '_>,
+    template: &Template<'_, '_, Builtins>,
     context: Value,
     ids: &mut StateIds,
     sink: &mut S,
 ) -> Outcome
-    requires { extras_of (place_of template.now) ≡ no_extras }
-    ensures rendered { Rendered (registry_of (place_of template.now)) (standing_of (compiled_in template.now.compiled))
-        context ids.old result
+    ensures rendered { Rendered (brought_of program_answers (place_of template.now)) (registry_of (place_of template.now))
+        (standing_of (compiled_in template.now.compiled)) context ids.old result
         (S.taken sink.old) (S.taken sink.new) (S.failures sink.old) (S.failures sink.new) }
     ensures rule { IsEscapeOf (source_of template.now).escapes (name_of template.now) (compiled_in template.now.compiled).escape }
     ensures plain { IsPlain (source_of template.now) → WritesOnDone (S.taken sink.old) (S.taken sink.new)
@@ -106,17 +143,17 @@ fn render<S: Sink>(
 
 // Writes the names of a context that can matter to the main template.
 fn tell_names<'source, S: Sink>(
-    environment: &Environment<'source>,
-    template: &Template<'_, 'source>,
+    environment: &Environment<'source, Builtins>,
+    template: &Template<'_, 'source, Builtins>,
     sink: &mut S,
 ) -> Outcome
-    requires { extras_of environment.now ≡ no_extras }
-    ensures told { TellsNames (registry_of environment.now) (standing_of (compiled_in template.now.compiled)) result
+    requires { AskNoNames (callables_of program_answers environment.now) }
+    ensures told { TellsNames (brought_of program_answers environment.now) (registry_of environment.now)
+        (standing_of (compiled_in template.now.compiled)) result
         (S.taken sink.old) (S.taken sink.new) (S.failures sink.old) (S.failures sink.new) }
     ensures rule { IsEscapeOf (source_of template.now).escapes (name_of template.now) (compiled_in template.now.compiled).escape }
 {
     let _escape = template.initial_auto_escape();
-    none_ask_names(environment);
     let names = match environment.context_names(template) {
         Ok(names) => names,
         Err(error) => return Outcome::Template(error),

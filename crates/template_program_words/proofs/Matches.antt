@@ -1,6 +1,8 @@
 -- What the getters of the matches read, by the rows.
-use Rattle.std.proofs.Common.{◌≡◌, ◌∙◌, ◌⊎◌, OnOk, inl, inr, ℕ, List, [], ap, ap₂, codes, Bor, Option, None, Some, Result, Ok, Err, map, option_map, refl, subst, unwrap_or}
-use Rattle.std.specs.Str.Parse.{ParsesUnsigned}
+use Rattle.std.proofs.Common.{◌≡◌, ◌∙◌, ◌⊎◌, OnOk, inl, inr, ℕ, Bool, true, false, List, [], ap, ap₂, codes, Bor, Option, None, Some, Result, Ok, Err, map, option_map, refl, subst, sym, unwrap_or, bytes_eq}
+use Rattle.std.specs.Str.Parse.{ParsesBool, ParsesUnsigned}
+use Rattle.std.proofs.lemmas.Slice.Eq.{bytes_eq-Decides}
+use Rattle.std.specs.Bool.{one_answer}
 use Rattle.clap.specs.Words.{IsAmong, Kinds, ReadsOne, Row, first_of, subcommand_name_of, subcommand_rows_of}
 use Rattle.clap.specs.declared.error.kind.ErrorKind.{ErrorKind}
 use Rattle.clap.specs.declared.error.kind.ErrorKind.TheVariants.{OutOfMemory}
@@ -8,7 +10,7 @@ use Rattle.clap.specs.declared.parser.matches.ArgMatches.{ArgMatches}
 use Rattle.clap.specs.declared.parser.matches.ArgMatches.TheViews.{out-ArgMatches}
 use Rattle.template_values_errors.specs.declared.modes.UndefinedBehavior.{UndefinedBehavior}
 use Rattle.template_program_words.specs.Modes.{mode_of}
-use Rattle.template_program_words.specs.Reading.{ReadsNumber, values_of}
+use Rattle.template_program_words.specs.Reading.{ReadsNumber, is_set, values_of}
 use Rattle.template_program_words.specs.Refusals.{IsWordsFault, IsUsage, NamesNoMode, RefusesWords, RefusesDefinitions, RefusesMode, RefusesRender}
 use Rattle.template_program_words.specs.declared.faults.WordsFault.{WordsFault}
 use Rattle.template_program_words.specs.declared.faults.WordsFault.TheVariants.{Memory, Help, Version, Usage, Definition}
@@ -31,6 +33,15 @@ pub ReadsNumber-parsed : {E : Type 0} (bits : ℕ) (gives : List ℕ → Result 
     → (t : List ℕ) (number : Option ℕ) → ReadsOne gives t number → ReadsNumber bits (Some t) number
 ReadsNumber-parsed bits gives parses t (Some n) h = parses t (Ok n) h
 ReadsNumber-parsed bits gives parses t None h = parses t (Err h.0) h.1
+
+-- a flag, as `bool` reads its text
+pub is_set-read : (E : Type 0) (text : Option (List ℕ)) (read : Option Bool) → (text ≡ None → read ≡ None)
+    → ((t : List ℕ) → text ≡ Some t → ReadsOne {E = E} ParsesBool t read) → unwrap_or read false ≡ is_set text
+is_set-read E None read none some = ap (λ o. unwrap_or o false) (none refl)
+is_set-read E (Some t) (Some true) none some = ap (λ u. bytes_eq u (codes "true")) (sym (some t refl))
+is_set-read E (Some t) (Some false) none some = ap (λ u. bytes_eq u (codes "true")) (sym (some t refl))
+is_set-read E (Some t) None none some =
+    one_answer false (bytes_eq t (codes "true")) ((λ is. cc), (λ is. absurd ((some t refl).1.0 is))) (bytes_eq-Decides t (codes "true"))
 
 pub is_pair : (found : Option (List ℕ × List Row)) (name : List ℕ) (rows : List Row) → option_map (λ f. f.0) found ≡ Some name
     → option_map (λ f. f.1) found ≡ Some rows → found ≡ Some (name, rows)

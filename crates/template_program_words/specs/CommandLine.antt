@@ -1,9 +1,9 @@
--- The command line, in the words in which `clap` describes one: `names [--main NAME] [FILE...]` and
--- `render [--context FILE] [-D NAME=TEXT]... [--fuel N] [--limit N] [--undefined MODE] [--main NAME] [FILE...]`.
+-- The command line, in the words in which `clap` describes one: `names [--builtins] [--main NAME] [FILE...]` and
+-- `render [--context FILE] [-D NAME=TEXT]... [--fuel N] [--limit N] [--undefined MODE] [--builtins] [--main NAME] [FILE...]`.
 use Rattle.std.specs.Prelude.{ℕ, List, [], ◌∷◌, Some, codes, pos, true}
 use Rattle.clap.specs.Lexer.{usize_max}
 use Rattle.clap.specs.Words.{App, Rule, new_app, new_rule, with_rule, with_subcommand}
-use Rattle.clap.specs.declared.builder.action.ArgAction.TheVariants.{Append}
+use Rattle.clap.specs.declared.builder.action.ArgAction.TheVariants.{Append, SetTrue}
 use Rattle.clap.specs.declared.builder.value_parser.ValueParser.TheVariants.{Signed, Unsigned}
 
 -- an argument with a value
@@ -39,6 +39,10 @@ limit_option = record (new_rule (codes "limit")) {
 abbrev pub undefined_option : Rule
 undefined_option = record (new_rule (codes "undefined")) { long = Some (codes "undefined"); value_names = 1 }
 
+-- `--builtins`, once at most, without a value
+abbrev pub builtins_option : Rule
+builtins_option = record (new_rule (codes "builtins")) { long = Some (codes "builtins"); action = Some SetTrue }
+
 -- `--main NAME`, once at most
 abbrev pub main_option : Rule
 main_option = record (new_rule (codes "main")) { long = Some (codes "main"); value_names = 1 }
@@ -57,14 +61,14 @@ with_rules app [] = app
 with_rules app (rule ∷ rules) = with_rules (with_rule app rule) rules
 
 abbrev pub render_rules : List Rule
-render_rules =
-    context_option ∷ definition_option ∷ fuel_option ∷ limit_option ∷ undefined_option ∷ main_option ∷ files_argument ∷ []
+render_rules = context_option ∷ definition_option ∷ fuel_option ∷ limit_option ∷ undefined_option ∷ builtins_option
+    ∷ main_option ∷ files_argument ∷ []
 
 abbrev pub render_command : App
 render_command = with_rules (new_app (codes "render")) render_rules
 
 abbrev pub names_command : App
-names_command = with_rule (with_rule (new_app (codes "names")) main_option) files_argument
+names_command = with_rule (with_rule (with_rule (new_app (codes "names")) builtins_option) main_option) files_argument
 
 -- the program's own name is not among the words, one of the commands has to be, and the version is told
 abbrev pub bare_program : App

@@ -1,5 +1,5 @@
 -- What the words ask for, by what `clap` finds in them.
-use Rattle.std.specs.Prelude.{◌≡◌, ◌<◌, ◌^◌, ℕ, List, [], map, codes, Option, None, Some, unwrap_or, option_map, All, Contains}
+use Rattle.std.specs.Prelude.{◌≡◌, ◌<◌, ◌^◌, ℕ, Bool, false, List, [], map, codes, Option, None, Some, unwrap_or, option_map, All, Contains, bytes_eq}
 use Rattle.std.specs.Option.{SomeIff}
 use Rattle.std.specs.Str.Parse.{IsNumeral, digits_value, without_leading_plus}
 use Rattle.clap.specs.Words.{Row, all_of, first_of, one_of}
@@ -42,6 +42,11 @@ default_limit = 500
 abbrev pub ReadsLimit : Option (List ℕ) → ℕ → Type 0
 ReadsLimit text limit = (number : Option ℕ) × ReadsNumber 16 text number × (limit ≡ unwrap_or number default_limit)
 
+-- a flag is set where its text, as `clap` reads it, is `true`
+abbrev pub is_set : Option (List ℕ) → Bool
+is_set None = false
+is_set (Some text) = bytes_eq text (codes "true")
+
 -- the words behind `render`
 pub record ReadsRender (rows : List Row) (read : RenderWords) : Type 0 where
   pub context : option_map (λ path. path.now) read.context ≡ first_of (codes "context") rows
@@ -49,11 +54,13 @@ pub record ReadsRender (rows : List Row) (read : RenderWords) : Type 0 where
   pub fuel : ReadsNumber 64 (one_of (codes "fuel") rows) read.fuel
   pub limit : ReadsLimit (one_of (codes "limit") rows) read.limit
   pub undefined : mode_of (first_of (codes "undefined") rows) ≡ Some read.undefined
+  pub builtins : read.builtins ≡ is_set (one_of (codes "builtins") rows)
   pub main : option_map (λ name. name.now) read.main ≡ first_of (codes "main") rows
   pub files : map (λ path. path.now) read.files.items ≡ values_of (codes "files") rows
 
 -- the words behind `names`
 pub record ReadsNames (rows : List Row) (read : NamesWords) : Type 0 where
+  pub builtins : read.builtins ≡ is_set (one_of (codes "builtins") rows)
   pub main : option_map (λ name. name.now) read.main ≡ first_of (codes "main") rows
   pub files : map (λ path. path.now) read.files.items ≡ values_of (codes "files") rows
 

@@ -1,8 +1,8 @@
 //! What `clap` found in the words.
 ghost use Rattle.std.specs.Prelude.{◌≡◌, [], Some, codes, map, IfErr, IfOk};
-ghost use Rattle.clap.specs.Words.{first_of, found_of, rows_of, subcommand_rows_of};
+ghost use Rattle.clap.specs.Words.{first_of, found_of, one_of, rows_of, subcommand_rows_of};
 ghost use Rattle.template_program_words.specs.Modes.{mode_of};
-ghost use Rattle.template_program_words.specs.Reading.{Defines, ReadsWords, values_of};
+ghost use Rattle.template_program_words.specs.Reading.{Defines, ReadsWords, is_set, values_of};
 ghost use Rattle.template_program_words.specs.Refusals.{RefusesWords, RefusesDefinitions, RefusesMode, RefusesRender};
 ghost use Rattle.template_program_words.specs.declared.faults.WordsFault.TheVariants.{Memory};
 
@@ -45,6 +45,7 @@ fn render_words<'a>(alloc: Global, matches: &ArgMatches<'a>) -> Result<Words<'a>
         fuel: matches.get_one::<u64>("fuel"),
         limit: matches.get_one::<u16>("limit").unwrap_or(DEFAULT_LIMIT),
         undefined,
+        builtins: is_flagged(matches, "builtins"),
         main: matches.get_str("main"),
         files: values(alloc, matches, "files")?,
     }))
@@ -68,9 +69,17 @@ fn names_words<'a>(alloc: Global, matches: &ArgMatches<'a>) -> Result<Words<'a>,
     ensures refuses { IfErr result (λ fault. fault ≡ Memory) }
 {
     Ok(Words::Names(NamesWords {
+        builtins: is_flagged(matches, "builtins"),
         main: matches.get_str("main"),
         files: values(alloc, matches, "files")?,
     }))
+}
+
+/// Is this flag set?
+fn is_flagged(matches: &ArgMatches<'_>, id: &str) -> bool
+    ensures { result ≡ is_set (one_of id.now (rows_of (found_of matches.now))) }
+{
+    matches.get_one::<bool>(id).unwrap_or(false)
 }
 
 /// All values of `id`.

@@ -40,7 +40,7 @@ fn bare_program<'a>(alloc: Global) -> Result<Command<'a>, AllocError>
         .bin_name("template")
 }
 
-/// `render [--context FILE] [-D NAME=TEXT]... [--fuel N] [--limit N] [--undefined MODE] [--main NAME] [FILE...]`
+/// `render [--context FILE] [-D NAME=TEXT]... [--fuel N] [--limit N] [--undefined MODE] [--builtins] [--main NAME] [FILE...]`
 fn render<'a>(alloc: Global) -> Result<Command<'a>, AllocError>
     ensures app { IfOk result (λ command. app_of command ≡ line.render_command) }
     ensures local { IfOk result (λ command. (out-Command command).has_globals ≡ false) }
@@ -60,18 +60,20 @@ fn render_arguments<'a>(alloc: Global) -> Result<Vec<Arg<'a>>, AllocError>
         fuel(alloc),
         limit(alloc),
         undefined(alloc),
+        builtins(alloc),
         main(alloc),
         files(alloc),
     ]?)
 }
 
-/// `names [--main NAME] [FILE...]`
+/// `names [--builtins] [--main NAME] [FILE...]`
 fn names<'a>(alloc: Global) -> Result<Command<'a>, AllocError>
     ensures app { IfOk result (λ command. app_of command ≡ line.names_command) }
     ensures local { IfOk result (λ command. (out-Command command).has_globals ≡ false) }
 {
     Command::new(alloc, "names")
         .about("Prints the names of a context that can matter to the main template, one a line")
+        .arg(builtins(alloc))?
         .arg(main(alloc))?
         .arg(files(alloc))
 }
@@ -131,6 +133,16 @@ fn undefined<'a>(alloc: Global) -> Arg<'a>
     let help =
         "What may be done with undefined values: lenient (if not given), chainable, semistrict or strict";
     taking(alloc, "undefined", "MODE", help).long("undefined")
+}
+
+fn builtins<'a>(alloc: Global) -> Arg<'a>
+    ensures rule { rule_of result ≡ line.builtins_option }
+    ensures local { result.global ≡ false }
+{
+    Arg::new(alloc, "builtins")
+        .long("builtins")
+        .help("Templates have the builtin filters and tests; none if not given")
+        .action(ArgAction::SetTrue)
 }
 
 fn main<'a>(alloc: Global) -> Arg<'a>

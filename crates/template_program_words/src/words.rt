@@ -24,6 +24,8 @@ pub struct RenderWords<'a> {
     pub limit: u16,
     /// What may be done with undefined values: lenient where no word says it.
     pub undefined: UndefinedBehavior,
+    /// Whether templates have the builtins.
+    pub builtins: bool,
     /// The name of the main template.
     pub main: Option<&'a str>,
     /// The paths of the templates, in the order of the words.
@@ -33,6 +35,8 @@ pub struct RenderWords<'a> {
 /// The words behind `names`.
 #[derive(Debug, Drop)]
 pub struct NamesWords<'a> {
+    /// Whether templates have the builtins.
+    pub builtins: bool,
     /// The name of the main template.
     pub main: Option<&'a str>,
     /// The paths of the templates, in the order of the words.

@@ -5,9 +5,10 @@ use Rattle.template_compiler_syntax.specs.Syntax.{Syntax, default_syntax}
 use Rattle.template_machine_surroundings.specs.declared.escape.EscapeRule.{EscapeRule}
 use Rattle.template_machine_surroundings.specs.declared.escape.EscapeRule.TheVariants.{ByName}
 use Rattle.template_environment_settings.specs.Sources.{IsAccepted, IsRefusedWith, Source}
-use Rattle.template_environment_settings.specs.Extras.{Extras}
+use Rattle.template_environment_settings.specs.Extras.{Extras, brought_by}
 use Rattle.template_environment_settings.specs.Reading.{registry_of, rule_for}
 use Rattle.template_environment_settings.specs.Standing.{Settings, source_at}
+use Rattle.template_program_run.specs.Brought.{program_answers}
 use Rattle.template_program_run.specs.Environments.{IsSetFor}
 use Rattle.template_program_run.specs.History.{source_for}
 use Rattle.template_program_run.proofs.Histories.{accepted-next, refuses-at, source-next}
@@ -48,7 +49,7 @@ loop-name-preserved c =
     let name : c.as_str.result.now ≡ string_bytes (get_or xs i d).0 = c.as_str.ensures.value ∙ ap (λ x. string_bytes x.0) c.loop-name-item.is in
     let text : c.as_str-in-loop-name.result.now ≡ string_bytes (get_or xs i d).1 = c.as_str-in-loop-name.ensures.value ∙ ap (λ x. string_bytes x.1) c.loop-name-item.is in
     let source = read_there _ _ _ _ c.loop-name.invariant.settings.syntax c.loop-name.invariant.settings.escapes text in
-    let unset = ap (λ (x : Extras _ _ _ _ _). x.rule) c.loop-name.invariant.extras in
+    let unset = c.loop-name.invariant.rule in
     let ruled = ruled_there _ _ _ _ _ _ _ unset c.loop-name.invariant.settings.syntax c.loop-name.invariant.settings.escapes text in
     let before = registry_of c.loop-name.environment in
     record {
@@ -60,5 +61,6 @@ loop-name-preserved c =
           ∙ ap (λ o. if bytes_eq (string_bytes (get_or xs i d).0) q then Some (source_for (string_bytes (get_or xs i d).1)) else o) (c.loop-name.invariant.stands q)
           ∙ sym (source-next xs i d c.loop-name-test.true q);
       settings = subst (λ (s : Settings). IsSetFor c.args.request.now c.args.ids.now s) (sym c.in_ok-add_template.ensures.settings) c.loop-name.invariant.settings;
-      extras = c.in_ok-add_template.ensures.extras ∙ c.loop-name.invariant.extras;
+      brought = ap (λ (x : Extras _ _ _ _ _). brought_by program_answers x) c.in_ok-add_template.ensures.extras ∙ c.loop-name.invariant.brought;
+      rule = ap (λ (x : Extras _ _ _ _ _). x.rule) c.in_ok-add_template.ensures.extras ∙ c.loop-name.invariant.rule;
     }

@@ -1,50 +1,12 @@
-use Rattle.std.proofs.Common.{◌∙◌, ap, sym, subst, rules, List, ℕ, option_copied}
-use Rattle.template_machine_surroundings.specs.Rule.{IsEscapeOf}
-use Rattle.template_environment_settings.specs.Compiled.{standing_of}
-use Rattle.template_environment_settings.specs.Reading.{extras_of, registry_of}
-use Rattle.template_environment_settings.specs.Views.{compiled_in, environment_of, source_of}
+use Rattle.std.proofs.Common.{subst, option_copied}
+use Rattle.template_environment_settings.specs.Extras.{Brought}
 use Rattle.template_program_parts.specs.Context.{text_pairs}
-use Rattle.template_program_run.specs.Environments.{IsMade}
-use Rattle.template_program_parts.specs.declared.command.Command.TheVariants as asked
-use Rattle.template_program_run.proofs.Counting.{one_more, rendered_counts, told_counts}
-use Rattle.template_program_run.proofs.MainStands.{answers_done, rendered_does}
+use Rattle.template_program_run.specs.Answers.{AnswersWith}
+use Rattle.template_program_run.proofs.Bringing.{none_brought}
 use Rattle.template_program_run.proofs.running.run.Goals as goal
 
--- nothing was brought to the environment of the template
-pub render-requires : goal.render-requires
-render-requires g c = ap extras_of c.in-Ok-get_template.ensures.here ∙ c.in-Ok-environment_of.ensures.extras
-
-pub returns-in-Render-clause-answers : goal.returns-in-Render-clause-answers
-returns-in-Render-clause-answers g c =
-    let e = c.in-Ok-environment_of in
-    let t = c.in-Ok-get_template in
-    let made = subst (λ x. IsMade c.args.request.now (text_pairs c.args.templates.now) c.args.ids.now (registry_of x)) (sym t.ensures.here) e.ensures.made in
-    let main = c.as_str.ensures.value in
-    answers_done c.args.request.now (text_pairs c.args.templates.now) (option_copied c.args.context) c.args.ids.now c.render.result _ _ _ _
-    c.in-Ok.context c.in-Ok.ensures.has e.ensures.had_one e.ensures.accepted (registry_of (environment_of t.template)) made (compiled_in t.template.compiled)
-    (t.ensures.named ∙ main) (search rules) (subst (λ (n : List ℕ). IsEscapeOf (source_of t.template).escapes n (compiled_in t.template.compiled).escape) (t.ensures.named ∙ main) c.render.ensures.rule)
-    asked.Render (search rules)
-    (rendered_does c.args.request.now (option_copied c.args.context) c.args.ids.now c.render.result _ _ _ _ c.in-Ok.context c.in-Ok.ensures.has (search rules)
-    (registry_of (environment_of t.template)) (standing_of (compiled_in t.template.compiled)) c.environment_of.new.ids
-    (e.ensures.counted ∙ one_more c.args.ids.now e.ensures.had_one) c.render.ensures.rendered)
-
-pub returns-in-Names-clause-answers : goal.returns-in-Names-clause-answers
-returns-in-Names-clause-answers g c =
-    let e = c.in-Ok-environment_of in
-    let t = c.in-Ok-get_template in
-    let main = c.as_str.ensures.value in
-    answers_done c.args.request.now (text_pairs c.args.templates.now) (option_copied c.args.context) c.args.ids.now c.tell_names.result _ _ _ _
-    c.in-Ok.context c.in-Ok.ensures.has e.ensures.had_one e.ensures.accepted (registry_of e.environment) e.ensures.made (compiled_in t.template.compiled)
-    (t.ensures.named ∙ main) (search rules) (subst (λ (n : List ℕ). IsEscapeOf (source_of t.template).escapes n (compiled_in t.template.compiled).escape) (t.ensures.named ∙ main) c.tell_names.ensures.rule)
-    asked.Names (search rules) c.tell_names.ensures.told
-
-pub returns-in-Render-clause-counted : goal.returns-in-Render-clause-counted
-returns-in-Render-clause-counted g c =
-    let t = c.in-Ok-get_template.template in
-    rendered_counts (registry_of (environment_of t)) (standing_of (compiled_in t.compiled)) c.in-Ok.context c.environment_of.new.ids c.render.result _ _ _ _ c.render.ensures.rendered
-    c.args.request.now.command (search rules) c.args.ids.now c.render.new.ids c.in-Ok-environment_of.ensures.counted c.render.ensures.counted
-
-pub returns-in-Names-clause-counted : goal.returns-in-Names-clause-counted
-returns-in-Names-clause-counted g c =
-    told_counts (registry_of c.in-Ok-environment_of.environment) (standing_of (compiled_in c.in-Ok-get_template.template.compiled)) c.tell_names.result _ _ _ _ c.tell_names.ensures.told
-    c.args.request.now.command (search rules) c.args.ids.now c.environment_of.new.ids c.in-Ok-environment_of.ensures.counted
+pub returns-clause-answers : goal.returns-clause-answers
+returns-clause-answers g c =
+    subst (λ (k : Brought). AnswersWith k c.args.request.now (text_pairs c.args.templates.now) (option_copied c.args.context) c.args.ids.now
+    c.run_with.result (g.S.Sink.taken c.args.sink.now) (g.S.Sink.taken c.run_with.new.sink) (g.S.Sink.failures c.args.sink.now)
+    (g.S.Sink.failures c.run_with.new.sink)) (none_brought c.new.result c.new.ensures.builtins) c.run_with.ensures.answers

@@ -9,6 +9,7 @@ returns-clause-reads c =
       rows_of found,
       refl,
       record {
+        builtins = c.is_flagged.ensures;
         main = c.get_str.ensures ∙ first_value-rows found (codes "main");
         files = c.in_ok-values.ensures;
       },

@@ -32,6 +32,7 @@ returns-clause-reads c =
             (c.get_one-2.ensures.value t (one_text-rows found (codes "limit") ∙ e))) in
             (c.get_one-2.result, number, c.unwrap_or.ensures);
         undefined = c.in_ok-undefined.ensures.reads;
+        builtins = c.is_flagged.ensures;
         main = c.get_str-2.ensures ∙ first_value-rows found (codes "main");
         files = c.in_ok-values.ensures;
       },
