@@ -1,0 +1,4 @@
+pub mod Chaining
+pub mod Counting
+pub mod Joining
+pub mod Pairing

@@ -1,0 +1,10 @@
+//! The builtin filters on lists: what each makes of a value and of the arguments after it.
+#![tactic(auto)]
+
+mod chains;
+mod counts;
+mod filter;
+mod joins;
+mod lists;
+
+pub use filter::ListFilter;

@@ -1,0 +1,11 @@
+pub mod Filters
+pub mod Cases
+pub mod Trims
+pub mod Reading
+pub mod Escaping
+pub mod Replacing
+pub mod Indenting
+pub mod Putting
+pub mod Lists
+pub mod Inside
+pub mod Json

@@ -1,0 +1,9 @@
+use Rattle.std.proofs.Common.{◌≡◌, ◌<◌, ap, ◌∙◌, arith}
+use Rattle.std.specs.Str.Lines.{lines}
+use Rattle.template_values_model.specs.Val.{vals_of}
+use Rattle.template_values_core.specs.Depth.{vals_depth}
+use Rattle.template_builtins_texts.proofs.Flat.{texts_depth}
+use Rattle.template_builtins_texts.proofs.lists.line_list.Goals as goal
+
+pub shallow_list-requires : goal.shallow_list-requires
+shallow_list-requires c = omega (arith, rw c.in_ok-items.ensures.made (texts_depth c.args.safe (lines c.args.text.now)))
