@@ -3,9 +3,12 @@ ghost use Rattle.template_builtins_arguments.specs.Answers.{Tells};
 ghost use Rattle.template_builtins_lists.specs.Filters as filters;
 ghost use Rattle.template_callables.specs.Views.{seen_in};
 
+use crate::chains::{all_by_place, with_items_of_all};
 use crate::counts::count_of;
 use crate::joins::{joined, printable};
+use crate::lines::{batched, count_from, sliced};
 use crate::lists::{first_of, last_of, list_from, pairs_of_map, reversed};
+use crate::zips::zipped_with;
 use std::alloc::Global;
 use template_builtins_arguments::{Arguments, items_of};
 use template_builtins_paths::{parts_at, path_from};
@@ -30,11 +33,19 @@ pub enum ListFilter {
     Join,
     /// The pairs of a map as tuples.
     Items,
+    /// The items in lists of so many.
+    Batch,
+    /// The items in so many lists.
+    Slice,
+    /// Tuples of the items of the value and of the arguments, side by side.
+    Zip,
+    /// The items of the value, and those of the arguments behind them.
+    Chain,
 }
 
 impl ListFilter {
-    /// What the filter makes of a value and the arguments after it. Linear in the number of items, and in the length of what is
-    /// printed.
+    /// What the filter makes of a value and the arguments after it. Linear in the number of items, of those that are filled in and
+    /// of the lists that are made, and in the length of what is printed.
     ///
     /// # Errors
     ///
@@ -65,6 +76,10 @@ impl ListFilter {
             ListFilter::Reverse => turned(alloc, view, value, arguments),
             ListFilter::Join => joining(alloc, view, value, arguments),
             ListFilter::Items => pairs(alloc, view, value, arguments),
+            ListFilter::Batch => batches(alloc, view, value, arguments),
+            ListFilter::Slice => slices(alloc, view, value, arguments),
+            ListFilter::Zip => zipped(alloc, view, value, arguments),
+            ListFilter::Chain => chained(alloc, view, value, arguments),
         }
     }
 }
@@ -166,4 +181,62 @@ fn pairs(
 {
     Arguments::read(&[], 0, arguments)?;
     pairs_of_map(alloc, view, value)
+}
+
+#[tactic(auto, unfolding(crate::specs::Filters::chained))]
+fn chained(
+    alloc: Global,
+    view: &CallView<'_>,
+    value: &Value,
+    arguments: &[Value],
+) -> Result<Value, Error>
+    ensures { Tells result (filters.chained (seen_in view.now) value.now arguments.now) }
+{
+    let others = all_by_place(arguments)?;
+    let items = items_of(alloc, view, value)?;
+    let whole = with_items_of_all(alloc, view, others, items)?;
+    list_from(alloc, whole)
+}
+
+#[tactic(auto, unfolding(crate::specs::Filters::zipped))]
+fn zipped(
+    alloc: Global,
+    view: &CallView<'_>,
+    value: &Value,
+    arguments: &[Value],
+) -> Result<Value, Error>
+    ensures { Tells result (filters.zipped (seen_in view.now) value.now arguments.now) }
+{
+    let others = all_by_place(arguments)?;
+    zipped_with(alloc, view, value, others)
+}
+
+#[tactic(auto, unfolding(crate::specs::Filters::batches))]
+fn batches(
+    alloc: Global,
+    view: &CallView<'_>,
+    value: &Value,
+    arguments: &[Value],
+) -> Result<Value, Error>
+    ensures { Tells result (filters.batches (seen_in view.now) value.now arguments.now) }
+{
+    let given = Arguments::read(&["linecount", "fill_with"], 1, arguments)?;
+    let items = items_of(alloc, view, value)?;
+    let count = count_from(&given, 0)?;
+    batched(alloc, count, given.at(1), items.as_slice())
+}
+
+#[tactic(auto, unfolding(crate::specs::Filters::slices))]
+fn slices(
+    alloc: Global,
+    view: &CallView<'_>,
+    value: &Value,
+    arguments: &[Value],
+) -> Result<Value, Error>
+    ensures { Tells result (filters.slices (seen_in view.now) value.now arguments.now) }
+{
+    let given = Arguments::read(&["slices", "fill_with"], 1, arguments)?;
+    let items = items_of(alloc, view, value)?;
+    let count = count_from(&given, 0)?;
+    sliced(alloc, count, given.at(1), items.as_slice())
 }
