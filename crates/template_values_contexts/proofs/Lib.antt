@@ -1,0 +1,4 @@
+pub mod Documents
+pub mod Levels
+pub mod Steps
+pub mod Wholes
