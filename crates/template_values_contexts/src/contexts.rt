@@ -139,7 +139,7 @@ fn object_value(alloc: Global, tree: &Json<'_>) -> Result<Value, Error>
     ensures refused { IfErr result (IsRefusal (contexts.fault_of_top (value_view tree.now))) }
 {
     match tree {
-        Json::Object(_) => value_from(alloc, tree),
+        Json::Object(_) => value_from(alloc, tree, None),
         _ => Err(Error::new(ErrorKind::InvalidOperation)),
     }
 }

@@ -3,6 +3,7 @@
 
 mod contexts;
 mod error;
+mod names;
 mod numbers;
 mod paths;
 mod places;
