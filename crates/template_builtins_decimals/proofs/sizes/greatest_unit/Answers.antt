@@ -1,5 +1,5 @@
-use Rattle.std.proofs.Common.{arith, ◌^◌, sym, ◌∙◌}
-use Rattle.template_builtins_decimals.proofs.Units.{unit_stays, unit_goes, unit_ends, amount_fits, amount_least, amount_grows, amount_greatest}
+use Rattle.std.proofs.Common.{arith, sym, ◌∙◌}
+use Rattle.template_builtins_decimals.proofs.Units.{unit_stays, unit_goes, unit_ends, amount_least, amount_grows, amount_greatest}
 use Rattle.template_builtins_decimals.proofs.sizes.greatest_unit.Goals as goal
 
 pub loop-letter-preserved : goal.loop-letter-preserved

@@ -1,4 +1,4 @@
-use Rattle.std.proofs.Common.{arith, ◌^◌}
+use Rattle.std.proofs.Common.{arith}
 use Rattle.template_builtins_decimals.specs.Sizes.{tenths}
 use Rattle.template_builtins_decimals.proofs.Units.{whole_tenths, rest_tenths, tenths_parts}
 use Rattle.template_builtins_decimals.proofs.sizes.tenths.Goals as goal
