@@ -1,0 +1,9 @@
+pub mod Ends
+pub mod Entries
+pub mod Exchanging
+pub mod Gathering
+pub mod Parting
+pub mod Places
+pub mod Reversing
+pub mod Signs
+pub mod Wording

@@ -1,0 +1,17 @@
+use Rattle.std.proofs.Common.{◌≡◌, ℕ, List, Bor, ◌+◌, Some, ap, ◌∙◌}
+use Rattle.std.specs.Int.{w128}
+use Rattle.std.specs.Int.RustNames.{FitsSigned}
+use Rattle.std.proofs.lemmas.Int.{to_z-of_z}
+use Rattle.std.proofs.lemmas.Iterator.Consumers.{map_from_collect}
+use Rattle.template_builtins_texts.specs.Replacing.{places_up_to}
+use Rattle.template_builtins_pieces.proofs.Parting.{yields_parts}
+use Rattle.template_builtins_pieces.proofs.cuts.parts_between.Goals as goal
+
+pub returns : goal.returns
+returns c =
+    let fits : FitsSigned w128 c.args.count = c.ranges.count in
+    let cuts : c.cuts_up_to.result ≡ places_up_to (Some c.args.count) c.args.text.now = simp to_z-of_z at c.cuts_up_to.ensures.is in
+    map_from_collect _ c.collect.ensures.ran
+    (yields_parts c.args.separator.now c.args.text.now (places_up_to (Some c.args.count) c.args.text.now) c.requires c.splitn.ensures.text c.splitn.ensures.has_more
+    (ap (λ (p : Bor (List ℕ)). p.now) c.splitn.ensures.pattern)
+    (c.splitn.ensures.count ∙ ap (λ (k : ℕ). k + 1) cuts))

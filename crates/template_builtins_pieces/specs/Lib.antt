@@ -1,0 +1,10 @@
+pub mod Affixes
+pub mod Answers
+pub mod Cuts
+pub mod Joins
+pub mod Padding
+pub mod Partitions
+pub mod Reading
+pub mod Replacing
+pub mod Splitting
+pub mod Words
