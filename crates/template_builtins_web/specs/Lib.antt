@@ -1,0 +1,3 @@
+pub mod Filters
+pub mod Json
+pub mod Markup
