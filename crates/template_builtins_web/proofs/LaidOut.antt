@@ -1,10 +1,9 @@
 -- Lemmas on JSON that is laid out.
-use Rattle.std.proofs.Common.{◌≡◌, ℕ, zero, suc, ◌+◌, ◌-◌, ◌<◌, ◌≤◌, List, [], ◌∷◌, ◌++◌, length, drop, get_or, refl, sym, ◌∙◌, ap, arith, append_assoc, append-nil, Bool, true, false, decimal, Result, Ok, Err, ℤ, pos, negsuc, nat_le, int_le, if◌then◌else◌, Bor}
+use Rattle.std.proofs.Common.{◌≡◌, ℕ, zero, suc, ◌-◌, ◌<◌, ◌≤◌, List, [], ◌∷◌, ◌++◌, length, drop, get_or, refl, sym, ◌∙◌, ap, arith, append_assoc, Bool, true, false, decimal, Result, Ok, Err, ℤ, pos, negsuc, nat_le, int_le, if◌then◌else◌, Bor}
 use Rattle.std.specs.List.{repeat}
 use Rattle.std.proofs.lemmas.Bool.{false≢true}
 use Rattle.serde_json.specs.Data.{Data, Items, Members, array, no_items, object, number, unsigned, negative}
-use Rattle.serde_json.specs.Written.{comma_if, compact_text}
-use Rattle.json.specs.Print.{quoted}
+use Rattle.serde_json.specs.Written.{compact_text}
 use Rattle.template_values_model.specs.Fault.{Fault, bad_serialization}
 use Rattle.template_values_model.specs.Val as value
 use Rattle.template_values_model.specs.Val.{Val, Vals, Pairs, vals_of}
