@@ -3,7 +3,7 @@ ghost use Rattle.template_builtins_arguments.specs.Answers.{Tells};
 ghost use Rattle.template_builtins_web.specs.Filters.{web_filtered};
 ghost use Rattle.template_callables.specs.Views.{seen_in};
 
-use crate::json;
+use crate::{attributes, json, queries};
 use std::alloc::Global;
 use template_callables::CallView;
 use template_values_core::Value;
@@ -14,6 +14,10 @@ use template_values_errors::Error;
 pub enum WebFilter {
     /// The JSON text, where it means nothing to HTML, on one line or with `indent` spaces a level.
     ToJson,
+    /// The text as a part of a URL, or the pairs of a map, list or tuple as its query.
+    UrlEncode,
+    /// A map as the attributes of an element.
+    XmlAttr,
 }
 
 impl WebFilter {
@@ -23,8 +27,8 @@ impl WebFilter {
     ///
     /// - [`ErrorKind::TooManyArguments`], by the arguments that the filter has.
     /// - Then, from the value on: [`ErrorKind::UndefinedError`] at an undefined value, where these may not be printed;
-    ///   [`ErrorKind::InvalidOperation`] at a namespace, or an argument of a wrong kind or size; [`ErrorKind::BadSerialization`], where
-    ///   the value has no JSON text.
+    ///   [`ErrorKind::InvalidOperation`] at a record, a value of a wrong kind, a key that is no name, or an argument of a wrong kind or
+    ///   size; [`ErrorKind::BadSerialization`], where the value has no JSON text.
     /// - [`ErrorKind::OutOfMemory`]
     ///
     /// [`ErrorKind::TooManyArguments`]: template_values_errors::ErrorKind::TooManyArguments
@@ -43,6 +47,8 @@ impl WebFilter {
     {
         match self {
             WebFilter::ToJson => json::to_json(alloc, view, value, arguments),
+            WebFilter::UrlEncode => queries::url_encode(alloc, view, value, arguments),
+            WebFilter::XmlAttr => attributes::xml_attributes(alloc, view, value, arguments),
         }
     }
 }

@@ -1,6 +1,7 @@
-//! The builtin filters that make texts for the web: JSON that means nothing to HTML.
+//! The builtin filters that make texts for the web: JSON that means nothing to HTML, parts of URLs, and attributes of elements.
 #![tactic(auto)]
 
+mod attributes;
 mod filter;
 mod json;
 mod layout;
@@ -8,5 +9,7 @@ mod leaves;
 mod lines;
 mod markup;
 mod pretty;
+mod queries;
+mod urls;
 
 pub use filter::WebFilter;
