@@ -1,5 +1,5 @@
 //! The JSON of a value that holds no others, and of bytes, laid out.
-ghost use Rattle.std.specs.Prelude.{◌≡◌, ◌≤◌, ◌∷◌, [], decimal, false, Ok, string_bytes};
+ghost use Rattle.std.specs.Prelude.{◌≡◌, ◌≤◌, ◌∷◌, decimal, false, Ok, string_bytes};
 ghost use Rattle.serde_json.specs.Written.{compact_text};
 ghost use Rattle.template_builtins_web.specs.Json.{before_item, nests, pretty_items, pretty_text};
 ghost use Rattle.template_values_forms.specs.Answers.{joined, mapped};
@@ -21,7 +21,8 @@ pub(crate) fn pretty_flat(
     out: &mut String,
 ) -> Result<(), Error>
     requires { level ≤ 1000 }
-    ensures { Writes Markup.Plain (string_bytes out.old) (mapped (pretty_text indent.now level) (flat_data value.now)) result (string_bytes out.new) }
+    ensures { Writes Markup.Plain (string_bytes out.old) (mapped (pretty_text indent.now level) (flat_data value.now))
+        result (string_bytes out.new) }
 {
     match value.content() {
         Content::Bytes(bytes) => pretty_bytes(bytes, indent, level, out),

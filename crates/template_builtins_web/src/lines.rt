@@ -32,7 +32,8 @@ pub(crate) fn push_end(
     bracket: &str,
     out: &mut String,
 ) -> Result<(), Error>
-    ensures { Writes Markup.Plain (string_bytes out.old) (Ok (before_end later indent.now level ++ bracket.now)) result (string_bytes out.new) }
+    ensures { Writes Markup.Plain (string_bytes out.old) (Ok (before_end later indent.now level ++ bracket.now))
+        result (string_bytes out.new) }
 {
     if later {
         push_line(indent, level, out)?;
