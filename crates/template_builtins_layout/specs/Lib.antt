@@ -1,0 +1,5 @@
+pub mod Filters
+pub mod Reading
+pub mod Widths
+pub mod Words
+pub mod Centers

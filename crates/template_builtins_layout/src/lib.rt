@@ -1,0 +1,9 @@
+//! The builtin filters on the layout of texts: what each makes of a value and of the arguments after it.
+#![tactic(auto)]
+
+mod centers;
+mod filter;
+mod reading;
+mod words;
+
+pub use filter::LayoutFilter;
