@@ -1,17 +1,19 @@
 -- What the filters on the layout of texts make of a value and the arguments after it.
-use Rattle.std.specs.Prelude.{ℕ, pos, List, [], ◌∷◌, Option, Ok, codes}
+use Rattle.std.specs.Prelude.{ℕ, ℤ, pos, Bool, false, List, [], ◌∷◌, Option, Result, Ok, codes}
+use Rattle.template_values_errors.specs.declared.ErrorKind.{ErrorKind}
 use Rattle.template_values_model.specs.Val as value
 use Rattle.template_values_model.specs.Val.{Val}
 use Rattle.template_callables.specs.Callables.{View}
 use Rattle.template_builtins_arguments.specs.Answers.{Made, then}
-use Rattle.template_builtins_arguments.specs.Arguments.{arguments}
+use Rattle.template_builtins_arguments.specs.Arguments.{arguments, flag_from, number_from, text_from}
 use Rattle.template_builtins_arguments.specs.Parts.{text_of}
 use Rattle.template_builtins_arguments.specs.Texts.{is_safe, text_made}
 use Rattle.template_builtins_layout.specs.Reading.{lone_text, width_of}
 use Rattle.template_builtins_layout.specs.Words.{word_count}
 use Rattle.template_builtins_layout.specs.Centers.{centered}
+use Rattle.template_builtins_layout.specs.Truncating.{leeway_from, length_from, truncated}
 use Rattle.template_builtins_layout.specs.declared.filter.LayoutFilter.{LayoutFilter}
-use Rattle.template_builtins_layout.specs.declared.filter.LayoutFilter.TheVariants.{WordCount, Center}
+use Rattle.template_builtins_layout.specs.declared.filter.LayoutFilter.TheVariants.{WordCount, Center, Truncate}
 
 abbrev pub count_words : View → Val → List Val → Made
 count_words view v vs = then (lone_text view v vs) (λ s. Ok (value.int (pos (word_count s))))
@@ -25,6 +27,35 @@ center view v vs =
     then (arguments (codes "width" ∷ []) 0 vs) (λ given.
     then (text_of view v) (λ s. center_given v given s))
 
+-- a text cut off at a length, with an end
+abbrev pub truncate_before : View → Val → (ℕ → Option Val) → List ℕ → ℤ → Bool → List ℕ → Made
+truncate_before view v given s length killwords end =
+    then (length_from length end) (λ n.
+    then (number_from (given 3) (pos 5)) (λ spare.
+    then (leeway_from spare) (λ leeway.
+    Ok (truncated view v (given 2) s n killwords end leeway))))
+
+-- what stands at the end of a text that is cut off
+unfoldable pub end_of : View → (ℕ → Option Val) → Result (List ℕ) ErrorKind
+end_of view given = text_from view (given 2) (codes "...")
+
+abbrev pub truncate_words : View → Val → (ℕ → Option Val) → List ℕ → ℤ → Bool → Made
+truncate_words view v given s length killwords =
+    then (end_of view given) (λ end. truncate_before view v given s length killwords end)
+
+abbrev pub truncate_to : View → Val → (ℕ → Option Val) → List ℕ → ℤ → Made
+truncate_to view v given s length =
+    then (flag_from view (given 1) false) (λ killwords. truncate_words view v given s length killwords)
+
+abbrev pub truncate_given : View → Val → (ℕ → Option Val) → List ℕ → Made
+truncate_given view v given s = then (number_from (given 0) (pos 255)) (λ length. truncate_to view v given s length)
+
+abbrev pub truncate : View → Val → List Val → Made
+truncate view v vs =
+    then (arguments (codes "length" ∷ codes "killwords" ∷ codes "end" ∷ codes "leeway" ∷ []) 0 vs) (λ given.
+    then (text_of view v) (λ s. truncate_given view v given s))
+
 abbrev pub layout_filtered : LayoutFilter → View → Val → List Val → Made
 layout_filtered WordCount view v vs = count_words view v vs
 layout_filtered Center view v vs = center view v vs
+layout_filtered Truncate view v vs = truncate view v vs

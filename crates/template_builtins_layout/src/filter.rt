@@ -3,7 +3,7 @@ ghost use Rattle.template_builtins_arguments.specs.Answers.{Tells};
 ghost use Rattle.template_builtins_layout.specs.Filters.{layout_filtered};
 ghost use Rattle.template_callables.specs.Views.{seen_in};
 
-use crate::{centers, words};
+use crate::{centers, truncating, words};
 use std::alloc::Global;
 use template_callables::CallView;
 use template_values_core::Value;
@@ -16,6 +16,8 @@ pub enum LayoutFilter {
     WordCount,
     /// The text in the middle of `width` characters.
     Center,
+    /// The first `length` characters, where there are more, with `end` as the last ones.
+    Truncate,
 }
 
 impl LayoutFilter {
@@ -44,6 +46,7 @@ impl LayoutFilter {
         match self {
             LayoutFilter::WordCount => words::count_words(alloc, view, value, arguments),
             LayoutFilter::Center => centers::center(alloc, view, value, arguments),
+            LayoutFilter::Truncate => truncating::truncate(alloc, view, value, arguments),
         }
     }
 }

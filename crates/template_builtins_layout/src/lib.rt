@@ -3,7 +3,10 @@
 
 mod centers;
 mod filter;
+mod fronts;
+mod putting;
 mod reading;
+mod truncating;
 mod words;
 
 pub use filter::LayoutFilter;
