@@ -12,8 +12,9 @@ use Rattle.template_builtins_layout.specs.Reading.{lone_text, width_of}
 use Rattle.template_builtins_layout.specs.Words.{word_count}
 use Rattle.template_builtins_layout.specs.Centers.{centered}
 use Rattle.template_builtins_layout.specs.Truncating.{leeway_from, length_from, truncated}
+use Rattle.template_builtins_layout.specs.Stripping.{stripped}
 use Rattle.template_builtins_layout.specs.declared.filter.LayoutFilter.{LayoutFilter}
-use Rattle.template_builtins_layout.specs.declared.filter.LayoutFilter.TheVariants.{WordCount, Center, Truncate}
+use Rattle.template_builtins_layout.specs.declared.filter.LayoutFilter.TheVariants.{WordCount, Center, Truncate, StripTags}
 
 abbrev pub count_words : View → Val → List Val → Made
 count_words view v vs = then (lone_text view v vs) (λ s. Ok (value.int (pos (word_count s))))
@@ -55,7 +56,12 @@ truncate view v vs =
     then (arguments (codes "length" ∷ codes "killwords" ∷ codes "end" ∷ codes "leeway" ∷ []) 0 vs) (λ given.
     then (text_of view v) (λ s. truncate_given view v given s))
 
+-- a plain text without tags
+abbrev pub strip_tags : View → Val → List Val → Made
+strip_tags view v vs = then (lone_text view v vs) (λ s. Ok (value.text (stripped s)))
+
 abbrev pub layout_filtered : LayoutFilter → View → Val → List Val → Made
 layout_filtered WordCount view v vs = count_words view v vs
 layout_filtered Center view v vs = center view v vs
 layout_filtered Truncate view v vs = truncate view v vs
+layout_filtered StripTags view v vs = strip_tags view v vs

@@ -6,3 +6,7 @@ pub mod Words
 pub mod Centers
 pub mod Fronts
 pub mod Truncating
+pub mod Tags
+pub mod Spacing
+pub mod References
+pub mod Stripping

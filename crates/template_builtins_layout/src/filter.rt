@@ -3,7 +3,7 @@ ghost use Rattle.template_builtins_arguments.specs.Answers.{Tells};
 ghost use Rattle.template_builtins_layout.specs.Filters.{layout_filtered};
 ghost use Rattle.template_callables.specs.Views.{seen_in};
 
-use crate::{centers, truncating, words};
+use crate::{centers, tags, truncating, words};
 use std::alloc::Global;
 use template_callables::CallView;
 use template_values_core::Value;
@@ -18,6 +18,8 @@ pub enum LayoutFilter {
     Center,
     /// The first `length` characters, where there are more, with `end` as the last ones.
     Truncate,
+    /// The text without tags, with single spaces, and with characters for their references.
+    StripTags,
 }
 
 impl LayoutFilter {
@@ -47,6 +49,7 @@ impl LayoutFilter {
             LayoutFilter::WordCount => words::count_words(alloc, view, value, arguments),
             LayoutFilter::Center => centers::center(alloc, view, value, arguments),
             LayoutFilter::Truncate => truncating::truncate(alloc, view, value, arguments),
+            LayoutFilter::StripTags => tags::strip_tags(alloc, view, value, arguments),
         }
     }
 }

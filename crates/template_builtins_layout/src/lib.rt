@@ -6,6 +6,9 @@ mod filter;
 mod fronts;
 mod putting;
 mod reading;
+mod references;
+mod spacing;
+mod tags;
 mod truncating;
 mod words;
 
