@@ -10,3 +10,6 @@ pub mod Tags
 pub mod Spacing
 pub mod References
 pub mod Stripping
+pub mod Characters
+pub mod Pieces
+pub mod Wrapping

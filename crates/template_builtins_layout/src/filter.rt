@@ -3,7 +3,7 @@ ghost use Rattle.template_builtins_arguments.specs.Answers.{Tells};
 ghost use Rattle.template_builtins_layout.specs.Filters.{layout_filtered};
 ghost use Rattle.template_callables.specs.Views.{seen_in};
 
-use crate::{centers, tags, truncating, words};
+use crate::{centers, tags, truncating, words, wordwrap};
 use std::alloc::Global;
 use template_callables::CallView;
 use template_values_core::Value;
@@ -20,10 +20,12 @@ pub enum LayoutFilter {
     Truncate,
     /// The text without tags, with single spaces, and with characters for their references.
     StripTags,
+    /// The lines broken before words that would pass `width` characters.
+    WordWrap,
 }
 
 impl LayoutFilter {
-    /// What the filter makes of a value and the arguments after it. Linear in the texts and in `width`.
+    /// What the filter makes of a value and the arguments after it. Linear in the texts that it reads and makes.
     ///
     /// # Errors
     ///
@@ -50,6 +52,7 @@ impl LayoutFilter {
             LayoutFilter::Center => centers::center(alloc, view, value, arguments),
             LayoutFilter::Truncate => truncating::truncate(alloc, view, value, arguments),
             LayoutFilter::StripTags => tags::strip_tags(alloc, view, value, arguments),
+            LayoutFilter::WordWrap => wordwrap::word_wrap(alloc, view, value, arguments),
         }
     }
 }

@@ -2,8 +2,10 @@
 #![tactic(auto)]
 
 mod centers;
+mod characters;
 mod filter;
 mod fronts;
+mod pieces;
 mod putting;
 mod reading;
 mod references;
@@ -11,5 +13,7 @@ mod spacing;
 mod tags;
 mod truncating;
 mod words;
+mod wordwrap;
+mod wrapping;
 
 pub use filter::LayoutFilter;
