@@ -1,7 +1,7 @@
 -- Lemmas on references.
-use Rattle.std.proofs.Common.{◌≡◌, ℕ, ◌<◌, ◌+◌, List, [], ◌∷◌, ◌++◌, length, Bool, true, false, ◌==◌, eqb, refl, sym, ap, ◌∙◌, arith, append-nil, append_assoc, IsUtf8, Option, None, Some, lit<}
+use Rattle.std.proofs.Common.{◌≡◌, ℕ, ◌<◌, ◌+◌, List, [], ◌∷◌, ◌++◌, length, Bool, true, false, ◌==◌, eqb, refl, sym, ap, ◌∙◌, arith, append-nil, append_assoc, IsUtf8, None, Some, lit<}
 use Rattle.std.specs.Char.{len_utf8}
-use Rattle.std.specs.List.{after_first, before_first, flat_map, onto_first, position_or_len, slice_split}
+use Rattle.std.specs.List.{after_first, before_first, flat_map, position_or_len, slice_split}
 use Rattle.std.specs.Str.Pattern.{FindsChar, SplitsAroundMatch}
 use Rattle.std.specs.Borrow.{Bor}
 use Rattle.std.proofs.lemmas.Str.Pattern.{split_once_first}

@@ -1,5 +1,5 @@
 -- Lemmas on lines that are broken.
-use Rattle.std.proofs.Common.{◌≡◌, ℕ, zero, suc, ◌+◌, ◌-◌, ◌<◌, ◌≤◌, List, [], ◌∷◌, ◌++◌, length, Bool, true, false, not, cond, map, Option, None, Some, refl, sym, ap, ◌∙◌, arith, append_assoc, append-nil, chars, encode_utf8, IsUtf8, Bor}
+use Rattle.std.proofs.Common.{◌≡◌, ℕ, zero, suc, ◌-◌, ◌≤◌, List, [], ◌∷◌, ◌++◌, length, Bool, true, false, cond, map, None, Some, refl, sym, ap, ◌∙◌, arith, append_assoc, append-nil, chars, encode_utf8, IsUtf8, Bor}
 use Rattle.std.specs.List.{flat_map, join_by}
 use Rattle.std.proofs.lemmas.Str.{chars_past_char, chars-nil, encodes-chars}
 use Rattle.template_builtins_layout.specs.Characters.{BeginsWith}

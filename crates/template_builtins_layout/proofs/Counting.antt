@@ -1,5 +1,5 @@
 -- Lemmas on the number of words.
-use Rattle.std.proofs.Common.{◌≡◌, ◌≤◌, ◌+◌, ℕ, Bool, List, [], ◌++◌, length, chars, encode_utf8, IsUtf8, ap, ◌∙◌, arith, cond, length-append}
+use Rattle.std.proofs.Common.{◌≡◌, ◌≤◌, ◌+◌, ℕ, Bool, List, ◌++◌, length, chars, encode_utf8, IsUtf8, ap, ◌∙◌, arith, cond, length-append}
 use Rattle.std.proofs.lemmas.Str.{chars_past_char, chars-nil, length-encode, len_utf8_bounds}
 use Rattle.std.proofs.lemmas.List.{nil_from_length}
 use Rattle.template_builtins_layout.specs.Words.{begins_word, is_word_character, words_from}

@@ -1,8 +1,6 @@
 -- Lemmas on the last space of a text.
-use Rattle.std.proofs.Common.{◌≡◌, ◌<◌, ◌-◌, ◌≢◌, ℕ, zero, suc, List, [], ◌∷◌, length, take, get_or, cond, eqb, Bool, true, false, Option, None, Some, refl, ap, ◌∙◌, sym, arith}
+use Rattle.std.proofs.Common.{◌≡◌, ◌<◌, ◌-◌, ◌≢◌, ℕ, zero, suc, List, [], ◌∷◌, length, take, get_or, eqb, true, false, None, Some, refl, arith}
 use Rattle.std.proofs.lemmas.Bool.Decides.{nat_tests}
-use Rattle.std.proofs.lemmas.Bool.{false_from_ne_true}
-use Rattle.std.specs.Option.{option_map, option_or, unwrap_or}
 use Rattle.std.specs.List.{slice_range}
 use Rattle.template_builtins_layout.specs.Fronts.{before_last_space, before_space}
 

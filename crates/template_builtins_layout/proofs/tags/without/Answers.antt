@@ -1,4 +1,3 @@
-use Rattle.std.proofs.Common.{sym}
 use Rattle.template_builtins_layout.proofs.Tagging.{all_left, none_left, one_less}
 use Rattle.template_builtins_layout.proofs.tags.without.Goals as goal
 

@@ -1,4 +1,4 @@
-use Rattle.std.proofs.Common.{◌<◌, IsUtf8, length, string_bytes}
+use Rattle.std.proofs.Common.{IsUtf8, length, string_bytes}
 use Rattle.template_builtins_layout.proofs.Tagging.{IsLeft}
 use Rattle.template_builtins_layout.proofs.tags.without.Given as goal
 

@@ -1,4 +1,3 @@
-use Rattle.std.proofs.Common.{refl, arith, chars}
 use Rattle.template_builtins_layout.proofs.Blanks.{fewer}
 use Rattle.template_builtins_layout.proofs.Broken.{line_all, line_end, line_more}
 use Rattle.template_builtins_layout.proofs.wrapping.push_line.Goals as goal
