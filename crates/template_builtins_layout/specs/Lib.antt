@@ -13,3 +13,4 @@ pub mod Stripping
 pub mod Characters
 pub mod Pieces
 pub mod Wrapping
+pub mod Layouts

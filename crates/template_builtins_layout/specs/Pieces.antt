@@ -1,5 +1,6 @@
 -- The words of a line, with the white space before each.
-use Rattle.std.specs.Prelude.{ℕ, zero, suc, ◌&&◌, Bool, true, false, not, List, [], ◌∷◌, length, nat_lt, Option, None, Some, if◌then◌else◌}
+use Rattle.std.specs.Prelude.{◌≡◌, ℕ, zero, suc, ◌&&◌, Bool, true, false, not, List, [], ◌∷◌, length, nat_lt, chars, MatchOption, Option, None, Some, if◌then◌else◌}
+use Rattle.std.specs.Borrow.{Bor}
 use Rattle.std.specs.Char.{is_whitespace}
 
 -- white space of ASCII
@@ -26,6 +27,10 @@ piece_from gap (c ∷ cs) = Some ((gap, first_ones false (c ∷ cs)), behind_one
 
 abbrev pub first_piece : List ℕ → Option ((List ℕ × List ℕ) × List ℕ)
 first_piece cs = piece_from (first_ones true cs) (behind_ones true cs)
+
+-- a call gives these as texts
+abbrev pub Gives : Option ((Bor (List ℕ) × Bor (List ℕ)) × Bor (List ℕ)) → Option ((List ℕ × List ℕ) × List ℕ) → Type 0
+Gives result found = MatchOption result (found ≡ None) (λ p. found ≡ Some ((chars p.0.0.now, chars p.0.1.now), chars p.1.now))
 
 abbrev pub piece_then : (List ℕ → List (List ℕ × List ℕ)) → Option ((List ℕ × List ℕ) × List ℕ) → List (List ℕ × List ℕ)
 piece_then f None = []

@@ -1,5 +1,6 @@
 -- Texts without what stands from a start to an end: a tag.
-use Rattle.std.specs.Prelude.{ℕ, zero, suc, ◌+◌, List, [], ◌∷◌, ◌++◌, length, take, drop, bytes_eq, Option, None, Some, option_and_then, option_map, if◌then◌else◌}
+use Rattle.std.specs.Prelude.{◌≡◌, ℕ, zero, suc, ◌+◌, List, [], ◌∷◌, ◌++◌, length, take, drop, bytes_eq, Option, None, Some, option_and_then, option_map, MatchOption, if◌then◌else◌}
+use Rattle.std.specs.Borrow.{Bor}
 
 -- the first place where a text stands in another
 abbrev pub place_of : List ℕ → List ℕ → Option ℕ
@@ -15,6 +16,10 @@ around sought s = option_map (λ i. (take i s, drop (i + length sought) s)) (pla
 abbrev pub around_tag : List ℕ → List ℕ → List ℕ → Option (List ℕ × List ℕ)
 around_tag start finish s =
     option_and_then (λ parts. option_map (λ ends. (parts.0, ends.1)) (around finish parts.1)) (around start s)
+
+-- a call gives that
+abbrev pub Gives : Option (Bor (List ℕ) × Bor (List ℕ)) → Option (List ℕ × List ℕ) → Type 0
+Gives result found = MatchOption result (found ≡ None) (λ parts. found ≡ Some (parts.0.now, parts.1.now))
 
 -- what is before a tag, and what is made of the rest behind it; all where there is none
 abbrev pub skipped : (List ℕ → List ℕ) → List ℕ → Option (List ℕ × List ℕ) → List ℕ

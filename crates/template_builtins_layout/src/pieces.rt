@@ -1,5 +1,5 @@
 //! The words of a line, with the white space before each.
-ghost use Rattle.std.specs.Prelude.{◌≡◌, ◌++◌, [], IfSome, MatchOption, Some, None, chars, encode_utf8_all};
+ghost use Rattle.std.specs.Prelude.{◌≡◌, ◌++◌, IfSome, chars, encode_utf8_all};
 ghost use Rattle.std.specs.Str.{IsUtf8};
 ghost use Rattle.template_builtins_layout.specs.Pieces as pieces;
 
@@ -47,7 +47,7 @@ fn split_at_ones(blank: bool, text: &str) -> (&str, &str)
 
 // White space with the word behind it, and what is behind that.
 pub(crate) fn split_word(text: &str) -> Option<((&str, &str), &str)>
-    ensures parts { MatchOption result (pieces.first_piece (chars text.entry.now) ≡ None) (λ p. pieces.first_piece (chars text.entry.now) ≡ Some ((chars p.0.0.now, chars p.0.1.now), chars p.1.now)) }
+    ensures parts { pieces.Gives result (pieces.first_piece (chars text.entry.now)) }
     ensures rest { IfSome result (λ p. IsUtf8 p.1.now) }
 {
     let (gap, inner) = split_at_ones(true, text);

@@ -49,7 +49,7 @@ fn push_both(out: &mut String, first: &str, second: &str) -> Result<(), AllocErr
 }
 
 // The character that a name at the begin stands for, and what is behind that.
-#[tactic(auto, using(crate::proofs::Ampersands::no_semicolon, crate::proofs::Ampersands::unknown_name, crate::proofs::Ampersands::known_name))]
+#[tactic(auto, using(crate::proofs::Ampersands::no_semicolon, crate::proofs::Ampersands::known_name))]
 fn reference_in(part: &str) -> Option<(&'static str, &str)>
     ensures { MatchOption result (referred part.now ≡ 38 ∷ part.now) (λ p. referred part.now ≡ p.0.now ++ p.1.now) }
 {

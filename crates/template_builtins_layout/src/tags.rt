@@ -1,9 +1,9 @@
 //! Texts without tags.
-ghost use Rattle.std.specs.Prelude.{◌≡◌, ◌<◌, IfOk, IfSome, MatchOption, length, string_bytes};
+ghost use Rattle.std.specs.Prelude.{◌≡◌, ◌<◌, IfOk, IfSome, length, string_bytes};
 ghost use Rattle.std.specs.Str.{IsUtf8};
 ghost use Rattle.template_builtins_arguments.specs.Answers.{Tells};
 ghost use Rattle.template_builtins_layout.specs.Filters as filters;
-ghost use Rattle.template_builtins_layout.specs.Tags.{around_tag, without};
+ghost use Rattle.template_builtins_layout.specs.Tags.{Gives, around_tag, without};
 ghost use Rattle.template_builtins_layout.specs.Stripping.{stripped, without_tags};
 ghost use Rattle.template_callables.specs.Views.{seen_in};
 
@@ -59,11 +59,11 @@ fn without(alloc: Global, start: &str, finish: &str, text: &str) -> Result<Strin
 }
 
 // What is before the first start, and what is behind the first end behind that.
-#[tactic(auto, using(crate::proofs::Tagging::no_start, crate::proofs::Tagging::no_end, crate::proofs::Tagging::start_and_end, crate::proofs::Tagging::behind_tag, crate::proofs::Tagging::below_tag))]
+#[tactic(auto, using(crate::proofs::Tagging::no_start, crate::proofs::Tagging::behind_tag, crate::proofs::Tagging::below_tag))]
 fn around_tag<'a>(start: &str, finish: &str, text: &'a str) -> Option<(&'a str, &'a str)>
     requires some_start { 0 < length start.now }
     requires some_finish { 0 < length finish.now }
-    ensures parts { MatchOption result (around_tag start.now finish.now text.entry.now ≡ None) (λ p. around_tag start.now finish.now text.entry.now ≡ Some (p.0.now, p.1.now)) }
+    ensures parts { Gives result (around_tag start.now finish.now text.entry.now) }
     ensures less { IfSome result (λ p. length p.1.now < length text.entry.now) }
     ensures rest { IfSome result (λ p. IsUtf8 p.1.now) }
 {

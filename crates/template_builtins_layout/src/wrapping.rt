@@ -1,8 +1,7 @@
 //! Texts broken into lines of a width.
-ghost use Rattle.std.specs.Prelude.{◌≡◌, ◌≤◌, ◌++◌, [], IfErr, IfOk, IsTrue, OnOk, chars, if◌then◌else◌, string_bytes};
-ghost use Rattle.template_builtins_layout.specs.Wrapping as wrapping;
+ghost use Rattle.std.specs.Prelude.{◌≡◌, ◌≤◌, ◌++◌, IfErr, IfOk, IsTrue, OnOk, chars, string_bytes};
+ghost use Rattle.template_builtins_layout.specs.Layouts as layouts;
 ghost use Rattle.template_values_errors.specs.Memory.{NoMemory};
-ghost use Rattle.template_values_print.specs.Pieces.{encoded};
 
 use crate::characters::split_text;
 use crate::pieces::split_word;
@@ -27,7 +26,7 @@ pub(crate) struct Layout<'a> {
 
 // The lines of a text, each broken into lines of a width.
 pub(crate) fn wrapped(alloc: Global, layout: Layout<'_>, text: &str) -> Result<String, Error>
-    ensures made { IfOk result (λ t. string_bytes t ≡ wrapping.wrapped (encoded layout.entry.markup) layout.entry.wrap.now layout.entry.width layout.entry.cuts text.now) }
+    ensures made { IfOk result (λ t. string_bytes t ≡ layouts.wrapped layout.entry text.now) }
     ensures refused { IfErr result NoMemory }
 {
     let mut out = String::new(alloc);
@@ -46,7 +45,7 @@ fn push_next_line(
     begun: bool,
     line: &str,
 ) -> Result<(), Error>
-    ensures made { OnOk result (string_bytes out.new ≡ string_bytes out.old ++ ((if begun then layout.entry.wrap.now else []) ++ wrapping.wrapped_line (encoded layout.entry.markup) layout.entry.wrap.now layout.entry.width layout.entry.cuts line.now)) }
+    ensures made { OnOk result (string_bytes out.new ≡ string_bytes out.old ++ layouts.next_line layout.entry begun line.now) }
     ensures refused { IfErr result NoMemory }
 {
     if !begun {
@@ -58,7 +57,7 @@ fn push_next_line(
 
 // Puts in a line, broken before words that have no room.
 fn push_line(out: &mut String, layout: Layout<'_>, line: &str) -> Result<(), Error>
-    ensures made { OnOk result (string_bytes out.new ≡ string_bytes out.old ++ wrapping.wrapped_line (encoded layout.entry.markup) layout.entry.wrap.now layout.entry.width layout.entry.cuts line.now) }
+    ensures made { OnOk result (string_bytes out.new ≡ string_bytes out.old ++ layouts.wrapped_line layout.entry line.now) }
     ensures refused { IfErr result NoMemory }
 {
     let mut room = layout.width;
@@ -79,8 +78,8 @@ fn push_lead(
     gap: &str,
     word: &str,
 ) -> Result<usize, Error>
-    ensures made { OnOk result (string_bytes out.new ≡ string_bytes out.old ++ wrapping.lead (encoded layout.entry.markup) layout.entry.wrap.now layout.entry.width layout.entry.cuts room (chars gap.now, chars word.now)) }
-    ensures left { IfOk result (λ n. n ≡ wrapping.room_before (encoded layout.entry.markup) layout.entry.wrap.now layout.entry.width layout.entry.cuts room (chars gap.now, chars word.now)) }
+    ensures made { OnOk result (string_bytes out.new ≡ string_bytes out.old ++ layouts.lead layout.entry room (chars gap.now, chars word.now)) }
+    ensures left { IfOk result (λ n. n ≡ layouts.room_before layout.entry room (chars gap.now, chars word.now)) }
     ensures refused { IfErr result NoMemory }
 {
     let blanks = character_count(gap);
@@ -97,7 +96,7 @@ fn push_lead(
 
 // Whether a word of so many characters stays on a line with so much room, behind white space of so many.
 fn stays(layout: Layout<'_>, room: usize, gap: usize, word: usize) -> bool
-    ensures value { result ≡ wrapping.stays (encoded layout.entry.markup) layout.entry.wrap.now layout.entry.width layout.entry.cuts room gap word }
+    ensures value { result ≡ layouts.stays layout.entry room gap word }
     ensures within { IsTrue result → gap ≤ room }
 {
     gap < room && (word <= room - gap || (layout.cuts && layout.width < word))
@@ -105,8 +104,8 @@ fn stays(layout: Layout<'_>, room: usize, gap: usize, word: usize) -> bool
 
 // Puts in a word on a line with so much room, and tells the room that it leaves.
 fn push_word(out: &mut String, layout: Layout<'_>, room: usize, word: &str) -> Result<usize, Error>
-    ensures made { OnOk result (string_bytes out.new ≡ string_bytes out.old ++ wrapping.typed (encoded layout.entry.markup) layout.entry.wrap.now layout.entry.width layout.entry.cuts room (chars word.now)) }
-    ensures left { IfOk result (λ n. n ≡ wrapping.room_behind (encoded layout.entry.markup) layout.entry.wrap.now layout.entry.width layout.entry.cuts room (chars word.now)) }
+    ensures made { OnOk result (string_bytes out.new ≡ string_bytes out.old ++ layouts.typed layout.entry room (chars word.now)) }
+    ensures left { IfOk result (λ n. n ≡ layouts.room_behind layout.entry room (chars word.now)) }
     ensures refused { IfErr result NoMemory }
 {
     let mut left = room;
@@ -124,8 +123,8 @@ fn push_character(
     room: usize,
     character: &str,
 ) -> Result<usize, Error>
-    ensures made { OnOk result (string_bytes out.new ≡ string_bytes out.old ++ (wrapping.break_at (encoded layout.entry.markup) layout.entry.wrap.now layout.entry.width layout.entry.cuts room ++ encoded layout.entry.markup character.now)) }
-    ensures left { IfOk result (λ n. n ≡ wrapping.room_after (encoded layout.entry.markup) layout.entry.wrap.now layout.entry.width layout.entry.cuts room) }
+    ensures made { OnOk result (string_bytes out.new ≡ string_bytes out.old ++ layouts.next_character layout.entry room character.now) }
+    ensures left { IfOk result (λ n. n ≡ layouts.room_after layout.entry room) }
     ensures refused { IfErr result NoMemory }
 {
     if layout.cuts && room == 0 {
