@@ -1,0 +1,4 @@
+pub mod Bare
+pub mod Valuing
+pub mod Casing
+pub mod Finding

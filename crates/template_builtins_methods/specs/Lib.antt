@@ -1,0 +1,11 @@
+pub mod Placed
+pub mod Maps
+pub mod Lists
+pub mod Reading
+pub mod Letters
+pub mod Cases
+pub mod Ends
+pub mod Strips
+pub mod Places
+pub mod Texts
+pub mod Methods
