@@ -3,7 +3,7 @@ ghost use Rattle.template_builtins_arguments.specs.Answers.{Tells};
 ghost use Rattle.template_builtins_web.specs.Filters.{web_filtered};
 ghost use Rattle.template_callables.specs.Views.{seen_in};
 
-use crate::{attributes, json, queries};
+use crate::{attributes, json_text, queries};
 use std::alloc::Global;
 use template_callables::CallView;
 use template_values_core::Value;
@@ -46,7 +46,7 @@ impl WebFilter {
         ensures { Tells result (web_filtered self (seen_in view.now) value.now arguments.now) }
     {
         match self {
-            WebFilter::ToJson => json::to_json(alloc, view, value, arguments),
+            WebFilter::ToJson => json_text::to_json(alloc, view, value, arguments),
             WebFilter::UrlEncode => queries::url_encode(alloc, view, value, arguments),
             WebFilter::XmlAttr => attributes::xml_attributes(alloc, view, value, arguments),
         }

@@ -3,7 +3,7 @@
 
 mod attributes;
 mod filter;
-mod json;
+mod json_text;
 mod layout;
 mod leaves;
 mod lines;

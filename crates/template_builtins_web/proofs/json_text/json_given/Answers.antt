@@ -4,7 +4,7 @@ use Rattle.template_builtins_web.specs.Filters.{json_value, layout_from}
 use Rattle.template_builtins_web.specs.Json.{data_of, text_by}
 use Rattle.template_callables.specs.Views.{seen_in}
 use Rattle.template_builtins_web.proofs.Refusals.{refused_later}
-use Rattle.template_builtins_web.proofs.json.json_given.Goals as goal
+use Rattle.template_builtins_web.proofs.json_text.json_given.Goals as goal
 
 pub returns-in-Ok : goal.returns-in-Ok
 returns-in-Ok c = rw c.in-Ok.ensures c.json_laid_out.ensures
