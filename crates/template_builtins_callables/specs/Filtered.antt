@@ -8,6 +8,10 @@ use Rattle.template_callables.specs.Callables.{View}
 use Rattle.template_builtins_arguments.specs.Answers.{Made, then as after}
 use Rattle.template_builtins_arguments.specs.Parts.{items_of}
 use Rattle.template_builtins_texts.specs.Filters.{text_filtered}
+use Rattle.template_builtins_layout.specs.Filters.{layout_filtered}
+use Rattle.template_builtins_pieces.specs.Answers.{piece_filtered}
+use Rattle.template_builtins_web.specs.Filters.{web_filtered}
+use Rattle.template_builtins_decimals.specs.Filters.{decimal_filtered}
 use Rattle.template_builtins_lists.specs.Filters.{list_filtered}
 use Rattle.template_builtins_sorting.specs.Filters.{sorting_filtered}
 use Rattle.template_builtins_numbers.specs.Filters.{value_filtered}
@@ -30,9 +34,13 @@ each_filtered RejectAttr view v vs = selected_by_part false view v vs
 -- of each filter, where no other filter is applied
 abbrev pub alone_filtered : Filter → View → Val → List Val → Made
 alone_filtered (filters.Text filter) view v vs = text_filtered filter view v vs
+alone_filtered (filters.Layout filter) view v vs = layout_filtered filter view v vs
+alone_filtered (filters.Piece filter) view v vs = piece_filtered filter view v vs
+alone_filtered (filters.Web filter) view v vs = web_filtered filter view v vs
 alone_filtered (filters.List filter) view v vs = list_filtered filter view v vs
 alone_filtered (filters.Sorting filter) view v vs = sorting_filtered filter view v vs
 alone_filtered (filters.Value filter) view v vs = value_filtered filter view v vs
+alone_filtered (filters.Decimal filter) view v vs = decimal_filtered filter view v vs
 alone_filtered (filters.Each filter) view v vs = each_filtered filter view v vs
 
 abbrev pub is_map_kind : EachFilter → Bool
@@ -44,9 +52,13 @@ is_map_kind RejectAttr = false
 
 abbrev pub is_map : Filter → Bool
 is_map (filters.Text filter) = false
+is_map (filters.Layout filter) = false
+is_map (filters.Piece filter) = false
+is_map (filters.Web filter) = false
 is_map (filters.List filter) = false
 is_map (filters.Sorting filter) = false
 is_map (filters.Value filter) = false
+is_map (filters.Decimal filter) = false
 is_map (filters.Each filter) = is_map_kind filter
 
 -- `map` has the name of a filter first

@@ -7,7 +7,7 @@ use crate::filter::Filter;
 use crate::test::Test;
 use std::alloc::Global;
 use template_builtins_arguments::stated;
-use template_callables::{Answer, CallView, Callable};
+use template_callables::{Answer, CallView, Callable, Either};
 use template_values_core::Value;
 use template_values_errors::{Error, ErrorKind};
 
@@ -36,6 +36,18 @@ impl Callable for Builtin {
 
     fn invoke(&self, view: &CallView<'_>, args: &[Value]) -> Answer {
         stated(self.called(view, args))
+    }
+}
+
+/// By this the builtins are installed beside callables of another type.
+impl<Own> From<Builtin> for Either<Builtin, Own> {
+    ghost use Rattle.std.specs.Prelude.{◌≡◌};
+    ghost use Rattle.template_callables.specs.declared.either.Either.TheVariants.{First};
+
+    ghost from_gives = { λ builtin either. either ≡ First builtin };
+
+    fn from(builtin: Builtin) -> Either<Builtin, Own> {
+        Either::First(builtin)
     }
 }
 

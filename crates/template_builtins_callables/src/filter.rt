@@ -8,10 +8,14 @@ use crate::each::{EachFilter, list_of};
 use crate::naming::{filter_by, is_alone};
 use std::alloc::Global;
 use template_builtins_arguments::items_of;
+use template_builtins_decimals::DecimalFilter;
+use template_builtins_layout::LayoutFilter;
 use template_builtins_lists::ListFilter;
 use template_builtins_numbers::ValueFilter;
+use template_builtins_pieces::PieceFilter;
 use template_builtins_sorting::SortingFilter;
 use template_builtins_texts::TextFilter;
+use template_builtins_web::WebFilter;
 use template_callables::CallView;
 use template_values_core::Value;
 use template_values_errors::{Error, ErrorKind};
@@ -22,12 +26,20 @@ use template_values_model::DEPTH_LIMIT;
 pub enum Filter {
     /// Of texts.
     Text(TextFilter),
+    /// That lays a text out.
+    Layout(LayoutFilter),
+    /// That cuts a text.
+    Piece(PieceFilter),
+    /// For pages and for what is read by others.
+    Web(WebFilter),
     /// Of lists.
     List(ListFilter),
     /// That goes by an order.
     Sorting(SortingFilter),
     /// Of numbers and of any value.
     Value(ValueFilter),
+    /// Of decimals.
+    Decimal(DecimalFilter),
     /// That goes over the items of a value.
     Each(EachFilter),
 }
@@ -85,9 +97,13 @@ impl Filter {
     {
         match self {
             Filter::Text(filter) => filter.apply(alloc, view, value, arguments),
+            Filter::Layout(filter) => filter.apply(alloc, view, value, arguments),
+            Filter::Piece(filter) => filter.apply(alloc, view, value, arguments),
+            Filter::Web(filter) => filter.apply(alloc, view, value, arguments),
             Filter::List(filter) => filter.apply(alloc, view, value, arguments),
             Filter::Sorting(filter) => filter.apply(alloc, view, value, arguments),
             Filter::Value(filter) => filter.apply(alloc, view, value, arguments),
+            Filter::Decimal(filter) => filter.apply(alloc, view, value, arguments),
             Filter::Each(filter) => filter.apply(alloc, view, value, arguments),
         }
     }

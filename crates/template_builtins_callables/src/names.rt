@@ -6,24 +6,35 @@ ghost use Rattle.template_builtins_callables.specs.Names.{named, rows_of};
 use crate::each::EachFilter;
 use crate::filter::Filter;
 use crate::test::Test;
+use template_builtins_decimals::DecimalFilter;
+use template_builtins_layout::LayoutFilter;
 use template_builtins_lists::ListFilter;
 use template_builtins_numbers::ValueFilter;
+use template_builtins_pieces::PieceFilter;
 use template_builtins_sorting::SortingFilter;
 use template_builtins_tests::{Comparison, ValueKind, ValueTest};
 use template_builtins_texts::TextFilter;
+use template_builtins_web::WebFilter;
 
 /// The filters under their names.
-pub const FILTERS: [(&str, Filter); 40] = [
+pub const FILTERS: [(&str, Filter); 55] = [
     ("abs", Filter::Value(ValueFilter::Abs)),
     ("attr", Filter::Value(ValueFilter::Attr)),
+    ("batch", Filter::List(ListFilter::Batch)),
     ("bool", Filter::Value(ValueFilter::Bool)),
     ("capitalize", Filter::Text(TextFilter::Capitalize)),
+    ("center", Filter::Layout(LayoutFilter::Center)),
+    ("chain", Filter::List(ListFilter::Chain)),
     ("count", Filter::List(ListFilter::Length)),
     ("d", Filter::Value(ValueFilter::Default)),
     ("default", Filter::Value(ValueFilter::Default)),
     ("dictsort", Filter::Sorting(SortingFilter::DictSort)),
     ("e", Filter::Text(TextFilter::Escape)),
     ("escape", Filter::Text(TextFilter::Escape)),
+    (
+        "filesizeformat",
+        Filter::Decimal(DecimalFilter::FileSizeFormat),
+    ),
     ("first", Filter::List(ListFilter::First)),
     ("forceescape", Filter::Text(TextFilter::ForceEscape)),
     ("groupby", Filter::Sorting(SortingFilter::GroupBy)),
@@ -44,16 +55,27 @@ pub const FILTERS: [(&str, Filter); 40] = [
     ("rejectattr", Filter::Each(EachFilter::RejectAttr)),
     ("replace", Filter::Text(TextFilter::Replace)),
     ("reverse", Filter::List(ListFilter::Reverse)),
+    ("round", Filter::Decimal(DecimalFilter::Round)),
     ("safe", Filter::Text(TextFilter::Safe)),
     ("select", Filter::Each(EachFilter::Select)),
     ("selectattr", Filter::Each(EachFilter::SelectAttr)),
+    ("slice", Filter::List(ListFilter::Slice)),
     ("sort", Filter::Sorting(SortingFilter::Sort)),
+    ("split", Filter::Piece(PieceFilter::Split)),
     ("string", Filter::Text(TextFilter::String)),
+    ("striptags", Filter::Layout(LayoutFilter::StripTags)),
     ("sum", Filter::Value(ValueFilter::Sum)),
     ("title", Filter::Text(TextFilter::Title)),
+    ("tojson", Filter::Web(WebFilter::ToJson)),
     ("trim", Filter::Text(TextFilter::Trim)),
+    ("truncate", Filter::Layout(LayoutFilter::Truncate)),
     ("unique", Filter::Sorting(SortingFilter::Unique)),
     ("upper", Filter::Text(TextFilter::Upper)),
+    ("urlencode", Filter::Web(WebFilter::UrlEncode)),
+    ("wordcount", Filter::Layout(LayoutFilter::WordCount)),
+    ("wordwrap", Filter::Layout(LayoutFilter::WordWrap)),
+    ("xmlattr", Filter::Web(WebFilter::XmlAttr)),
+    ("zip", Filter::List(ListFilter::Zip)),
 ];
 
 /// The tests under their names.

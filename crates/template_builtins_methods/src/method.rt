@@ -11,7 +11,7 @@ use crate::texts::TextMethod;
 use std::alloc::Global;
 use template_builtins_arguments::stated;
 use template_builtins_pieces::PieceMethod;
-use template_callables::{Answer, CallView, UnknownMethod};
+use template_callables::{Answer, CallView, Either, UnknownMethod};
 use template_values_core::{Content, Value};
 use template_values_errors::{Error, ErrorKind};
 
@@ -90,6 +90,18 @@ impl UnknownMethod for PythonMethods {
 
     fn invoke(&self, view: &CallView<'_>, value: &Value, method: &str, args: &[Value]) -> Answer {
         stated(self.called(view, value, method, args))
+    }
+}
+
+/// By this Python's methods are installed where a callback of another type may take their place.
+impl<Own> From<PythonMethods> for Either<PythonMethods, Own> {
+    ghost use Rattle.std.specs.Prelude.{◌≡◌};
+    ghost use Rattle.template_callables.specs.declared.either.Either.TheVariants.{First};
+
+    ghost from_gives = { λ methods either. either ≡ First methods };
+
+    fn from(methods: PythonMethods) -> Either<PythonMethods, Own> {
+        Either::First(methods)
     }
 }
 
