@@ -1,2 +1,3 @@
 pub mod Bringing
 pub mod Added
+pub mod Partial

@@ -8,6 +8,7 @@ use Rattle.template_builtins_callables.specs.declared.builtin.Kind.{Kind}
 use Rattle.template_builtins_callables.specs.declared.builtin.Kind.TheVariants as kinds
 use Rattle.template_builtins_callables.specs.declared.filter.Filter.{Filter}
 use Rattle.template_builtins_callables.specs.declared.test.Test.{Test}
+use Rattle.template_builtins_methods.specs.declared.method.PythonMethods.{PythonMethods}
 
 -- a callable that is made of the builtin of a kind
 abbrev pub MadeOf : {C : Type 0} → (Builtin → C → Type 0) → Kind → C → Type 0
@@ -21,6 +22,10 @@ Stands gives (Some kind) before after = IsSomeAnd after (MadeOf gives kind)
 -- so it is under each name
 abbrev pub Adds : {C : Type 0} → (Builtin → C → Type 0) → (List ℕ → Option Kind) → (List ℕ → Option C) → (List ℕ → Option C) → Type 0
 Adds gives given old new = (name : List ℕ) → Stands gives (given name) (old name) (new name)
+
+-- a name of no builtin has what it had
+abbrev pub KeepsOthers : {C : Type 0} → (List ℕ → Option Kind) → (List ℕ → Option C) → (List ℕ → Option C) → Type 0
+KeepsOthers given old new = (name : List ℕ) → given name ≡ None → new name ≡ old name
 
 -- the kinds under the names of a table
 abbrev pub filters_in : List (List ℕ × Filter) → List ℕ → Option Kind
@@ -36,8 +41,20 @@ filter_kind name = option_map kinds.Filter (filter_named name)
 abbrev pub test_kind : List ℕ → Option Kind
 test_kind name = option_map kinds.Test (test_named name)
 
--- the builtin filters and tests stand under their names, and all else stands as before
-pub record Installs {C M F J R : Type 0} (gives : Builtin → C → Type 0) (old new : Extras C M F J R) : Type 0 where
+-- what answers for unknown methods is made of Python's
+abbrev pub IsMade : {M : Type 0} → (PythonMethods → M → Type 0) → M → Type 0
+IsMade makes method = (methods : PythonMethods) × makes methods method
+
+-- the builtin filters and tests stand under their names, Python's methods answer, and all else stands as before
+pub record Installs {C M F J R : Type 0} (gives : Builtin → C → Type 0) (makes : PythonMethods → M → Type 0)
+    (old new : Extras C M F J R) : Type 0 where
   pub filters : Adds gives filter_kind old.filters new.filters
   pub tests : Adds gives test_kind old.tests new.tests
+  pub methods : IsSomeAnd new.method (IsMade makes)
+  pub others : new ≡ record old { filters = new.filters; tests = new.tests; method = new.method }
+
+-- some of the builtins stand under their names, and all else stands as before
+pub record InstallsSome {C M F J R : Type 0} (old new : Extras C M F J R) : Type 0 where
+  pub filters : KeepsOthers filter_kind old.filters new.filters
+  pub tests : KeepsOthers test_kind old.tests new.tests
   pub others : new ≡ record old { filters = new.filters; tests = new.tests }

@@ -1,6 +1,7 @@
 //! The builtins alone.
 use template_builtins_callables::Builtin;
-use template_callables::{Extension, NoFormatter, NoJoin, NoMethod};
+use template_builtins_methods::PythonMethods;
+use template_callables::{Extension, NoFormatter, NoJoin};
 use template_machine_surroundings::NoRule;
 
 /// The builtins, and nothing of a user's own.
@@ -9,7 +10,7 @@ pub struct Builtins;
 impl Extension for Builtins {
     type Callable = Builtin;
 
-    type Method = NoMethod;
+    type Method = PythonMethods;
 
     type Formatter = NoFormatter;
 

@@ -2,17 +2,16 @@
 ghost use Rattle.template_builtins.specs.Brought.{AnswersAlike, builtins_brought};
 ghost use Rattle.template_callables.specs.Callables.{escapes};
 ghost use Rattle.template_callables.specs.Joins.{keeps_name};
-ghost use Rattle.template_environment.specs.Extras.{no_method_says};
 ghost use Rattle.template_environment.specs.Reading.{extras_of};
 ghost use Rattle.template_machine_meaning.specs.Isolation.{AskNoNames};
 
 use crate::extension::Builtins;
 use template_environment::Environment;
 
-/// A law: where the builtins were installed into an environment without extras, filters and tests answer what is defined for their
-/// names, and nothing else is brought.
+/// A law: where the builtins were installed into an environment without extras, filters, tests and methods answer what is defined for
+/// their names, and nothing else is brought.
 pub fn builtins_answer(_environment: &Environment<'_, Builtins>)
-    ensures { AnswersAlike no_method_says (λ formatter view v. escapes v) (λ join. keeps_name) (extras_of _environment.now) }
+    ensures { AnswersAlike (λ formatter view v. escapes v) (λ join. keeps_name) (extras_of _environment.now) }
 {}
 
 /// A law: no builtin asks for a name of the context, so with the builtins alone the names that can matter to a template are those

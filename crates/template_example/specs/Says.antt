@@ -8,8 +8,10 @@ use Rattle.template_values.specs.Fault.{Fault, kind_of, invalid_operation, missi
 use Rattle.template_values.specs.Keywords.{keywords, argument}
 use Rattle.template_machine.specs.Callables.{View, Stated, finishes, refuses, goes_on, Says, filter}
 use Rattle.template_builtins_callables.specs.Says.{builtin_says}
+use Rattle.template_builtins_methods.specs.Methods as python
+use Rattle.template_builtins_methods.specs.declared.method.PythonMethod.{PythonMethod}
 use Rattle.template_example.specs.declared.callables.Cheap.{Cheap}
-use Rattle.template_example.specs.declared.callables.FilterMethods.{FilterMethods}
+use Rattle.template_example.specs.declared.callables.ShopMethods.{ShopMethods}
 use Rattle.template_example.specs.declared.callables.Label.{Label}
 use Rattle.template_example.specs.declared.callables.Link.{Link}
 use Rattle.template_example.specs.declared.callables.Own.{Own}
@@ -64,7 +66,15 @@ own_says (owns.Label label) = label_says label
 own_says (owns.Link link) = link_says link
 own_says (owns.Cheap cheap) = cheap_says cheap
 
--- the filter of the method's name
-abbrev pub methods_say : FilterMethods → View → Val → List ℕ → List Val → Stated
-methods_say methods view v name [] = goes_on [] (filter name (v ∷ []))
-methods_say methods view v name (given ∷ more) = refuses (TooManyArguments ∷ [])
+-- the filter of a method's name
+abbrev pub filter_asked : Val → List ℕ → List Val → Stated
+filter_asked v name [] = goes_on [] (filter name (v ∷ []))
+filter_asked v name (given ∷ more) = refuses (TooManyArguments ∷ [])
+
+-- what Python's method says, where there is one of that name
+abbrev pub said_by : Option PythonMethod → ShopMethods → View → Val → List ℕ → List Val → Stated
+said_by None methods view v name vs = filter_asked v name vs
+said_by (Some method) methods view v name vs = python.methods_say methods.python view v name vs
+
+abbrev pub methods_say : ShopMethods → View → Val → List ℕ → List Val → Stated
+methods_say methods view v name vs = said_by (python.method_of v name) methods view v name vs

@@ -4,25 +4,25 @@ ghost use Rattle.template_values.specs.Answers.{text_in};
 ghost use Rattle.template_values.specs.Gives.{Gives};
 ghost use Rattle.template_values.specs.Memory.{NoMemory};
 ghost use Rattle.template_values.specs.Val as values;
-ghost use Rattle.template_machine.specs.CallableAnswers.{asked_by};
+ghost use Rattle.template_machine.specs.CallableAnswers.{Answers, asked_by};
 ghost use Rattle.template_machine.specs.Callables.{filter};
 ghost use Rattle.template_example.specs.Says as says;
 
 use std::alloc::Global;
-use template_builtins::Builtin;
+use template_builtins::{Builtin, PythonMethod, PythonMethods};
 use template_machine::{
     Answer, CallView, Callable, Content, Error, ErrorKind, Extension, Further, NoFormatter, NoJoin,
     NoRule, UnknownMethod, Value,
 };
 use template_values::Kwargs;
 
-/// The shop's own: the filter, the function and the test below, and its filters as methods.
+/// The shop's own: the filter, the function and the test below, beside the builtins; and filters as methods, beside Python's.
 pub struct Shop;
 
 impl Extension for Shop {
     type Callable = Own;
 
-    type Method = FilterMethods;
+    type Method = ShopMethods;
 
     type Formatter = NoFormatter;
 
@@ -167,32 +167,52 @@ impl Cheap {
     }
 }
 
-/// Each method that a value does not have is the filter of its name.
+/// Python's methods; each method that a value does not have there either is the filter of its name.
 #[derive(Drop)]
-pub struct FilterMethods {
-    pub alloc: Global,
+pub struct ShopMethods {
+    pub python: PythonMethods,
 }
 
-impl UnknownMethod for FilterMethods {
+/// By this Python's methods are installed with the builtins.
+impl From<PythonMethods> for ShopMethods {
+    ghost use Rattle.std.specs.Prelude.{◌≡◌};
+
+    ghost from_gives = { λ python methods. methods.python ≡ python };
+
+    fn from(python: PythonMethods) -> ShopMethods {
+        ShopMethods { python }
+    }
+}
+
+impl UnknownMethod for ShopMethods {
     ghost answer = { says.methods_say };
 
-    fn invoke(&self, _view: &CallView<'_>, value: &Value, method: &str, args: &[Value]) -> Answer {
-        if !args.is_empty() {
-            return Answer::Fault(Error::new(ErrorKind::TooManyArguments));
-        }
-        match self.filtered(value, method) {
-            Ok(filtered) => Answer::More(None, filtered),
-            Err(refused) => Answer::Fault(refused),
+    fn invoke(&self, view: &CallView<'_>, value: &Value, method: &str, args: &[Value]) -> Answer {
+        match PythonMethod::of(value, method) {
+            Some(_) => self.python.invoke(view, value, method, args),
+            None => self.as_filter(value, method, args),
         }
     }
 }
 
-impl FilterMethods {
+impl ShopMethods {
+    fn as_filter(&self, value: &Value, name: &str, args: &[Value]) -> Answer
+        ensures { Answers (says.filter_asked value.now name.now args.now) result }
+    {
+        if !args.is_empty() {
+            return Answer::Fault(Error::new(ErrorKind::TooManyArguments));
+        }
+        match self.filtered(value, name) {
+            Ok(filtered) => Answer::More(None, filtered),
+            Err(refused) => Answer::Fault(refused),
+        }
+    }
+
     fn filtered(&self, value: &Value, name: &str) -> Result<Further, Error>
         ensures asked { IfOk result (λ further. asked_by further ≡ filter name.now (value.now ∷ [])) }
         ensures refused { IfErr result NoMemory }
     {
-        let name = String::from_str(self.alloc, name)?;
-        Ok(Further::Filter(name, vec![in self.alloc; value.copy()?]?))
+        let name = String::from_str(self.python.alloc, name)?;
+        Ok(Further::Filter(name, vec![in self.python.alloc; value.copy()?]?))
     }
 }

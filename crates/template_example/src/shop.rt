@@ -1,11 +1,11 @@
-//! A user's own filter, function and test, and methods of values, beside the builtin filters: they are called from a template, and
+//! A user's own filter, function and test, and methods of values, beside the builtins: they are called from a template, and
 //! the filter from a state too. What the filter makes of a text is proved.
 ghost use Rattle.std.specs.Prelude.{◌≡◌, ◌++◌, IfOk, codes};
 ghost use Rattle.template_values.specs.Val as values;
 ghost use Rattle.template_machine.specs.Reading.{extras_of};
 ghost use Rattle.template_example.specs.Labels.{Labels};
 
-use crate::callables::{Cheap, FilterMethods, Label, Link, Own, Shop};
+use crate::callables::{Cheap, Label, Link, Own, Shop};
 use std::alloc::Global;
 use template_builtins::install;
 use template_machine::{Environment, Error, StateIds, Value, context_from_json};
@@ -13,7 +13,7 @@ use template_machine::{Environment, Error, StateIds, Value, context_from_json};
 const PAGE: &str = "{{ items|map(attribute='name')|sort|join(', ') }}\n\
     {% for item in items %}\
     {{ link(item.name, to=item.page) }} {{ item.price }}{% if item.price is cheap %} {{ 'today'|label }}{% endif %}\n\
-    {% endfor %}{{ farewell.label() }}";
+    {% endfor %}{{ farewell.label() }} {{ farewell.upper() }}";
 
 const CONTEXT: &[u8] =
     b"{\"farewell\": \"Bye\", \"items\": [{\"name\": \"Lamp\", \"page\": \"/lamp\", \"price\": 20}, {\"name\": \"Desk\", \"page\": \"/desk\", \"price\": 120}]}";
@@ -42,7 +42,6 @@ fn open_shop<'source>(
     environment.add_filter("label", Own::Label(Label { alloc, prefix }))?;
     environment.add_function("link", Own::Link(Link { alloc }))?;
     environment.add_test("cheap", Own::Cheap(Cheap { limit: 50 }))?;
-    environment.set_unknown_method_callback(FilterMethods { alloc });
     Ok(environment)
 }
 

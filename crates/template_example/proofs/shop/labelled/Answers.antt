@@ -10,14 +10,14 @@ use Rattle.template_machine.specs.Reading.{extras_of}
 use Rattle.template_machine.specs.States.{around_in, environment_in, world_in}
 use Rattle.template_machine.specs.declared.Environment.{Environment}
 use Rattle.template_example.specs.Says.{labelled, methods_say, own_says}
-use Rattle.template_example.specs.declared.callables.FilterMethods.{FilterMethods}
+use Rattle.template_example.specs.declared.callables.ShopMethods.{ShopMethods}
 use Rattle.template_example.specs.declared.callables.Own.{Own}
 use Rattle.template_example.specs.declared.callables.Own.TheVariants as owns
 use Rattle.template_example.proofs.Labels.{call_gives, call_tells}
 use Rattle.template_example.proofs.shop.labelled.Goals as goal
 
 -- what each of them answers, where nothing says how values are printed, and which templates are meant
-abbrev shop_says : {F J : Type 0} → UserAnswers Own FilterMethods F J
+abbrev shop_says : {F J : Type 0} → UserAnswers Own ShopMethods F J
 shop_says = user_answers own_says methods_say (λ formatter view v. escapes v) (λ join. keeps_name)
 
 pub returns : goal.returns
