@@ -20,7 +20,6 @@ ghost use Rattle.template_environment.specs.Plain.{IsRefusedForRoom, ReadGivesIt
 ghost use Rattle.template_environment.specs.Standing.{greatest_limit, new_settings, no_globals};
 
 use crate::extensions::Extensions;
-use crate::laws::every_render_ends;
 use crate::registry::Registry;
 use crate::state::State;
 use crate::template::{Template, TemplateCode};
@@ -538,7 +537,6 @@ impl<'source, E: Extension> Environment<'source, E> {
     {
         isolation();
         let template = self.template_from_named_str(name, source)?;
-        every_render_ends(&template);
         template.render(ids, context)
     }
 

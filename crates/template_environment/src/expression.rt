@@ -4,6 +4,7 @@ ghost use Rattle.std.specs.BTreeSet.{contains_text};
 ghost use Rattle.std.specs.Cow.{cow_str_bytes};
 ghost use Rattle.template_values_errors.specs.Memory.{NoMemory};
 ghost use Rattle.template_process.specs.Fuel.{under};
+ghost use Rattle.template_machine_meaning.specs.Laws.{GivesOne};
 ghost use Rattle.template_machine_meaning.specs.Meaning.{evaluated};
 ghost use Rattle.template_compiled.specs.Expressions.{IsAcceptedExpression, IsExpressionRefusedWith, expression_in};
 ghost use Rattle.template_names.specs.Names.{IsToldAlone};
@@ -12,12 +13,13 @@ ghost use Rattle.template_environment.specs.Extras.{user_answers};
 ghost use Rattle.template_environment.specs.Reading.{registry_of, setting_in};
 
 use crate::environment::Environment;
+use crate::laws::every_expression_runs;
 use crate::starting::begun_alone;
 use std::borrow::CowStr;
 use std::collections::BTreeSet;
 use template_callables::{Extension, NoExtension};
 use template_compiled::CompiledExpression;
-use template_machine_meaning::expression_isolation;
+use template_machine_meaning::{every_expression_gives, expression_isolation};
 use template_machine_output::NullWriter;
 use template_machine_renders::{Program, run_expression};
 use template_machine_surroundings::StateIds;
@@ -108,12 +110,16 @@ impl<'env, 'source, E: Extension> Expression<'env, 'source, E> {
     /// itself, and where no state id is left; [`ErrorKind::OutOfMemory`] where a growth was refused.
     /// [`ErrorKind::WriteFailure`] only where a callable states it, since it writes nothing.
     pub fn eval(&self, ids: &mut StateIds, context: Value) -> Result<Value, Error>
+        // Its meaning leaves one value, or ends with a fault.
+        ensures finished { GivesOne (evaluation_of (user_answers E.Callable.answer E.Method.answer E.Formatter.answer E.Join.answer) self.now ids.old context).end }
         ensures value { ids.old ≢ u64.MAX → Gives result
             (under (fuel_under self.now) (evaluation_of (user_answers E.Callable.answer E.Method.answer E.Formatter.answer E.Join.answer) self.now ids.old context)) }
         ensures counted { ids.old ≢ u64.MAX → ids.new ≡ ids.old + 1 }
         ensures exhausted { ids.old ≡ u64.MAX → (result ≡ Err (ErrorKind.InvalidOperation ∷ [])) × (ids.new ≡ ids.old) }
         ensures isolated { IsIsolatedEvaluation (user_answers E.Callable.answer E.Method.answer E.Formatter.answer E.Join.answer) self.now context }
     {
+        every_expression_runs(self);
+        every_expression_gives();
         expression_isolation();
         let id = ids.next()?;
         evaluate(self.environment, id, &self.compiled, context)

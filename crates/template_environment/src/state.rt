@@ -22,6 +22,7 @@ ghost use Rattle.template_environment.specs.Reading.{registry_of};
 ghost use Rattle.template_environment.specs.Renderings.{AnswersFailure, GivesText, IsNoMore, LeavesFuel, Renders, left_of, set_of};
 
 use crate::environment::Environment;
+use crate::laws::{every_block_ends, every_call_ends};
 use crate::levels::Levels;
 use crate::starting::{begun, own_name, program};
 use crate::template::Template;
@@ -194,6 +195,9 @@ impl<'env, 'source, E: Extension> State<'env, 'source, E> {
     /// levels left; the fault of what runs; [`ErrorKind::OutOfMemory`] alone where a growth was refused. What was open before is
     /// so again; temps may have been set, and of a fuel that ran out nothing is left.
     pub fn apply_filter(&mut self, name: &str, args: &[Value]) -> Result<Value, Error>
+        // It is finished under some bound.
+        ensures finished { (n : ℕ) × IsFinished (run_of (call_in (user_answers E.Callable.answer E.Method.answer E.Formatter.answer E.Join.answer) self.old (filter_named name.now) args.now n)).end }
+
         // Under each bound where it is finished, it is what the call comes to.
         ensures told { let called = call_in (user_answers E.Callable.answer E.Method.answer E.Formatter.answer E.Join.answer) self.old (filter_named name.now) args.now in
             (n : ℕ) → IsFinished (run_of (called n)).end → GivesTold value (fuel_left_in self.old) result (called n) }
@@ -210,6 +214,7 @@ impl<'env, 'source, E: Extension> State<'env, 'source, E> {
         ensures put_back { OnErr result (PutsBack (world_in self.old) (world_in self.new)) }
         ensures rest { KeepsState self.old self.new }
     {
+        every_call_ends(self);
         let environment = self.environment;
         let rules = environment.registry.rules(own_name(self.template));
         let alloc = environment.allocator();
@@ -231,6 +236,9 @@ impl<'env, 'source, E: Extension> State<'env, 'source, E> {
     ///
     /// [`ErrorKind::UnknownTest`] where the environment has none of this name; else as [`State::apply_filter`].
     pub fn perform_test(&mut self, name: &str, args: &[Value]) -> Result<bool, Error>
+        // It is finished under some bound.
+        ensures finished { (n : ℕ) × IsFinished (run_of (call_in (user_answers E.Callable.answer E.Method.answer E.Formatter.answer E.Join.answer) self.old (test_named name.now) args.now n)).end }
+
         // Under each bound where it is finished, it is what the call comes to.
         ensures told { let called = call_in (user_answers E.Callable.answer E.Method.answer E.Formatter.answer E.Join.answer) self.old (test_named name.now) args.now in
             (n : ℕ) → IsFinished (run_of (called n)).end → GivesTold (λ is. value (truth is)) (fuel_left_in self.old) result (called n) }
@@ -247,6 +255,7 @@ impl<'env, 'source, E: Extension> State<'env, 'source, E> {
         ensures put_back { OnErr result (PutsBack (world_in self.old) (world_in self.new)) }
         ensures rest { KeepsState self.old self.new }
     {
+        every_call_ends(self);
         let environment = self.environment;
         let rules = environment.registry.rules(own_name(self.template));
         let alloc = environment.allocator();
@@ -271,6 +280,9 @@ impl<'env, 'source, E: Extension> State<'env, 'source, E> {
     /// a loop, where no level is left, and at a value that cannot be printed; [`ErrorKind::TooManyArguments`] at arguments that a macro
     /// does not take; the fault of what runs, as [`ErrorKind::OutOfFuel`]; [`ErrorKind::OutOfMemory`]. Then as [`State::apply_filter`].
     pub fn call_macro(&mut self, name: &str, args: &[Value]) -> Result<String, Error>
+        // It is finished under some bound.
+        ensures finished { (n : ℕ) × IsFinished (run_of (macro_in (user_answers E.Callable.answer E.Method.answer E.Formatter.answer E.Join.answer) self.old name.now args.now n)).end }
+
         // Under each bound where it is finished, it is the text that the call comes to.
         ensures told { let called = macro_in (user_answers E.Callable.answer E.Method.answer E.Formatter.answer E.Join.answer) self.old name.now args.now in
             (n : ℕ) → IsFinished (run_of (called n)).end → GivesTold (worded_in self.new) (fuel_left_in self.old) result (called n) }
@@ -287,6 +299,7 @@ impl<'env, 'source, E: Extension> State<'env, 'source, E> {
         ensures put_back { OnErr result (PutsBack (world_in self.old) (world_in self.new)) }
         ensures rest { KeepsState self.old self.new }
     {
+        every_call_ends(self);
         let environment = self.environment;
         let rules = environment.registry.rules(own_name(self.template));
         let alloc = environment.allocator();
@@ -458,6 +471,9 @@ impl<'env, 'source, E: Extension> State<'env, 'source, E> {
     ///
     /// As [`State::render_block_to_write`]; [`ErrorKind::WriteFailure`] only where a callable states it.
     pub fn render_block(&mut self, block: &str) -> Result<String, Error>
+        // Its meaning is finished under some bound.
+        ensures finished { (n : ℕ) × IsFinished (block_in (user_answers E.Callable.answer E.Method.answer E.Formatter.answer E.Join.answer) self.old block.now n).end }
+
         // Under each bound where its meaning is finished, its text is the one that the call gives.
         ensures text { let ran = block_in (user_answers E.Callable.answer E.Method.answer E.Formatter.answer E.Join.answer) self.old block.now in
             (n : ℕ) → IsFinished (ran n).end → GivesText (λ text. string_bytes text) result (under (fuel_left_in self.old) (ran n)) }
@@ -490,6 +506,9 @@ impl<'env, 'source, E: Extension> State<'env, 'source, E> {
     /// either as its fault, the sink has not failed. Frames, captures, the escape and the block that runs are then as before;
     /// temps, and what the block loaded, stay; of a fuel that ran out nothing is left.
     pub fn render_block_to_write<S: Sink>(&mut self, block: &str, sink: &mut S) -> Result<(), Error>
+        // Its meaning is finished under some bound.
+        ensures finished { (n : ℕ) × IsFinished (block_in (user_answers E.Callable.answer E.Method.answer E.Formatter.answer E.Join.answer) self.old block.now n).end }
+
         // Under each bound where its meaning is finished, its text is the one that goes into the sink.
         ensures renders { let ran = block_in (user_answers E.Callable.answer E.Method.answer E.Formatter.answer E.Join.answer) self.old block.now in
             (n : ℕ) → IsFinished (ran n).end →
@@ -512,6 +531,7 @@ impl<'env, 'source, E: Extension> State<'env, 'source, E> {
         ensures failures { AnswersFailure result (S.failures sink.old) (S.failures sink.new) }
         ensures rest { KeepsState self.old self.new }
     {
+        every_block_ends(self);
         let environment = self.environment;
         let alloc = environment.allocator();
         let mut left = remaining(self.fuel);

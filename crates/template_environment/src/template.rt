@@ -13,7 +13,7 @@ ghost use Rattle.template_environment.specs.Renderings.{AnswersFailure, GivesTex
 ghost use Rattle.template_environment.specs.States.{environment_in, fuel_left_in, fuel_set_in, id_in, template_in, world_in};
 
 use crate::environment::Environment;
-use crate::laws::{isolated_renders, plain_renders};
+use crate::laws::{every_render_ends, isolated_renders, plain_renders};
 use crate::starting::{begun_with, program};
 use crate::state::{State, spend, unspent};
 use template_callables::{Extension, NoExtension};
@@ -128,6 +128,9 @@ impl<'env, 'source, E: Extension> Template<'env, 'source, E> {
     ///
     /// As [`Template::render_captured`].
     pub fn render(&self, ids: &mut StateIds, context: Value) -> Result<String, Error>
+        // Its meaning is finished under some bound.
+        ensures finished { (n : ℕ) × IsFinished (render_of (user_answers E.Callable.answer E.Method.answer E.Formatter.answer E.Join.answer) self.now ids.old n context).end }
+
         // Under each bound where its meaning is finished, its text is the one that the call gives.
         ensures text { let ran = render_of (user_answers E.Callable.answer E.Method.answer E.Formatter.answer E.Join.answer) self.now ids.old in
             ids.old ≢ u64.MAX → (n : ℕ) → IsFinished (ran n context).end →
@@ -163,6 +166,9 @@ impl<'env, 'source, E: Extension> Template<'env, 'source, E> {
         ids: &mut StateIds,
         context: Value,
     ) -> Result<Captured<'_, 'source, E>, Error>
+        // Its meaning is finished under some bound.
+        ensures finished { (n : ℕ) × IsFinished (render_of (user_answers E.Callable.answer E.Method.answer E.Formatter.answer E.Join.answer) self.now ids.old n context).end }
+
         // Under each bound where its meaning is finished, its text is the one that the call gives.
         ensures text { let ran = render_of (user_answers E.Callable.answer E.Method.answer E.Formatter.answer E.Join.answer) self.now ids.old in
             ids.old ≢ u64.MAX → (n : ℕ) → IsFinished (ran n context).end →
@@ -187,6 +193,7 @@ impl<'env, 'source, E: Extension> Template<'env, 'source, E> {
         ensures counted { ids.old ≢ u64.MAX → ids.new ≡ ids.old + 1 }
         ensures exhausted { ids.old ≡ u64.MAX → (result ≡ Err (ErrorKind.InvalidOperation ∷ [])) × (ids.new ≡ ids.old) }
     {
+        every_render_ends(self);
         isolated_renders(self);
         plain_renders(self);
         let id = ids.next()?;
@@ -217,6 +224,9 @@ impl<'env, 'source, E: Extension> Template<'env, 'source, E> {
         context: Value,
         sink: &mut S,
     ) -> Result<Captured<'_, 'source, E>, Error>
+        // Its meaning is finished under some bound.
+        ensures finished { (n : ℕ) × IsFinished (render_of (user_answers E.Callable.answer E.Method.answer E.Formatter.answer E.Join.answer) self.now ids.old n context).end }
+
         // Under each bound where its meaning is finished, it is what the call does.
         ensures renders { let ran = render_of (user_answers E.Callable.answer E.Method.answer E.Formatter.answer E.Join.answer) self.now ids.old in
             ids.old ≢ u64.MAX → (n : ℕ) → IsFinished (ran n context).end →
@@ -245,6 +255,7 @@ impl<'env, 'source, E: Extension> Template<'env, 'source, E> {
         ensures exhausted { ids.old ≡ u64.MAX → (result ≡ Err (ErrorKind.InvalidOperation ∷ [])) × (sink.new ≡ sink.old)
             × (ids.new ≡ ids.old) }
     {
+        every_render_ends(self);
         isolated_renders(self);
         plain_renders(self);
         let id = ids.next()?;

@@ -22,7 +22,7 @@ returns-clause-renders g c =
           c.args.context c.args.ids.now c.render.new.ids (λ text. string_bytes text) c.render.result
           (ap (λ (e : Environment _ _ _ _ _ _). brought_of says e) read.here) (ap registry_of read.here) read.named read.source rule
           (record {
-            finished = c.every_render_ends.ensures c.args.ids.now c.args.context;
+            finished = rendered.finished;
             gives = rendered.text;
             counted = rendered.counted;
             exhausted = rendered.exhausted;

@@ -189,3 +189,16 @@ returns-in-Ok-come_to-clause-frames g c = frames_behind c.in-Ok.reached c.args.s
 
 pub returns-in-Ok-come_to-clause-places : goal.returns-in-Ok-come_to-clause-places
 returns-in-Ok-come_to-clause-places g c = places_behind c.in-Ok.reached c.args.self.now.machine c.call_filter.new.state c.come_to.new.self.machine c.in-Ok.ensures.kept c.in-Ok-come_to.ensures.places
+
+-- every call ends
+pub returns-in_err-mark-clause-finished : goal.returns-in_err-mark-clause-finished
+returns-in_err-mark-clause-finished g c = c.every_call_ends.ensures.calls (filter_named c.args.name.now) c.args.args.now
+
+pub returns-in-Err-clause-finished : goal.returns-in-Err-clause-finished
+returns-in-Err-clause-finished g c = c.every_call_ends.ensures.calls (filter_named c.args.name.now) c.args.args.now
+
+pub returns-in-Err-come_to-clause-finished : goal.returns-in-Err-come_to-clause-finished
+returns-in-Err-come_to-clause-finished g c = c.every_call_ends.ensures.calls (filter_named c.args.name.now) c.args.args.now
+
+pub returns-in-Ok-come_to-clause-finished : goal.returns-in-Ok-come_to-clause-finished
+returns-in-Ok-come_to-clause-finished g c = c.every_call_ends.ensures.calls (filter_named c.args.name.now) c.args.args.now

@@ -82,3 +82,10 @@ returns-clause-rest g c = record { environment = refl; template = refl; id = ref
 
 pub returns-clause-places : goal.returns-clause-places
 returns-clause-places g c = c.run_block-done.ensures.keeps.blocks
+
+-- every block ends
+pub returns-in-Ok-clause-finished : goal.returns-in-Ok-clause-finished
+returns-in-Ok-clause-finished g c = c.every_block_ends.ensures c.args.block.now
+
+pub returns-clause-finished : goal.returns-clause-finished
+returns-clause-finished g c = c.every_block_ends.ensures c.args.block.now

@@ -74,3 +74,13 @@ returns-clause-plain g c = λ live plain.
     let captured : Captured _ _ _ _ _ _ = record { output = c.run.new.sink; state = c.in_ok-state.state } in
     plain_gives brought self.environment.now.registry c.args.ids.now (compiled_in self.compiled) (text_kept (source_of self)) c.args.context output_of (Ok captured) (c.plain_renders.ensures plain)
     (returns-clause-text g c live)
+
+-- every render ends
+pub returns-in_err-id-clause-finished : goal.returns-in_err-id-clause-finished
+returns-in_err-id-clause-finished g c = c.every_render_ends.ensures c.args.ids.now c.args.context
+
+pub returns-in_err-state-clause-finished : goal.returns-in_err-state-clause-finished
+returns-in_err-state-clause-finished g c = c.every_render_ends.ensures c.args.ids.now c.args.context
+
+pub returns-clause-finished : goal.returns-clause-finished
+returns-clause-finished g c = c.every_render_ends.ensures c.args.ids.now c.args.context

@@ -73,3 +73,13 @@ returns-clause-plain g c = λ live plain.
     let brought = brought_of (user_answers g.E.Callable.Callable.answer g.E.Method.UnknownMethod.answer g.E.Formatter.Formatter.answer g.E.Join.PathJoin.answer) self.environment.now in
     plain_writes brought self.environment.now.registry c.args.ids.now (compiled_in self.compiled) (text_kept (source_of self)) c.args.context _ _ _ _ (Ok _) (c.plain_renders.ensures plain)
     (returns-clause-renders g c live)
+
+-- every render ends
+pub returns-in_err-id-clause-finished : goal.returns-in_err-id-clause-finished
+returns-in_err-id-clause-finished g c = c.every_render_ends.ensures c.args.ids.now c.args.context
+
+pub returns-in_err-state-clause-finished : goal.returns-in_err-state-clause-finished
+returns-in_err-state-clause-finished g c = c.every_render_ends.ensures c.args.ids.now c.args.context
+
+pub returns-clause-finished : goal.returns-clause-finished
+returns-clause-finished g c = c.every_render_ends.ensures c.args.ids.now c.args.context
