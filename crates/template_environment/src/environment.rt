@@ -95,12 +95,7 @@ impl<'source> Environment<'source> {
         ensures counted { OnOk result (ids.new ≡ ids.old + 1) }
         ensures refused { IfErr result (λ kinds. (kinds ≡ ErrorKind.InvalidOperation ∷ []) × (ids.old ≡ u64.MAX) × (ids.new ≡ ids.old)) }
     {
-        let config = TemplateConfig {
-            default_auto_escape: EscapeRule::Never,
-            ..TemplateConfig::new()
-        };
-        let id = ids.next()?;
-        Ok(Environment::under(alloc, Globals::empty(alloc, id), config))
+        Environment::extended_empty(alloc, ids)
     }
 }
 
@@ -132,6 +127,32 @@ impl<'source, E: Extension> Environment<'source, E> {
         let id = ids.next()?;
         let globals = Globals::with_functions(alloc, id)?;
         Ok(Environment::under(alloc, globals, TemplateConfig::new()))
+    }
+
+    /// The same as [`Environment::empty`] makes, for what a user brings by the types of `E`: without globals and with no escape,
+    /// and nothing is brought yet.
+    ///
+    /// # Errors
+    ///
+    /// As [`Environment::empty`].
+    pub fn extended_empty(
+        alloc: Global,
+        ids: &mut StateIds,
+    ) -> Result<Environment<'source, E>, Error>
+        ensures empty { IfOk result (λ e. (name : List ℕ) → source_at (registry_of e) name ≡ None) }
+        ensures settings { IfOk result (λ e. settings_of (registry_of e)
+            ≡ new_settings (no_globals ids.old) default_syntax EscapeRule.Never) }
+        ensures extras { IfOk result (λ e. extras_of e ≡ no_extras) }
+        ensures had_one { OnOk result (ids.old ≢ u64.MAX) }
+        ensures counted { OnOk result (ids.new ≡ ids.old + 1) }
+        ensures refused { IfErr result (λ kinds. (kinds ≡ ErrorKind.InvalidOperation ∷ []) × (ids.old ≡ u64.MAX) × (ids.new ≡ ids.old)) }
+    {
+        let config = TemplateConfig {
+            default_auto_escape: EscapeRule::Never,
+            ..TemplateConfig::new()
+        };
+        let id = ids.next()?;
+        Ok(Environment::under(alloc, Globals::empty(alloc, id), config))
     }
 
     // An environment without templates and with nothing of a user's, with what it gives to each run, and what its templates
