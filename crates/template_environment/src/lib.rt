@@ -14,6 +14,7 @@ mod registry;
 mod starting;
 mod state;
 mod template;
+mod using;
 
 pub use environment::Environment;
 pub use escaping::escape_formatter;
@@ -25,3 +26,4 @@ pub use laws::{
 pub use registry::Registry;
 pub use state::State;
 pub use template::{Captured, Template};
+pub use using::UsesState;

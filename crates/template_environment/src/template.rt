@@ -16,6 +16,7 @@ use crate::environment::Environment;
 use crate::laws::{every_render_ends, isolated_renders, plain_renders};
 use crate::starting::{begun_with, program};
 use crate::state::{State, spend, unspent};
+use crate::using::UsesState;
 use template_callables::{Extension, NoExtension};
 use template_compiled::CompiledTemplate;
 use template_machine_output::Sink;
@@ -337,6 +338,15 @@ impl<'env, 'source, E: Extension> Captured<'env, 'source, E> {
         ensures { result.now ≡ state_of self.now }
     {
         &self.state
+    }
+
+    /// Hands `user` the state that the render left, to be changed, and the text that it gave, and answers what `user` does: blocks
+    /// can be rendered in the state, and filters and tests called. The text stays. Costs what `user` does with them.
+    pub fn with_state_mut<U: UsesState<E>>(&mut self, user: &mut U) -> U::Output
+        ensures uses { U.uses user.old (state_of self.old) (output_of self.old) user.new (state_of self.new) result }
+        ensures output { output_of self.new ≡ output_of self.old }
+    {
+        user.with_state(&mut self.state, self.output.as_str())
     }
 
     /// The state that the render left, without all else: blocks can be rendered in it, and filters and tests called.
