@@ -1,20 +1,22 @@
 //! Laws of the templates and expressions of an environment, each as the contract of a function that does nothing.
-ghost use Rattle.std.specs.Prelude.{◌≡◌, ℕ, List};
+ghost use Rattle.std.specs.Prelude.{◌≡◌, ℕ, List, Some, false};
 ghost use Rattle.template_values_model.specs.Val.{Val};
 ghost use Rattle.template_process.specs.Approximants.{IsFinished};
 ghost use Rattle.template_walk.specs.Runnable.{IsRunnable, IsRunnableTemplate};
 ghost use Rattle.template_machine_meaning.specs.Functions.{Invoked};
-ghost use Rattle.template_machine_meaning.specs.Isolation.{AskNoNames};
+ghost use Rattle.template_names.specs.Names.{IsTold};
+ghost use Rattle.template_machine_meaning.specs.Isolation.{AskNoNames, IsContextName};
 ghost use Rattle.template_machine_meaning.specs.World.{first_world};
 ghost use Rattle.template_machine_renders.specs.Plans.{run_of};
 ghost use Rattle.template_compiled.specs.Expressions.{HasExpression, expression_in};
 ghost use Rattle.template_compiled.specs.Plain.{IsPlain, text_kept};
-ghost use Rattle.template_compiled.specs.Sources.{HasTree};
+ghost use Rattle.template_compiled.specs.Sources.{HasTree, Source, tree_in};
 ghost use Rattle.template_environment.specs.Evaluations.{text_of};
 ghost use Rattle.template_environment.specs.Extras.{no_answers, user_answers};
 ghost use Rattle.template_environment.specs.Isolated.{IsIsolated, tree_of};
 ghost use Rattle.template_environment.specs.Plain.{text_run};
-ghost use Rattle.template_environment.specs.Reading.{callables_of};
+ghost use Rattle.template_environment.specs.Reading.{callables_of, registry_of, setting_in};
+ghost use Rattle.template_environment.specs.Standing.{source_at};
 ghost use Rattle.template_environment.specs.States.{block_in, call_in, macro_in};
 ghost use Rattle.template_environment.specs.Views.{globals_of, head_in, render_of, source_of};
 
@@ -91,4 +93,18 @@ pub fn isolated_renders<E: Extension>(template: &Template<'_, '_, E>)
 /// A law: where nothing of a user's own can be brought, nothing that is asks for names.
 pub fn none_ask_names(_environment: &Environment<'_>)
     ensures { AskNoNames (callables_of no_answers _environment.now) }
+{}
+
+/// A law: the names that [`Template::undeclared_variables`] tells of a template, without attributes, can matter to its renders in
+/// an environment, and so can those that it tells of each template that stands there: all of these are among what
+/// [`Environment::context_names`] tells.
+pub fn undeclared_names_matter<E: Extension>(
+    _environment: &Environment<'_, E>,
+    _template: &Template<'_, '_, E>,
+)
+    ensures own { (name : List ℕ) → IsTold false name (tree_of _template.now)
+        → IsContextName (setting_in (user_answers E.Callable.answer E.Method.answer E.Formatter.answer E.Join.answer) _environment.now) (tree_of _template.now) name }
+    ensures standing { (other : List ℕ) (source : Source) → source_at (registry_of _environment.now) other ≡ Some source
+        → (name : List ℕ) → IsTold false name (tree_in source)
+        → IsContextName (setting_in (user_answers E.Callable.answer E.Method.answer E.Formatter.answer E.Join.answer) _environment.now) (tree_of _template.now) name }
 {}
