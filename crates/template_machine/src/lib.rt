@@ -79,9 +79,9 @@ pub use template_code_checked::{Checked, verify};
 pub use template_code_shapes::{StreamKind, certified_is_good, good_ends_well, good_goes_on};
 pub use template_compiler_syntax::{StartMarker, SyntaxConfig, SyntaxConfigBuilder};
 pub use template_environment::{
-    Captured, Environment, Expression, State, Template, escape_formatter, every_block_ends,
-    every_call_ends, every_expression_runs, every_render_ends, every_template_runs,
-    isolated_renders, none_ask_names, plain_renders,
+    Captured, Environment, Expression, State, Template, UsesState, escape_formatter,
+    every_block_ends, every_call_ends, every_expression_runs, every_render_ends,
+    every_template_runs, isolated_renders, none_ask_names, plain_renders, undeclared_names_matter,
 };
 pub use template_machine_blocks::BlockStack;
 pub use template_machine_frames::{Closures, Context, Frame, LoopState};
