@@ -1,5 +1,5 @@
 -- Numbers and decimals, rounded.
-use Rattle.std.specs.Prelude.{ℕ, suc, ◌+◌, ◌-◌, ◌*◌, ◌/◌, ◌%◌, ◌^◌, ◌&&◌, ℤ, pos, negsuc, Bool, false, not, List, nat_le, nat_lt, unsigned_abs, int_le, bytes_eq, codes, if◌then◌else◌, Option, None, Some, Result, Ok}
+use Rattle.std.specs.Prelude.{ℕ, suc, ◌+◌, ◌-◌, ◌*◌, ◌/◌, ◌%◌, ◌^◌, ◌&&◌, ℤ, pos, negsuc, Bool, false, not, List, nat_le, nat_lt, unsigned_abs, int_le, bytes_eq, codes, if◌then◌else◌, Option, None, Some, option_map, Result, Ok}
 use Rattle.std.specs.Int.{is_negative}
 use Rattle.std.specs.Str.{trim}
 use Rattle.template_values_errors.specs.declared.ErrorKind.{ErrorKind}
@@ -60,6 +60,10 @@ rounded method precision x = record {
 
 unfoldable pub rounded_text : Method → ℤ → Decimal → List ℕ
 rounded_text method precision d = fixed_text (rounded method precision (fixed d))
+
+-- the text of the decimal that a text writes, rounded to so many digits behind the point
+abbrev pub rounded_decimal : ℕ → List ℕ → Option (List ℕ)
+rounded_decimal places s = option_map (rounded_text Common (pos places)) (decimal_of (trim s))
 
 -- no more zeros are put in than a width may have
 abbrev pub decimal_rounded : Method → ℤ → Option Decimal → Made

@@ -12,3 +12,4 @@ mod sizes;
 mod texts;
 
 pub use filter::DecimalFilter;
+pub use rounding::rounded_decimal;

@@ -96,6 +96,30 @@ pub(crate) fn rounded_value(
     }
 }
 
+/// The text of the decimal that a text writes, rounded to so many digits behind the point with halves away from zero, as the filter
+/// `round` makes it; none where the text writes no decimal. Linear in the length of the text.
+///
+/// # Errors
+///
+/// [`AllocError`], if memory is refused.
+pub fn rounded_decimal(
+    alloc: Global,
+    places: usize,
+    text: &str,
+) -> Result<Option<String>, AllocError>
+    ensures { IfOk result (λ r. option_map string_bytes r ≡ rounding.rounded_decimal places text.now) }
+{
+    match decimal_of(text.trim().as_bytes()) {
+        None => Ok(None),
+        Some(decimal) => Ok(Some(rounded_text(
+            alloc,
+            Method::Common,
+            places as i128,
+            decimal,
+        )?)),
+    }
+}
+
 fn number_made(number: Option<i128>) -> Result<Value, Error>
     ensures { Tells result (values.number_made number) }
 {
