@@ -111,12 +111,7 @@ pub fn rounded_decimal(
 {
     match decimal_of(text.trim().as_bytes()) {
         None => Ok(None),
-        Some(decimal) => Ok(Some(rounded_text(
-            alloc,
-            Method::Common,
-            places as i128,
-            decimal,
-        )?)),
+        Some(decimal) => Ok(Some(rounded_text(alloc, Method::Common, places as i128, decimal)?)),
     }
 }
 

@@ -1,0 +1,4 @@
+pub mod Cuts
+pub mod Figures
+pub mod Going
+pub mod Keywords

@@ -1,0 +1,10 @@
+pub mod Arguments
+pub mod Digits
+pub mod Directives
+pub mod Filling
+pub mod Filters
+pub mod Formats
+pub mod Pieces
+pub mod Seen
+pub mod Shown
+pub mod Taken
