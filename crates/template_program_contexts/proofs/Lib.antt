@@ -1,0 +1,9 @@
+pub mod Refusals
+pub mod Saying
+pub mod EachDocument
+pub mod EachDefinition
+pub mod EachValue
+pub mod Made
+pub mod Members
+pub mod Alone
+pub mod Follows

@@ -1,0 +1,5 @@
+pub mod Documents
+pub mod Values
+pub mod Context
+pub mod Entries
+pub mod Laws
