@@ -7,3 +7,4 @@ pub mod Made
 pub mod Members
 pub mod Alone
 pub mod Follows
+pub mod EachPart

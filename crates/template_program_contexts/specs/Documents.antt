@@ -10,9 +10,10 @@ use Rattle.template_values_contexts.specs.Spelled.{spelled_value}
 use Rattle.template_values_contexts.specs.declared.contexts.Floats.{Floats}
 use Rattle.template_values_contexts.specs.declared.contexts.Floats.TheVariants.{Refused, AsSpelled}
 use Rattle.template_program_parts.specs.Context.{member_under}
+use Rattle.template_program_contexts.specs.Toml.{fault_of_toml, toml_member}
 use Rattle.template_program_contexts.specs.declared.documents.Document.{Document}
 use Rattle.template_program_contexts.specs.declared.documents.Form.{Form}
-use Rattle.template_program_contexts.specs.declared.documents.Form.TheVariants.{Json}
+use Rattle.template_program_contexts.specs.declared.documents.Form.TheVariants.{Json, Toml}
 
 -- what JSON has under a name, whose numbers are kept as they are spelled
 abbrev pub spelled_member : Option Tree → List ℕ → Option Val
@@ -25,9 +26,11 @@ json_member AsSpelled bytes name = spelled_member (tree_in bytes) name
 
 abbrev pub member_in : Floats → Form → List ℕ → List ℕ → Option Val
 member_in floats Json bytes name = json_member floats bytes name
+member_in floats Toml bytes name = toml_member bytes name
 
 abbrev pub fault_in : Floats → Form → List ℕ → Option ErrorKind
 fault_in floats Json bytes = fault_of floats bytes
+fault_in floats Toml bytes = fault_of_toml bytes
 
 -- what a document has under a name
 abbrev pub member_of : Floats → Document → List ℕ → Option Val

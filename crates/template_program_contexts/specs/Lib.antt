@@ -3,3 +3,4 @@ pub mod Values
 pub mod Context
 pub mod Entries
 pub mod Laws
+pub mod Toml

@@ -18,17 +18,20 @@ use template_values_errors::Error;
 
 /// The context of a render: a map of the members of the documents, in order, of which a later one's replace those of the same names
 /// whole; over them a text for each definition of a name and its text; and over these for each name and JSON text the value that the
-/// JSON stands for. Of equal names the last one stands. Without documents there are no members. Numbers of JSON that are no whole
-/// ones of 64 bits are refused or kept as `floats` says. Takes time in proportion to the bytes, and n log n comparisons for n members,
-/// definitions and values.
+/// JSON stands for. Arrays are lists, and objects and tables are maps in the order of their names. Of equal names the last one stands.
+/// Without documents there are no members. Numbers of JSON that are no whole ones of 64 bits are refused or kept as `floats` says.
+/// Takes time in proportion to the bytes, and n log n comparisons for n members, definitions and values.
 ///
 /// # Errors
 ///
 /// Of the documents, in order, and after them of the values, in order, the first that is refused tells its kind, alone:
 ///
-/// - `SyntaxError`, if it is no JSON, or nests deeper than 127 levels.
-/// - `NoFloats`, where floats are refused, if a number that counts is one.
-/// - `InvalidOperation`, if a document is no object.
+/// - `SyntaxError`, if it is no JSON, or nests deeper than 127 levels, or a document is not the TOML that it is to be. Where floats
+///   are refused also at a number of JSON that is out of the range of floats.
+/// - `NoFloats`, where floats are refused, if a number of JSON that counts is one.
+/// - `InvalidOperation`, if a document of JSON is no object.
+/// - In TOML, of these the first by the order of names: `NoFloats` for a float and `BadSerialization` for a date or a time, whatever
+///   `floats` says, and `InvalidOperation` for what nests deeper than values may.
 ///
 /// And `OutOfMemory`, at any time.
 pub fn context_with(

@@ -8,6 +8,7 @@ ghost use Rattle.template_program_contexts.specs.Entries.{Say};
 ghost use Rattle.template_values_contexts.specs.Contexts.{fault_of};
 
 use crate::texts::spelled_entries;
+use crate::toml::toml_entries;
 use std::alloc::Global;
 use template_values_contexts::Floats;
 use template_values_core::Entry;
@@ -19,6 +20,8 @@ use template_values_json::entries_from_json;
 pub enum Form {
     /// A JSON object.
     Json,
+    /// TOML.
+    Toml,
 }
 
 /// A document that a context is read from.
@@ -62,6 +65,7 @@ fn member_entries(
 {
     match document.form {
         Form::Json => json_entries(alloc, document.bytes, floats),
+        Form::Toml => toml_entries(alloc, document.bytes),
     }
 }
 

@@ -1,4 +1,4 @@
-//! The context of a render from several documents, with definitions and values over them.
+//! The context of a render from several documents, JSON or TOML, with definitions and values over them.
 #![tactic(auto)]
 
 mod contexts;
@@ -7,6 +7,7 @@ mod laws;
 mod numbers;
 mod spelled;
 mod texts;
+mod toml;
 mod values;
 mod whole;
 

@@ -19,7 +19,7 @@ pub(crate) enum Case<'a> {
 /// What a context is made of.
 #[derive(Drop)]
 pub(crate) struct Parts {
-    documents: Vec<Vec<u8>>,
+    documents: Vec<(Form, Vec<u8>)>,
     definitions: Vec<(String, String)>,
     values: Vec<(String, String)>,
 }
@@ -28,10 +28,10 @@ impl Parts {
     /// The context that these make.
     pub(crate) fn context(&self, alloc: Global, floats: Floats) -> Result<Value, Error> {
         let mut documents = Vec::with_capacity(alloc, self.documents.len())?;
-        for bytes in &self.documents {
+        for (form, bytes) in &self.documents {
             documents.push(Document {
                 bytes: bytes.as_slice(),
-                form: Form::Json,
+                form: *form,
             })?;
         }
         context_with(
@@ -65,7 +65,7 @@ fn case_of(alloc: Global, entries: &Map<String, Json>) -> Result<Case<'_>, Error
     }))
 }
 
-fn documents_of(alloc: Global, documents: Option<&Json>) -> Result<Vec<Vec<u8>>, Error> {
+fn documents_of(alloc: Global, documents: Option<&Json>) -> Result<Vec<(Form, Vec<u8>)>, Error> {
     match documents {
         None => Ok(Vec::new(alloc)),
         Some(Json::Array(documents)) => listed_documents(alloc, documents.as_slice()),
@@ -73,10 +73,25 @@ fn documents_of(alloc: Global, documents: Option<&Json>) -> Result<Vec<Vec<u8>>,
     }
 }
 
-fn listed_documents(alloc: Global, documents: &[Json]) -> Result<Vec<Vec<u8>>, Error> {
+fn listed_documents(alloc: Global, documents: &[Json]) -> Result<Vec<(Form, Vec<u8>)>, Error> {
     let mut listed = Vec::with_capacity(alloc, documents.len())?;
     for document in documents {
-        listed.push(bytes_of(alloc, document)?)?;
+        listed.push(document_of(alloc, document)?)?;
     }
     Ok(listed)
+}
+
+fn document_of(alloc: Global, document: &Json) -> Result<(Form, Vec<u8>), Error> {
+    match document {
+        Json::Object(entries) => Ok((Form::Toml, toml_of(alloc, entries)?)),
+        bytes => Ok((Form::Json, bytes_of(alloc, bytes)?)),
+    }
+}
+
+fn toml_of(alloc: Global, entries: &Map<String, Json>) -> Result<Vec<u8>, Error> {
+    expect_names(entries, &["toml"])?;
+    match entries.get("toml") {
+        Some(bytes) => bytes_of(alloc, bytes),
+        None => unreadable(),
+    }
 }

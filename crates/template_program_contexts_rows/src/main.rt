@@ -1,7 +1,8 @@
 //! Contexts from several documents, as rows. Each line of standard input is a case, a JSON object with these entries, each of which may
 //! be left out:
 //!
-//! - `documents`: the documents, an array; each is a text, or an array of texts and bytes;
+//! - `documents`: the documents, an array; each is JSON, a text, or an array of texts and bytes, or an object with the entry `toml`,
+//!   which is so too;
 //! - `definitions`: an array of `[name, text]`;
 //! - `values`: an array of `[name, JSON]`.
 //!
