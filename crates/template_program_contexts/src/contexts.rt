@@ -26,8 +26,9 @@ use template_values_errors::Error;
 ///
 /// Of the documents, in order, and after them of the values, in order, the first that is refused tells its kind, alone:
 ///
-/// - `SyntaxError`, if it is no JSON, or nests deeper than 127 levels, or a document is not the TOML that it is to be. Where floats
-///   are refused also at a number of JSON that is out of the range of floats.
+/// - `SyntaxError`, if it is no JSON, or nests deeper than 127 levels, or a document is not the TOML that it is to be, in which keys
+///   have 80 parts at most and arrays nest 80 levels. Where floats are refused also at a number of JSON that is out of the range of
+///   floats.
 /// - `NoFloats`, where floats are refused, if a number of JSON that counts is one.
 /// - `InvalidOperation`, if a document of JSON is no object.
 /// - In TOML, of these the first by the order of names: `NoFloats` for a float and `BadSerialization` for a date or a time, whatever
