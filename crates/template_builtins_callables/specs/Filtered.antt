@@ -10,6 +10,7 @@ use Rattle.template_builtins_arguments.specs.Parts.{items_of}
 use Rattle.template_builtins_texts.specs.Filters.{text_filtered}
 use Rattle.template_builtins_layout.specs.Filters.{layout_filtered}
 use Rattle.template_builtins_pieces.specs.Answers.{piece_filtered}
+use Rattle.template_builtins_formats.specs.Filters.{format_filtered}
 use Rattle.template_builtins_web.specs.Filters.{web_filtered}
 use Rattle.template_builtins_decimals.specs.Filters.{decimal_filtered}
 use Rattle.template_builtins_lists.specs.Filters.{list_filtered}
@@ -36,6 +37,7 @@ abbrev pub alone_filtered : Filter → View → Val → List Val → Made
 alone_filtered (filters.Text filter) view v vs = text_filtered filter view v vs
 alone_filtered (filters.Layout filter) view v vs = layout_filtered filter view v vs
 alone_filtered (filters.Piece filter) view v vs = piece_filtered filter view v vs
+alone_filtered (filters.Format filter) view v vs = format_filtered filter view v vs
 alone_filtered (filters.Web filter) view v vs = web_filtered filter view v vs
 alone_filtered (filters.List filter) view v vs = list_filtered filter view v vs
 alone_filtered (filters.Sorting filter) view v vs = sorting_filtered filter view v vs
@@ -54,6 +56,7 @@ abbrev pub is_map : Filter → Bool
 is_map (filters.Text filter) = false
 is_map (filters.Layout filter) = false
 is_map (filters.Piece filter) = false
+is_map (filters.Format filter) = false
 is_map (filters.Web filter) = false
 is_map (filters.List filter) = false
 is_map (filters.Sorting filter) = false

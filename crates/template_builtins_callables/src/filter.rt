@@ -9,6 +9,7 @@ use crate::naming::{filter_by, is_alone};
 use std::alloc::Global;
 use template_builtins_arguments::items_of;
 use template_builtins_decimals::DecimalFilter;
+use template_builtins_formats::FormatFilter;
 use template_builtins_layout::LayoutFilter;
 use template_builtins_lists::ListFilter;
 use template_builtins_numbers::ValueFilter;
@@ -30,6 +31,8 @@ pub enum Filter {
     Layout(LayoutFilter),
     /// That cuts a text.
     Piece(PieceFilter),
+    /// That fills a format in.
+    Format(FormatFilter),
     /// For pages and for what is read by others.
     Web(WebFilter),
     /// Of lists.
@@ -99,6 +102,7 @@ impl Filter {
             Filter::Text(filter) => filter.apply(alloc, view, value, arguments),
             Filter::Layout(filter) => filter.apply(alloc, view, value, arguments),
             Filter::Piece(filter) => filter.apply(alloc, view, value, arguments),
+            Filter::Format(filter) => filter.apply(alloc, view, value, arguments),
             Filter::Web(filter) => filter.apply(alloc, view, value, arguments),
             Filter::List(filter) => filter.apply(alloc, view, value, arguments),
             Filter::Sorting(filter) => filter.apply(alloc, view, value, arguments),

@@ -7,6 +7,7 @@ use crate::each::EachFilter;
 use crate::filter::Filter;
 use crate::test::Test;
 use template_builtins_decimals::DecimalFilter;
+use template_builtins_formats::FormatFilter;
 use template_builtins_layout::LayoutFilter;
 use template_builtins_lists::ListFilter;
 use template_builtins_numbers::ValueFilter;
@@ -17,7 +18,7 @@ use template_builtins_texts::TextFilter;
 use template_builtins_web::WebFilter;
 
 /// The filters under their names.
-pub const FILTERS: [(&str, Filter); 55] = [
+pub const FILTERS: [(&str, Filter); 56] = [
     ("abs", Filter::Value(ValueFilter::Abs)),
     ("attr", Filter::Value(ValueFilter::Attr)),
     ("batch", Filter::List(ListFilter::Batch)),
@@ -37,6 +38,7 @@ pub const FILTERS: [(&str, Filter); 55] = [
     ),
     ("first", Filter::List(ListFilter::First)),
     ("forceescape", Filter::Text(TextFilter::ForceEscape)),
+    ("format", Filter::Format(FormatFilter::Format)),
     ("groupby", Filter::Sorting(SortingFilter::GroupBy)),
     ("indent", Filter::Text(TextFilter::Indent)),
     ("int", Filter::Value(ValueFilter::Int)),
