@@ -3,7 +3,7 @@ use Rattle.std.proofs.Common.{◌≡◌, ◌∙◌, ℕ, List, refl, sym, ap, su
 use Rattle.std.specs.BTreeSet.{BTreeSet, contains_text}
 use Rattle.std.specs.Prelude.{String}
 use Rattle.std.specs.declared.alloc.Global.{Global}
-use Rattle.template_machine_surroundings.proofs.OneRule.{one_rule}
+use Rattle.template_machine_surroundings.proofs.OneRule.{one_escape}
 use Rattle.template_machine_meaning.specs.Meaning.{Setting, Standing}
 use Rattle.template_environment_settings.specs.Extras.{Brought}
 use Rattle.template_environment_settings.specs.Isolation.{IsContextName}
@@ -13,12 +13,13 @@ use Rattle.template_environment_settings.specs.Standing.{setting_of}
 use Rattle.template_environment_settings.proofs.Settings as settings
 use Rattle.template_program_run.specs.Answers.{IsTemplateOf}
 use Rattle.template_program_run.specs.Environments.{IsMade}
-use Rattle.template_program_run.specs.History.{source_for}
+use Rattle.template_program_run.specs.History.{source_under}
+use Rattle.template_program_run.specs.Served.{Served}
 use Rattle.template_program_run.specs.declared.request.Request.{Request}
 
-pub one_setting : (k : Brought) (request : Request) (additions : List (List ℕ × List ℕ)) (id : ℕ) (e other : Registry)
-    → IsMade request additions id e → IsMade request additions id other → setting_of k e ≡ setting_of k other
-one_setting k request additions id e other made more = settings.one_setting k k e other (record {
+pub one_setting : (k : Brought) (served : Served) (request : Request) (additions : List (List ℕ × List ℕ)) (id : ℕ) (e other : Registry)
+    → IsMade served request additions id e → IsMade served request additions id other → setting_of k e ≡ setting_of k other
+one_setting k served request additions id e other made more = settings.one_setting k k e other (record {
   sources = λ name. made.sources name ∙ sym (more.sources name);
   globals = made.settings.globals ∙ sym more.settings.globals;
   users = refl;
@@ -26,15 +27,16 @@ one_setting k request additions id e other made more = settings.one_setting k k 
   undefined = made.settings.undefined ∙ sym more.settings.undefined;
 })
 
-pub one_fuel : (request : Request) (additions : List (List ℕ × List ℕ)) (id : ℕ) (e other : Registry) → IsMade request additions id e
-    → IsMade request additions id other → e.fuel ≡ other.fuel
-one_fuel request additions id e other made more = made.settings.fuel ∙ sym more.settings.fuel
+pub one_fuel : (served : Served) (request : Request) (additions : List (List ℕ × List ℕ)) (id : ℕ) (e other : Registry)
+    → IsMade served request additions id e → IsMade served request additions id other → e.fuel ≡ other.fuel
+one_fuel served request additions id e other made more = made.settings.fuel ∙ sym more.settings.fuel
 
 -- a name and a text stand for one template
-pub one_template : (name text other : List ℕ) (t u : Standing) → text ≡ other → IsTemplateOf name text t → IsTemplateOf name other u → t ≡ u
-one_template name text other t u same is more =
-    let tree = is.tree ∙ ap (λ (x : List ℕ). tree_in (source_for x)) same ∙ sym more.tree in
-    let escape = one_rule name t.escape u.escape is.rule more.rule in
+pub one_template : (served : Served) (name text other : List ℕ) (t u : Standing) → text ≡ other → IsTemplateOf served name text t
+    → IsTemplateOf served name other u → t ≡ u
+one_template served name text other t u same is more =
+    let tree = is.tree ∙ ap (λ (x : List ℕ). tree_in (source_under served x)) same ∙ sym more.tree in
+    let escape = one_escape served.escapes name t.escape u.escape is.rule more.rule in
     let named = is.named ∙ sym more.named in
     λ i. record { name = named i; tree = tree i; escape = escape i }
 

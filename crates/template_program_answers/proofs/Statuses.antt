@@ -19,13 +19,14 @@ use Rattle.template_environment_settings.specs.Renderings.{Renders, whole, broke
 use Rattle.template_environment_settings.specs.Standing.{setting_of}
 use Rattle.template_program_run.specs.Answers.{AnswersRequest, IsOutcomeOf, Performed, Rendered}
 use Rattle.template_program_run.specs.Ids.{last_id}
+use Rattle.template_program_run.specs.Served.{plainly_served}
 use Rattle.template_program_parts.specs.Status.{IsUnlessMemory}
 use Rattle.template_program_parts.specs.declared.outcome.Outcome.{Outcome}
 use Rattle.template_program_parts.specs.declared.outcome.Outcome.TheVariants.{Render, Context, Template}
 use Rattle.template_program_parts.specs.declared.command.Command.{Command}
 use Rattle.template_program_parts.specs.declared.command.Command.TheVariants as asked
 use Rattle.template_program_run.specs.declared.request.Request.{Request}
-use Rattle.template_program_answers.specs.Law.{Answer, SixIsWant}
+use Rattle.template_program_answers.specs.Law.{SixIsWant}
 
 -- no memory is wanted, in whatever kind of the chain
 abbrev NotMemory : ErrorKind → Type 0
@@ -100,7 +101,7 @@ rendered_wants e t context next kinds before after failed fails rendered status 
 
 performed_wants : (command : Command) (request : Request) (additions : List (List ℕ × List ℕ)) (json : Option (List ℕ)) (next : ℕ)
     (kinds : List ErrorKind) (before after : Option (List ℕ)) (failed fails : ℕ)
-    → Performed nothing_brought command request additions json next (Render kinds) before after failed fails → IsUnlessMemory kinds 1 6 → NoMemory kinds
+    → Performed plainly_served command request additions json next (Render kinds) before after failed fails → IsUnlessMemory kinds 1 6 → NoMemory kinds
 performed_wants asked.Render request additions json next kinds before after failed fails p status =
     let does = p.2.2.2 in
     rendered_wants p.0 p.2.2.0 does.0 (next + 1) kinds before after failed fails does.2 status

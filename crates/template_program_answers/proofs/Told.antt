@@ -1,5 +1,5 @@
--- Sets of the same names are told by the same lines.
-use Rattle.std.proofs.Common.{◌≡◌, ◌∙◌, ℕ, Bool, true, false, ◌||◌, List, [], ◌∷◌, ◌++◌, IsTrue, ◌↔◌, map, String, string_bytes, refl, sym, ap}
+-- Sets of the same names are told by the same bytes.
+use Rattle.std.proofs.Common.{◌≡◌, ◌∙◌, ℕ, Bool, true, false, ◌||◌, List, [], ◌∷◌, ◌++◌, IsTrue, ◌↔◌, if◌then◌else◌, map, String, string_bytes, refl, sym, ap}
 use Rattle.std.specs.BTreeSet.{BTreeSet, IsOrdered, contains_text}
 use Rattle.std.specs.BTreeMap.{is_at}
 use Rattle.std.specs.Cmp.Lexicographic.{slice_cmp}
@@ -12,7 +12,10 @@ use Rattle.std.proofs.lemmas.Cmp.{nat_list_cmp_total}
 use Rattle.std.proofs.lemmas.Map.Lookups.{CmpEqualImpliesEq, btree_set_from_contains}
 use Rattle.std.proofs.lemmas.Map.Text.{is_eq-slice_cmp}
 use Rattle.std.proofs.lemmas.Slice.Eq.{bytes_eq-Decides}
-use Rattle.template_program_run.specs.Lines.{line_of, lines_of}
+use Rattle.serde_json.specs.Data.{array, string}
+use Rattle.serde_json.specs.View.{items_of}
+use Rattle.serde_json.specs.Written.{compact_text}
+use Rattle.template_program_run.specs.Lines.{line_of, lines_of, strings_of, told_names}
 
 -- texts that compare equal are equal
 exact : CmpEqualImpliesEq (slice_cmp nat_cmp)
@@ -51,7 +54,7 @@ same_texts names others ordered ascend same =
     btree_set_from_contains nat_list_cmp_total one other (texts_ascend names.keys ordered) (texts_ascend others.keys ascend)
     (λ q. found_alike q names.keys ∙ same q ∙ sym (found_alike q others.keys)) exact
 
--- the lines are those of the texts
+-- the lines, and the items of JSON, are those of the texts
 abbrev lines_in : List (List ℕ) → List ℕ
 lines_in [] = []
 lines_in (text ∷ texts) = line_of text ++ lines_in texts
@@ -60,9 +63,22 @@ lines_are : {A : Type 0} (names : List (String A)) → lines_of names ≡ lines_
 lines_are [] = refl
 lines_are (name ∷ names) = ap (λ rest. line_of (string_bytes name) ++ rest) (lines_are names)
 
-pub same_lines : {A B : Type 0} (names : BTreeSet (String A)) (others : BTreeSet (String B)) → IsOrdered string_cmp names → IsOrdered string_cmp others
-    → ((name : List ℕ) → IsTrue (contains_text names name) ↔ IsTrue (contains_text others name)) → lines_of names.keys ≡ lines_of others.keys
-same_lines names others ordered ascend same =
-    lines_are names.keys
-    ∙ ap lines_in (same_texts names others ordered ascend (λ name. both_or_none (contains_text names name) (contains_text others name) (same name)))
-    ∙ sym (lines_are others.keys)
+strings_are : {A : Type 0} (names : List (String A)) → strings_of names ≡ map string (map string_bytes names)
+strings_are [] = refl
+strings_are (name ∷ names) = ap (λ rest. string (string_bytes name) ∷ rest) (strings_are names)
+
+-- what is told is what is told of the texts
+abbrev told_in : Bool → List (List ℕ) → List ℕ
+told_in as_json texts = if as_json then line_of (compact_text (array (items_of (map string texts)))) else lines_in texts
+
+told_are : {A : Type 0} (as_json : Bool) (names : List (String A)) → told_names as_json names ≡ told_in as_json (map string_bytes names)
+told_are true names = ap (λ items. line_of (compact_text (array (items_of items)))) (strings_are names)
+told_are false names = lines_are names
+
+pub same_told : {A B : Type 0} (as_json : Bool) (names : BTreeSet (String A)) (others : BTreeSet (String B)) → IsOrdered string_cmp names
+    → IsOrdered string_cmp others → ((name : List ℕ) → IsTrue (contains_text names name) ↔ IsTrue (contains_text others name))
+    → told_names as_json names.keys ≡ told_names as_json others.keys
+same_told as_json names others ordered ascend same =
+    told_are as_json names.keys
+    ∙ ap (told_in as_json) (same_texts names others ordered ascend (λ name. both_or_none (contains_text names name) (contains_text others name) (same name)))
+    ∙ sym (told_are as_json others.keys)

@@ -1,13 +1,14 @@
 -- That a request has one answer.
-use Rattle.std.specs.Prelude.{◌≡◌, ℕ, ◌+◌, List, Option}
+use Rattle.std.specs.Prelude.{◌≡◌, ℕ, ◌+◌, List, Option, IfSome}
 use Rattle.std.specs.Io.KnownBytes.{Appends}
 use Rattle.template_values_errors.specs.declared.ErrorKind.{ErrorKind}
 use Rattle.template_values_errors.specs.Memory.{NoMemory}
+use Rattle.template_compiler_syntax.specs.Syntax.{IsUsable}
 use Rattle.template_environment_settings.specs.Outcomes.{IsWant}
 use Rattle.template_environment_settings.specs.Plain.{IsRefusedForRoom}
 use Rattle.template_program_run.specs.Answers.{AnswersRequest, AnswersWith}
-use Rattle.template_program_run.specs.Brought.{brought_under}
 use Rattle.template_program_run.specs.Ids.{IsLastId}
+use Rattle.template_program_run.specs.Served.{served_under}
 use Rattle.template_program_parts.specs.Status.{IsStatusOf}
 use Rattle.template_program_parts.specs.declared.outcome.Outcome.{Outcome}
 use Rattle.template_program_parts.specs.declared.outcome.Outcome.TheVariants.{Done, Render, Context, Template}
@@ -24,10 +25,14 @@ pub record Answer : Type 0 where
   pub failed : ℕ
   pub fails : ℕ
 
+-- segments can be told apart in the syntax of the options, if they have one: that is so in each `SyntaxConfig`
+abbrev pub HasUsableSyntax : Options → Type 0
+HasUsableSyntax options = IfSome options.syntax (λ syntax. IsUsable syntax.now)
+
 -- it is one to the request under the options, with these templates and this context
 abbrev pub IsAnswerTo : Options → Request → List (List ℕ × List ℕ) → Option (List ℕ) → Answer → Type 0
 IsAnswerTo options request additions json a =
-    AnswersWith (brought_under options) request additions json a.next a.outcome a.before a.after a.failed a.fails
+    AnswersWith (served_under options) request additions json a.next a.outcome a.before a.after a.failed a.fails
 
 -- the outcome tells a want: of memory, of a sink that works, or of room for a source or its code
 abbrev pub TellsWant : Outcome → Type 0
@@ -57,7 +62,7 @@ pub record AreAlike (a b : Answer) : Type 0 where
 -- Two answers to one request, under the same options, with the same templates and context, and given while the same state id was
 -- next, are alike, where nothing is wanted.
 abbrev pub OneAnswer : Type 0
-OneAnswer = (options : Options) (request : Request) (additions : List (List ℕ × List ℕ)) (json : Option (List ℕ)) (a b : Answer)
+OneAnswer = (options : Options) → HasUsableSyntax options → (request : Request) (additions : List (List ℕ × List ℕ)) (json : Option (List ℕ)) (a b : Answer)
     → IsAnswerTo options request additions json a → IsAnswerTo options request additions json b → a.next ≡ b.next
     → IsUnwanting a → IsUnwanting b → AreAlike a b
 

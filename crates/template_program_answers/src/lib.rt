@@ -8,9 +8,9 @@ ghost use Rattle.template_program_answers.specs.Law.{OneAnswer, SixIsWant};
 use template_builtins::builtins_ask_no_names;
 use template_machine_meaning::isolation;
 
-/// Two answers to one request under the same options, with the same templates and the same context, given while the same state id
-/// was next, as the contract of `run_with` tells them, end with the same outcome, kinds of errors and all, and write the same bytes,
-/// where neither wants anything: memory, a sink that works, room for a source or its code, or a state id.
+/// Two answers to one request under the same options, whatever these are, with the same templates and the same context, given
+/// while the same state id was next, as the contract of `run_with` tells them, end with the same outcome, kinds of errors and all,
+/// and write the same bytes, where neither wants anything: memory, a sink that works, room for a source or its code, or a state id.
 pub fn one_answer()
     ensures { OneAnswer }
 {

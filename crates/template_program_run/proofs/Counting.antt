@@ -1,5 +1,5 @@
 -- The state ids that a request has taken.
-use Rattle.std.proofs.Common.{◌≡◌, ◌∙◌, ap, sym, refl, ℕ, ◌+◌, ◌⊎◌, inl, inr, List, [], ◌∷◌, Option, Result, Err, if◌then◌else◌}
+use Rattle.std.proofs.Common.{◌≡◌, ◌∙◌, ap, sym, refl, ℕ, ◌+◌, ◌⊎◌, inl, inr, Bool, List, [], ◌∷◌, Option, Result, Err, if◌then◌else◌}
 use Rattle.std.proofs.lemmas.Bool.Decides.{eqb_tells}
 use Rattle.template_values_errors.specs.declared.ErrorKind.{ErrorKind}
 use Rattle.template_values_errors.specs.declared.ErrorKind.TheVariants.{InvalidOperation}
@@ -59,13 +59,13 @@ takes_two k e t context id (Template kinds) before after failed fails rendered n
 ]
 
 -- and so does a telling of names
-takes_one : (k : Brought) (e : Registry) (t : Standing) (outcome : Outcome) (before after : Option (List ℕ)) (failed fails : ℕ)
-    → TellsNames k e t outcome before after failed fails
+takes_one : (k : Brought) (as_json : Bool) (e : Registry) (t : Standing) (outcome : Outcome) (before after : Option (List ℕ)) (failed fails : ℕ)
+    → TellsNames k as_json e t outcome before after failed fails
     → (next : ℕ) → behind_request asked.Names outcome next ≡ behind_one next
-takes_one k e t Done before after failed fails told next = refl
-takes_one k e t (Render kinds) before after failed fails told next = refl
-takes_one k e t (Context kinds) before after failed fails told next = absurd told
-takes_one k e t (Template kinds) before after failed fails told next = refl
+takes_one k as_json e t Done before after failed fails told next = refl
+takes_one k as_json e t (Render kinds) before after failed fails told next = refl
+takes_one k as_json e t (Context kinds) before after failed fails told next = absurd told
+takes_one k as_json e t (Template kinds) before after failed fails told next = refl
 
 pub rendered_counts : (k : Brought) (e : Registry) (t : Standing) (context : Val) (id : ℕ) (outcome : Outcome) (before after : Option (List ℕ)) (failed fails : ℕ)
     → Rendered k e t context id outcome before after failed fails
@@ -75,10 +75,10 @@ rendered_counts k e t context id outcome before after failed fails rendered comm
     second ∙ ap behind_one first ∙ sym (takes_two k e t context id outcome before after failed fails rendered next)
     ∙ ap (λ (c : Command). behind_request c outcome next) (sym is)
 
-pub told_counts : (k : Brought) (e : Registry) (t : Standing) (outcome : Outcome) (before after : Option (List ℕ)) (failed fails : ℕ)
-    → TellsNames k e t outcome before after failed fails
+pub told_counts : (k : Brought) (as_json : Bool) (e : Registry) (t : Standing) (outcome : Outcome) (before after : Option (List ℕ)) (failed fails : ℕ)
+    → TellsNames k as_json e t outcome before after failed fails
     → (command : Command) → command ≡ asked.Names → (next end : ℕ) → end ≡ behind_one next
     → end ≡ behind_request command outcome next
-told_counts k e t outcome before after failed fails told command is next end first =
-    first ∙ sym (takes_one k e t outcome before after failed fails told next)
+told_counts k as_json e t outcome before after failed fails told command is next end first =
+    first ∙ sym (takes_one k as_json e t outcome before after failed fails told next)
     ∙ ap (λ (c : Command). behind_request c outcome next) (sym is)

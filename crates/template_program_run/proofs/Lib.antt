@@ -7,3 +7,4 @@ pub mod Naming
 pub mod Counting
 pub mod Flushing
 pub mod Refusing
+pub mod Listing

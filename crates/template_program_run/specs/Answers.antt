@@ -1,5 +1,5 @@
--- How a request is answered, in an environment to which this is brought.
-use Rattle.std.specs.Prelude.{◌≡◌, ℕ, ◌+◌, ◌⊎◌, ◌↔◌, List, [], ◌∷◌, Option, None, Some, Result, Ok, Err, IsTrue, String, string_bytes}
+-- How a request is answered, which is served with this.
+use Rattle.std.specs.Prelude.{◌≡◌, ℕ, ◌+◌, ◌⊎◌, ◌↔◌, Bool, List, [], ◌∷◌, Option, None, Some, Result, Ok, Err, IsTrue, String, string_bytes}
 use Rattle.std.specs.BTreeSet.{BTreeSet, contains_text, IsOrdered}
 use Rattle.std.specs.String.{string_cmp}
 use Rattle.std.specs.declared.alloc.Global.{Global}
@@ -10,9 +10,9 @@ use Rattle.template_values_errors.specs.Memory.{NoMemory}
 use Rattle.template_values_model.specs.Val.{Val}
 use Rattle.template_process.specs.Approximants.{IsFinished}
 use Rattle.template_process.specs.Fuel.{IsSameRun, under}
-use Rattle.template_machine_surroundings.specs.Rule.{IsRuleOf}
+use Rattle.template_machine_surroundings.specs.Rule.{IsEscapeOf}
 use Rattle.template_machine_output.specs.Writes.{AppendsBeginning}
-use Rattle.template_environment_settings.specs.Extras.{Brought, nothing_brought}
+use Rattle.template_environment_settings.specs.Extras.{Brought}
 use Rattle.template_environment_settings.specs.Outcomes.{IsWant, TellsFailures}
 use Rattle.template_environment_settings.specs.Meaning.{Standing, rendered}
 use Rattle.template_environment_settings.specs.Isolation.{IsContextName}
@@ -25,9 +25,10 @@ use Rattle.template_program_parts.specs.Asked.{HasContext, IsRefusedContext}
 use Rattle.template_program_parts.specs.Context.{IsContextOf, text_pairs}
 use Rattle.template_program_run.specs.Additions.{AllAreAccepted, IsRefusedAddition}
 use Rattle.template_program_run.specs.Environments.{IsMade}
-use Rattle.template_program_run.specs.History.{source_for, standing}
+use Rattle.template_program_run.specs.History.{source_under, standing}
 use Rattle.template_program_run.specs.Ids.{IsLastId}
-use Rattle.template_program_run.specs.Lines.{lines_of}
+use Rattle.template_program_run.specs.Lines.{told_names}
+use Rattle.template_program_run.specs.Served.{Served, plainly_served}
 use Rattle.template_program_parts.specs.declared.outcome.Outcome.{Outcome}
 use Rattle.template_program_parts.specs.declared.outcome.Outcome.TheVariants.{Done, Render, Context, Template}
 use Rattle.template_program_parts.specs.declared.command.Command.{Command}
@@ -48,11 +49,11 @@ IsOutcomeOf Done (Ok _) = Unit {0}
 IsOutcomeOf (Render kinds) (Err others) = kinds ≡ others
 IsOutcomeOf _ _ = ⊥
 
--- a template that stands has the name, and is the tree of the text, with the escape of the name
-pub record IsTemplateOf (name text : List ℕ) (t : Standing) : Type 0 where
+-- a template that stands has the name, and is the tree of the text, with the escape that the rule gives the name
+pub record IsTemplateOf (served : Served) (name text : List ℕ) (t : Standing) : Type 0 where
   pub named : t.name ≡ name
-  pub tree : t.tree ≡ tree_in (source_for text)
-  pub rule : IsRuleOf name t.escape
+  pub tree : t.tree ≡ tree_in (source_under served text)
+  pub rule : IsEscapeOf served.escapes name t.escape
 
 -- Its render, in the state of a number, ends: it is finished under some bound. Under each bound where it is, it decides,
 -- with the fuel, the text and the end.
@@ -78,53 +79,54 @@ HasNames brought e t names = IsOrdered string_cmp names
     × ((c d : Val) → AgreeAmong names c d → (id n : ℕ) (fuel : Option ℕ)
     → IsSameRun (under fuel (rendered (setting_of brought e) id n t c)) (under fuel (rendered (setting_of brought e) id n t d)))
 
--- The names that can matter are written in their order, one a line; or a beginning of that, for want of
--- memory or of a sink that works. Where they cannot be found for want of memory, nothing is written.
-abbrev pub TellsNames : Brought → Registry → Standing → Outcome → Option (List ℕ) → Option (List ℕ) → ℕ → ℕ → Type 0
-TellsNames brought e t Done before after failed fails =
-    (names : BTreeSet (String Global)) × HasNames brought e t names × Appends before after (lines_of names.keys) × (fails ≡ failed)
-TellsNames brought e t (Render kinds) before after failed fails =
+-- The names that can matter are written in their order, as JSON or one a line; or a beginning of that, for want of memory or of
+-- a sink that works. Where they cannot be found for want of memory, nothing is written.
+abbrev pub TellsNames : Brought → Bool → Registry → Standing → Outcome → Option (List ℕ) → Option (List ℕ) → ℕ → ℕ → Type 0
+TellsNames brought as_json e t Done before after failed fails =
+    (names : BTreeSet (String Global)) × HasNames brought e t names × Appends before after (told_names as_json names.keys)
+    × (fails ≡ failed)
+TellsNames brought as_json e t (Render kinds) before after failed fails =
     (names : BTreeSet (String Global)) × HasNames brought e t names × IsWant kinds
-    × AppendsBeginning before after (lines_of names.keys)
+    × AppendsBeginning before after (told_names as_json names.keys)
     × ((result : Result (Unit {0}) (List ErrorKind)) × (result ≡ Err kinds) × TellsFailures result failed fails)
-TellsNames brought e t (Template kinds) before after failed fails =
+TellsNames brought as_json e t (Template kinds) before after failed fails =
     NoMemory kinds × IsUntouched before after failed fails
-TellsNames brought e t _ before after failed fails = ⊥
+TellsNames brought as_json e t _ before after failed fails = ⊥
 
 -- what is done with the main template
-abbrev pub Does : Brought → Command → Registry → Standing → Request → Option (List ℕ) → ℕ → Outcome
+abbrev pub Does : Served → Command → Registry → Standing → Request → Option (List ℕ) → ℕ → Outcome
     → Option (List ℕ) → Option (List ℕ) → ℕ → ℕ → Type 0
-Does brought asked.Render e t request json next outcome before after failed fails =
+Does served asked.Render e t request json next outcome before after failed fails =
     (context : Val) × IsContextOf json (definitions_of request) context
-    × Rendered brought e t context (next + 1) outcome before after failed fails
-Does brought asked.Names e t request json next outcome before after failed fails =
-    TellsNames brought e t outcome before after failed fails
+    × Rendered served.brought e t context (next + 1) outcome before after failed fails
+Does served asked.Names e t request json next outcome before after failed fails =
+    TellsNames served.brought served.names_as_json e t outcome before after failed fails
 
 -- The main template stands, in an environment of the request that took the next id, and that is done with it.
-abbrev pub Performed : Brought → Command → Request → List (List ℕ × List ℕ) → Option (List ℕ) → ℕ → Outcome
+abbrev pub Performed : Served → Command → Request → List (List ℕ × List ℕ) → Option (List ℕ) → ℕ → Outcome
     → Option (List ℕ) → Option (List ℕ) → ℕ → ℕ → Type 0
-Performed brought command request additions json next outcome before after failed fails =
-    (e : Registry) × IsMade request additions next e
+Performed served command request additions json next outcome before after failed fails =
+    (e : Registry) × IsMade served request additions next e
     × ((text : List ℕ) × (standing additions (string_bytes request.main) ≡ Some text)
-    × ((t : Standing) × IsTemplateOf (string_bytes request.main) text t
-    × Does brought command e t request json next outcome before after failed fails))
+    × ((t : Standing) × IsTemplateOf served (string_bytes request.main) text t
+    × Does served command e t request json next outcome before after failed fails))
 
 -- The context of a render is refused; or else the additions are, or the main template does not stand; or else
 -- what is asked is done. With no state id left, or no memory for the environment, the additions are refused.
-abbrev pub AnswersWith : Brought → Request → List (List ℕ × List ℕ) → Option (List ℕ) → ℕ → Outcome
+abbrev pub AnswersWith : Served → Request → List (List ℕ × List ℕ) → Option (List ℕ) → ℕ → Outcome
     → Option (List ℕ) → Option (List ℕ) → ℕ → ℕ → Type 0
-AnswersWith brought request additions json next outcome before after failed fails =
+AnswersWith served request additions json next outcome before after failed fails =
     ((kinds : List ErrorKind) × (outcome ≡ Context kinds) × IsRefusedContext request.command json kinds
     × IsUntouched before after failed fails)
     ⊎ (((context : Val) × HasContext request.command json (definitions_of request) context)
-    × (((kinds : List ErrorKind) × (outcome ≡ Template kinds) × IsRefusedAddition additions next kinds
+    × (((kinds : List ErrorKind) × (outcome ≡ Template kinds) × IsRefusedAddition served additions next kinds
     × IsUntouched before after failed fails)
-    ⊎ (¬ IsLastId next × AllAreAccepted additions
+    ⊎ (¬ IsLastId next × AllAreAccepted served additions
     × (((outcome ≡ Template (TemplateNotFound ∷ [])) × (standing additions (string_bytes request.main) ≡ None)
     × IsUntouched before after failed fails)
-    ⊎ Performed brought request.command request additions json next outcome before after failed fails))))
+    ⊎ Performed served request.command request additions json next outcome before after failed fails))))
 
--- the same where nothing is brought
+-- the same where it is served with nothing beside its templates and its context
 abbrev pub AnswersRequest : Request → List (List ℕ × List ℕ) → Option (List ℕ) → ℕ → Outcome
     → Option (List ℕ) → Option (List ℕ) → ℕ → ℕ → Type 0
-AnswersRequest = AnswersWith nothing_brought
+AnswersRequest = AnswersWith plainly_served

@@ -2,9 +2,8 @@
 use Rattle.std.specs.Prelude.{ℕ, List, [], ◌∷◌, Option, None, Some, if◌then◌else◌}
 use Rattle.std.specs.Option.{option_map}
 use Rattle.std.specs.Str.{bytes_eq}
-use Rattle.template_compiler_syntax.specs.Syntax.{default_syntax}
-use Rattle.template_machine_surroundings.specs.declared.escape.EscapeRule.TheVariants.{ByName}
 use Rattle.template_environment_settings.specs.Sources.{Source}
+use Rattle.template_program_run.specs.Served.{Served, plainly_served}
 
 -- the one given last under the name
 abbrev pub text_under : List ℕ → Option (List ℕ) → List (List ℕ × List ℕ) → Option (List ℕ)
@@ -14,9 +13,13 @@ text_under name before (addition ∷ later) = text_under name (if bytes_eq addit
 abbrev pub standing : List (List ℕ × List ℕ) → List ℕ → Option (List ℕ)
 standing additions name = text_under name None additions
 
--- a text, under the syntax of the program, with escapes by name
-abbrev pub source_for : List ℕ → Source
-source_for text = record { text = text; syntax = default_syntax; escapes = ByName }
+-- a text, under the syntax and the rule of escapes that its request is served with
+abbrev pub source_under : Served → List ℕ → Source
+source_under served text = record { text = text; syntax = served.syntax; escapes = served.escapes }
 
-abbrev pub source_standing : List (List ℕ × List ℕ) → List ℕ → Option Source
-source_standing additions name = option_map source_for (standing additions name)
+-- a text, under the default syntax, with escapes by name
+abbrev pub source_for : List ℕ → Source
+source_for text = source_under plainly_served text
+
+abbrev pub source_standing : Served → List (List ℕ × List ℕ) → List ℕ → Option Source
+source_standing served additions name = option_map (source_under served) (standing additions name)

@@ -1,8 +1,9 @@
 pub mod Ids
+pub mod Brought
+pub mod Served
 pub mod History
 pub mod Additions
 pub mod Environments
-pub mod Brought
 pub mod Lines
 pub mod Answers
 pub mod Plain

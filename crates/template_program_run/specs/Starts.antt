@@ -17,11 +17,11 @@ use Rattle.template_program_words.specs.declared.faults.WordsFault.TheVariants.{
 use Rattle.template_program_words.specs.declared.words.Words.{Words}
 use Rattle.template_program_words.specs.declared.words.Words.TheVariants as asks
 use Rattle.template_program_run.specs.Answers.{AnswersWith, definitions_of}
-use Rattle.template_program_run.specs.Brought.{brought_under}
+use Rattle.template_program_run.specs.Brought.{brought_if}
+use Rattle.template_program_run.specs.Served.{Served, plainly_served}
 use Rattle.template_program_parts.specs.declared.outcome.Outcome.{Outcome}
 use Rattle.template_program_parts.specs.declared.outcome.Outcome.TheVariants.{Done, Render, Context, Template}
 use Rattle.template_program_parts.specs.declared.command.Command.TheVariants as asked
-use Rattle.template_program_run.specs.declared.options.Options.{Options}
 use Rattle.template_program_run.specs.declared.request.Request.{Request}
 use Rattle.template_program_parts.specs.Flushes.{flushed}
 use Rattle.template_program_parts.specs.Reading.{LacksFile, LacksText}
@@ -64,14 +64,17 @@ abbrev pub HasLimits : Request → Option ℕ → ℕ → UndefinedBehavior → 
 HasLimits request fuel limit undefined =
     (request.fuel ≡ fuel) × (request.limit ≡ limit) × (request.undefined ≡ undefined)
 
--- The request and the options are what the words ask for. Names are told in an environment set as one begins.
-abbrev pub IsAsked : Words → Request → Options → List (List ℕ × List ℕ) → Type 0
-IsAsked (asks.Render read) request options additions = (request.command ≡ asked.Render) × (options.builtins ≡ read.builtins)
-    × HasLimits request read.fuel read.limit read.undefined
+-- what requests are served with, as the words ask: with the builtins, or with nothing
+abbrev pub served_by : Words → Served
+served_by (asks.Render read) = record plainly_served { brought = brought_if read.builtins }
+served_by (asks.Names read) = record plainly_served { brought = brought_if read.builtins }
+
+-- The request is what the words ask for. Names are told in an environment set as one begins.
+abbrev pub IsAsked : Words → Request → List (List ℕ × List ℕ) → Type 0
+IsAsked (asks.Render read) request additions = (request.command ≡ asked.Render) × HasLimits request read.fuel read.limit read.undefined
     × (definitions_of request ≡ map parts_of read.definitions.items)
     × IsNamed (option_map (λ name. name.now) read.main) (map (λ path. path.now) read.files.items) request additions
-IsAsked (asks.Names read) request options additions = (request.command ≡ asked.Names) × (options.builtins ≡ read.builtins)
-    × HasLimits request None default_limit Lenient
+IsAsked (asks.Names read) request additions = (request.command ≡ asked.Names) × HasLimits request None default_limit Lenient
     × IsNamed (option_map (λ name. name.now) read.main) (map (λ path. path.now) read.files.items) request additions
 
 -- a template holds what stands under its name, where that is told
@@ -141,7 +144,7 @@ HasFailed answers fails = IfSome answers (λ told. fails ≡ failures_among told
 -- The request is run over an output, and what it wrote is flushed. Where that goes well the output holds all of it, and
 -- its last answer was to a flush. Else it holds a beginning, the rest was not written, and the output failed, if not for
 -- want of memory.
-pub record RunsFlushed (request : Request) (options : Options) (additions : List (List ℕ × List ℕ)) (json : Option (List ℕ))
+pub record RunsFlushed (request : Request) (served : Served) (additions : List (List ℕ × List ℕ)) (json : Option (List ℕ))
     (before after : Shown) (outcome : Outcome) : Type 0 where
   pub ran : Outcome
   pub flush : Result (Unit {0}) Error
@@ -150,7 +153,7 @@ pub record RunsFlushed (request : Request) (options : Options) (additions : List
   pub answers : Option (List Answer)
   pub failed : ℕ
   pub fails : ℕ
-  pub runs : AnswersWith (brought_under options) request additions json 0 ran before.bytes written failed fails
+  pub runs : AnswersWith served request additions json 0 ran before.bytes written failed fails
   pub becomes : outcome ≡ flushed flush ran
   pub holds : Keeps written (append_known after.bytes rest)
   pub all : OnOk flush (rest ≡ [])
@@ -172,10 +175,10 @@ TellsOutcome (Template kinds) before after = Puts before after (error_line kinds
 
 -- The status is that of the outcome, and its fault is told. Where there is no memory for the output's buffer, nothing is
 -- written, and that is told.
-abbrev pub PerformsRequest : Request → Options → List (List ℕ × List ℕ) → Option (List ℕ) → Shown → Shown → Shown → Shown → ℕ → Type 0
-PerformsRequest request options additions json out out_after fault fault_after result =
+abbrev pub PerformsRequest : Request → Served → List (List ℕ × List ℕ) → Option (List ℕ) → Shown → Shown → Shown → Shown → ℕ → Type 0
+PerformsRequest request served additions json out out_after fault fault_after result =
     ((result ≡ 6) × (out_after ≡ out) × Puts fault fault_after memory_line)
-    ⊎ ((outcome : Outcome) × RunsFlushed request options additions json out out_after outcome × IsStatusOf outcome result
+    ⊎ ((outcome : Outcome) × RunsFlushed request served additions json out out_after outcome × IsStatusOf outcome result
     × TellsOutcome outcome fault fault_after)
 
 -- what is written to the output, and told, of words that are refused
@@ -208,6 +211,6 @@ Starts kinds found content may_fail input out out_after fault fault_after result
     ⊎ ((words : Words) × ReadsWords found words × (kinds ≡ []) × (((refused : FileFault)
     × RefusesInputs content may_fail input words refused × (result ≡ file_status refused)
     × (out_after ≡ out) × Puts fault fault_after (file_line refused))
-    ⊎ ((request : Request) × (options : Options) × (additions : List (List ℕ × List ℕ)) × (json : Option (List ℕ))
-    × IsAsked words request options additions × AreRead content input words additions json
-    × PerformsRequest request options additions json out out_after fault fault_after result)))
+    ⊎ ((request : Request) × (additions : List (List ℕ × List ℕ)) × (json : Option (List ℕ))
+    × IsAsked words request additions × AreRead content input words additions json
+    × PerformsRequest request (served_by words) additions json out out_after fault fault_after result)))

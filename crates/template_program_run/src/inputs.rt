@@ -4,7 +4,7 @@ ghost use Rattle.template_program_parts.specs.Context.{text_pairs};
 ghost use Rattle.template_program_words.specs.Reading.{parts_of};
 ghost use Rattle.template_program_run.specs.Starts.{AreRead, AreTemplates, IsAsked, IsContextFile, IsInput, IsReadFrom, LacksContext, LacksFiles, LacksInput, LacksOne, LacksTemplate, first_name, addition_names, template_names};
 
-use crate::{Command, Options, Request};
+use crate::{Command, Request};
 use std::alloc::Global;
 use template_program_parts::{
     FileFault, FileSystem, ReadWrapper, Reader, read_file, read_text, read_text_file,
@@ -22,7 +22,6 @@ const DEFAULT_LIMIT: usize = 500;
 #[derive(Drop)]
 pub(crate) struct Inputs {
     pub(crate) request: Request,
-    pub(crate) options: Options,
     pub(crate) templates: Vec<(String, String)>,
     pub(crate) context: Option<Vec<u8>>,
 }
@@ -33,7 +32,7 @@ pub(crate) fn read_inputs<R: FileSystem + AllocGlobal, I: Reader>(
     words: &Words<'_>,
     input: &mut I,
 ) -> Result<Inputs, FileFault>
-    ensures asked { IfOk result (λ inputs. IsAsked words.now inputs.request inputs.options (text_pairs inputs.templates.items)) }
+    ensures asked { IfOk result (λ inputs. IsAsked words.now inputs.request (text_pairs inputs.templates.items)) }
     ensures read { IfOk result (λ inputs. AreRead (R.content rt.now) (I.remaining input.old) words.now
         (text_pairs inputs.templates.items) (option_map (λ bytes. bytes.items) inputs.context)) }
     ensures refused { IsErrOf result FileFault.File → LacksOne (R.content rt.now) (I.may_fail input.old) (I.remaining input.old) words.now }
@@ -49,7 +48,7 @@ fn read_render<R: FileSystem + AllocGlobal, I: Reader>(
     words: &RenderWords<'_>,
     input: &mut I,
 ) -> Result<Inputs, FileFault>
-    ensures asked { IfOk result (λ inputs. IsAsked (Words.Render words.now) inputs.request inputs.options
+    ensures asked { IfOk result (λ inputs. IsAsked (Words.Render words.now) inputs.request
         (text_pairs inputs.templates.items)) }
     ensures read { IfOk result (λ inputs. AreRead (R.content rt.now) (I.remaining input.old) (Words.Render words.now)
         (text_pairs inputs.templates.items) (option_map (λ bytes. bytes.items) inputs.context)) }
@@ -67,9 +66,6 @@ fn read_render<R: FileSystem + AllocGlobal, I: Reader>(
     };
     Ok(Inputs {
         request,
-        options: Options {
-            builtins: words.builtins,
-        },
         templates,
         context,
     })
@@ -80,7 +76,7 @@ fn read_names<R: FileSystem + AllocGlobal, I: Reader>(
     words: &NamesWords<'_>,
     input: &mut I,
 ) -> Result<Inputs, FileFault>
-    ensures asked { IfOk result (λ inputs. IsAsked (Words.Names words.now) inputs.request inputs.options
+    ensures asked { IfOk result (λ inputs. IsAsked (Words.Names words.now) inputs.request
         (text_pairs inputs.templates.items)) }
     ensures read { IfOk result (λ inputs. AreRead (R.content rt.now) (I.remaining input.old) (Words.Names words.now)
         (text_pairs inputs.templates.items) (option_map (λ bytes. bytes.items) inputs.context)) }
@@ -97,9 +93,6 @@ fn read_names<R: FileSystem + AllocGlobal, I: Reader>(
     };
     Ok(Inputs {
         request,
-        options: Options {
-            builtins: words.builtins,
-        },
         templates,
         context: None,
     })

@@ -3,12 +3,14 @@
 #![tactic(auto)]
 
 mod additions;
+mod extension;
 mod inputs;
 mod names;
 mod options;
 mod performing;
 mod request;
 mod running;
+mod serving;
 mod starting;
 mod telling;
 

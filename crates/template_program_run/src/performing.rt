@@ -1,10 +1,12 @@
 //! The run of a request over a buffered output.
 ghost use Rattle.std.specs.Prelude.{◌≡◌, [], option_copied, option_map};
 ghost use Rattle.template_program_parts.specs.Context.{text_pairs};
+ghost use Rattle.template_program_run.specs.Served.{served_under};
 ghost use Rattle.template_program_run.specs.Starts.{PerformsRequest, RunsFlushed, TellsOutcome};
 
 use crate::inputs::Inputs;
-use crate::run_with;
+use crate::options::Options;
+use crate::running::run_with;
 use crate::telling::{tell_error, tell_memory};
 use std::alloc::Global;
 use template_machine_surroundings::StateIds;
@@ -17,11 +19,12 @@ const BUFFER: usize = 8192;
 /// Runs the request over a buffer, which is flushed after a fault too, and tells a fault on one line.
 pub(crate) fn perform<O: Output, F: Output>(
     alloc: Global,
+    options: Options<'_>,
     inputs: &Inputs,
     out: O,
     fault: &mut F,
 ) -> (u8, O)
-    ensures { PerformsRequest inputs.now.request inputs.now.options (text_pairs inputs.now.templates.items)
+    ensures { PerformsRequest inputs.now.request (served_under options.entry) (text_pairs inputs.now.templates.items)
         (option_map (λ bytes. bytes.items) inputs.now.context) (O.shown out) (O.shown result.1)
         (F.shown fault.old) (F.shown fault.new) result.0 }
 {
@@ -29,15 +32,21 @@ pub(crate) fn perform<O: Output, F: Output>(
         tell_memory(fault);
         return (MEMORY, out);
     };
-    let (outcome, out) = run_flushed(alloc, inputs, out, buffer);
+    let (outcome, out) = run_flushed(alloc, options, inputs, out, buffer);
     tell_outcome(&outcome, fault);
     (status_of(&outcome), out)
 }
 
 // Runs the request over an empty buffer, and flushes what it has written.
-fn run_flushed<O: Output>(alloc: Global, inputs: &Inputs, out: O, buffer: Vec<u8>) -> (Outcome, O)
+fn run_flushed<O: Output>(
+    alloc: Global,
+    options: Options<'_>,
+    inputs: &Inputs,
+    out: O,
+    buffer: Vec<u8>,
+) -> (Outcome, O)
     requires { buffer.items ≡ [] }
-    ensures { RunsFlushed inputs.now.request inputs.now.options (text_pairs inputs.now.templates.items)
+    ensures { RunsFlushed inputs.now.request (served_under options.entry) (text_pairs inputs.now.templates.items)
         (option_map (λ bytes. bytes.items) inputs.now.context) (O.shown out) (O.shown result.1) result.0 }
 {
     let mut ids = StateIds::new(0);
@@ -45,7 +54,7 @@ fn run_flushed<O: Output>(alloc: Global, inputs: &Inputs, out: O, buffer: Vec<u8
     let outcome = run_with(
         alloc,
         &inputs.request,
-        inputs.options,
+        options,
         inputs.templates.as_slice(),
         context_bytes(&inputs.context),
         &mut ids,

@@ -9,17 +9,19 @@ ghost use Rattle.template_environment_settings.specs.Reading.{brought_of, callab
 ghost use Rattle.template_environment_settings.specs.Views.{compiled_in, environment_of as place_of, name_of, source_of};
 ghost use Rattle.template_program_parts.specs.Asked.{HasContext, IsRefusedContext};
 ghost use Rattle.template_program_run.specs.Answers.{AnswersRequest, AnswersWith, Rendered, TellsNames, definitions_of};
-ghost use Rattle.template_program_run.specs.Brought.{brought_under, program_answers};
-ghost use Rattle.template_program_run.specs.History.{source_for, standing};
+ghost use Rattle.template_program_run.specs.Brought.{program_answers};
+ghost use Rattle.template_program_run.specs.History.{source_for, source_under, standing};
 ghost use Rattle.template_program_run.specs.Ids.{behind_one, behind_request};
 ghost use Rattle.template_program_run.specs.Plain.{WritesOnDone, WritesOnRender};
+ghost use Rattle.template_program_run.specs.Served.{served_under};
 
 use crate::additions::environment_of;
-use crate::names::write_lines;
+use crate::extension::Program;
+use crate::names::write_names;
 use crate::options::Options;
 use crate::request::Request;
 use std::alloc::Global;
-use template_builtins::{Builtins, builtins_ask_no_names};
+use template_builtins::builtins_ask_no_names;
 use template_environment_settings::{Environment, Template, every_render_ends};
 use template_machine_output::Sink;
 use template_machine_surroundings::StateIds;
@@ -68,7 +70,7 @@ pub fn run<S: Sink>(
     )
 }
 
-/// The same with options, which say what else stands in the environment.
+/// The same with options, which say what else stands in the environment, how templates are read, and how names are written.
 ///
 /// # Errors
 ///
@@ -76,20 +78,20 @@ pub fn run<S: Sink>(
 pub fn run_with<S: Sink>(
     alloc: Global,
     request: &Request,
-    options: Options,
+    options: Options<'_>,
     templates: &[(String, String)],
     context: Option<&[u8]>,
     ids: &mut StateIds,
     sink: &mut S,
 ) -> Outcome
-    ensures answers { AnswersWith (brought_under options) request.now (text_pairs templates.now) (option_copied context.entry) ids.old
-        result (S.taken sink.old) (S.taken sink.new) (S.failures sink.old) (S.failures sink.new) }
+    ensures answers { AnswersWith (served_under options.entry) request.now (text_pairs templates.now) (option_copied context.entry)
+        ids.old result (S.taken sink.old) (S.taken sink.new) (S.failures sink.old) (S.failures sink.new) }
     ensures counted { ids.new ≡ behind_request request.now.command result ids.old }
 
     // A main template in which no marker starts renders to its text, without the newline at its end.
     ensures plain { (text : List ℕ) → standing (text_pairs templates.now) (string_bytes request.now.main) ≡ Some text
-        → IsPlain (source_for text) →
-        WritesOnRender request.now.command (S.taken sink.old) (S.taken sink.new) (text_kept (source_for text)) result }
+        → IsPlain (source_under (served_under options.entry) text) → WritesOnRender request.now.command (S.taken sink.old) (S.taken sink.new)
+        (text_kept (source_under (served_under options.entry) text)) result }
 {
     let context = match context_of(alloc, request, context) {
         Ok(context) => context,
@@ -106,7 +108,7 @@ pub fn run_with<S: Sink>(
     builtins_ask_no_names();
     match request.command {
         Command::Render => render(&template, context, ids, sink),
-        Command::Names => tell_names(&environment, &template, sink),
+        Command::Names => tell_names(alloc, options.names_as_json, &environment, &template, sink),
     }
 }
 
@@ -120,7 +122,7 @@ fn context_of(alloc: Global, request: &Request, context: Option<&[u8]>) -> Resul
 
 // Renders the main template.
 fn render<S: Sink>(
-    template: &Template<'_, '_, Builtins>,
+    template: &Template<'_, '_, Program>,
     context: Value,
     ids: &mut StateIds,
     sink: &mut S,
@@ -143,12 +145,14 @@ fn render<S: Sink>(
 
 // Writes the names of a context that can matter to the main template.
 fn tell_names<'source, S: Sink>(
-    environment: &Environment<'source, Builtins>,
-    template: &Template<'_, 'source, Builtins>,
+    alloc: Global,
+    as_json: bool,
+    environment: &Environment<'source, Program>,
+    template: &Template<'_, 'source, Program>,
     sink: &mut S,
 ) -> Outcome
     requires { AskNoNames (callables_of program_answers environment.now) }
-    ensures told { TellsNames (brought_of program_answers environment.now) (registry_of environment.now)
+    ensures told { TellsNames (brought_of program_answers environment.now) as_json (registry_of environment.now)
         (standing_of (compiled_in template.now.compiled)) result
         (S.taken sink.old) (S.taken sink.new) (S.failures sink.old) (S.failures sink.new) }
     ensures rule { IsEscapeOf (source_of template.now).escapes (name_of template.now) (compiled_in template.now.compiled).escape }
@@ -158,7 +162,7 @@ fn tell_names<'source, S: Sink>(
         Ok(names) => names,
         Err(error) => return Outcome::Template(error),
     };
-    match write_lines(&names, sink) {
+    match write_names(alloc, &names, as_json, sink) {
         Ok(()) => Outcome::Done,
         Err(error) => Outcome::Render(error),
     }

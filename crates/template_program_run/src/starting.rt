@@ -9,6 +9,7 @@ ghost use Rattle.template_program_run.specs.Status.{arguments_status, file_statu
 
 use crate::inputs::read_inputs;
 use crate::performing::perform;
+use crate::serving::options_of;
 use crate::telling::{tell_memory, tell_text, tell_word};
 use std::io;
 use template_program_output::{Output, write_flushed};
@@ -40,7 +41,7 @@ pub fn start<R: FileSystem + AllocGlobal, I: Reader, O: Output, F: Output>(
 {
     match read_words(rt.alloc(), words) {
         Ok(words) => match read_inputs(rt, &words, input) {
-            Ok(inputs) => perform(rt.alloc(), &inputs, out, fault),
+            Ok(inputs) => perform(rt.alloc(), options_of(&words), &inputs, out, fault),
             Err(refused) => (refuse_file(refused, fault), out),
         },
         Err(refused) => refuse_words(&refused, out, fault),

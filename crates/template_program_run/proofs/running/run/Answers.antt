@@ -1,12 +1,25 @@
-use Rattle.std.proofs.Common.{subst, option_copied}
-use Rattle.template_environment_settings.specs.Extras.{Brought}
+use Rattle.std.proofs.Common.{◌≡◌, ℕ, List, Some, option_copied, string_bytes, subst}
+use Rattle.template_environment_settings.specs.Plain.{IsPlain, text_kept}
 use Rattle.template_program_parts.specs.Context.{text_pairs}
 use Rattle.template_program_run.specs.Answers.{AnswersWith}
-use Rattle.template_program_run.proofs.Bringing.{none_brought}
+use Rattle.template_program_run.specs.History.{source_under, standing}
+use Rattle.template_program_run.specs.Plain.{WritesOnRender}
+use Rattle.template_program_run.specs.Served.{Served}
+use Rattle.template_program_run.proofs.Bringing.{none_served}
 use Rattle.template_program_run.proofs.running.run.Goals as goal
 
 pub returns-clause-answers : goal.returns-clause-answers
 returns-clause-answers g c =
-    subst (λ (k : Brought). AnswersWith k c.args.request.now (text_pairs c.args.templates.now) (option_copied c.args.context) c.args.ids.now
+    let plain = none_served c.new.result c.new.ensures.builtins c.new.ensures.escapes c.new.ensures.syntax c.new.ensures.names in
+    subst (λ (served : Served). AnswersWith served c.args.request.now (text_pairs c.args.templates.now) (option_copied c.args.context) c.args.ids.now
     c.run_with.result (g.S.Sink.taken c.args.sink.now) (g.S.Sink.taken c.run_with.new.sink) (g.S.Sink.failures c.args.sink.now)
-    (g.S.Sink.failures c.run_with.new.sink)) (none_brought c.new.result c.new.ensures.builtins) c.run_with.ensures.answers
+    (g.S.Sink.failures c.run_with.new.sink)) plain c.run_with.ensures.answers
+
+pub returns-clause-plain : goal.returns-clause-plain
+returns-clause-plain g c =
+    let plain = none_served c.new.result c.new.ensures.builtins c.new.ensures.escapes c.new.ensures.syntax c.new.ensures.names in
+    let writes : Served → Type 0 = λ served. (text : List ℕ)
+    → standing (text_pairs c.args.templates.now) (string_bytes c.args.request.now.main) ≡ Some text → IsPlain (source_under served text)
+    → WritesOnRender c.args.request.now.command (g.S.Sink.taken c.args.sink.now) (g.S.Sink.taken c.run_with.new.sink)
+    (text_kept (source_under served text)) c.run_with.result in
+    subst writes plain c.run_with.ensures.plain

@@ -8,11 +8,11 @@ use Rattle.template_program_run.specs.Brought.{program_answers}
 use Rattle.template_program_run.proofs.Naming.{has_names}
 use Rattle.template_program_run.proofs.running.tell_names.Goals as goal
 
-pub returns-in-Ok-write_lines-clause-told : goal.returns-in-Ok-write_lines-clause-told
-returns-in-Ok-write_lines-clause-told g c =
+pub returns-in-Ok-write_names-clause-told : goal.returns-in-Ok-write_names-clause-told
+returns-in-Ok-write_names-clause-told g c =
     let ordered : IsOrdered string_cmp c.in-Ok.names = search rules in
     let k = brought_of program_answers c.args.environment.now in
-    let told = c.in-Ok-write_lines.ensures in (
+    let told = c.in-Ok-write_names.ensures in (
       c.in-Ok.names,
       has_names k (registry_of c.args.environment.now) (standing_of (compiled_in c.args.template.now.compiled)) c.in-Ok.names ordered
           (c.in-Ok.ensures.listed, c.in-Ok.ensures.isolated c.requires),
@@ -24,11 +24,11 @@ pub returns-clause-told : goal.returns-clause-told
 returns-clause-told g c =
     let ordered : IsOrdered string_cmp c.in-Ok.names = search rules in
     let k = brought_of program_answers c.args.environment.now in
-    let told = c.in-Err-write_lines.ensures in (
+    let told = c.in-Err-write_names.ensures in (
       c.in-Ok.names,
       has_names k (registry_of c.args.environment.now) (standing_of (compiled_in c.args.template.now.compiled)) c.in-Ok.names ordered
           (c.in-Ok.ensures.listed, c.in-Ok.ensures.isolated c.requires),
       told.want,
       told.beginning,
-      (Err c.in-Err-write_lines.error, refl, told.failures),
+      (Err c.in-Err-write_names.error, refl, told.failures),
     )
