@@ -1,4 +1,4 @@
--- The command line, in the words in which `clap` describes one: `names [--builtins] [--main NAME] [-o FILE] [SYNTAX] [FILE...]`
+-- The command line, in the words in which `clap` describes one: `names [--builtins] [--main NAME] [-o FILE] [--json] [SYNTAX] [FILE...]`
 -- and `render [--context FILE] [-D NAME=TEXT]... [--fuel N] [--limit N] [--undefined MODE] [--builtins] [--main NAME] [-o FILE]
 -- [--autoescape FORMAT] [SYNTAX] [FILE...]`.
 use Rattle.std.specs.Prelude.{ℕ, List, [], ◌∷◌, Some, codes, map, pos, true}
@@ -56,6 +56,10 @@ builtins_option = flag_option (codes "builtins")
 abbrev pub main_option : Rule
 main_option = text_option (codes "main")
 
+-- `--json` of `names`, once at most, without a value
+abbrev pub names_json_option : Rule
+names_json_option = flag_option (codes "json")
+
 -- `--autoescape FORMAT`, once at most
 abbrev pub autoescape_option : Rule
 autoescape_option = text_option (codes "autoescape")
@@ -95,7 +99,7 @@ abbrev pub value_rules : List Rule
 value_rules = autoescape_option ∷ []
 
 abbrev pub names_rules : List Rule
-names_rules = builtins_option ∷ main_option ∷ output_option ∷ files_argument ∷ []
+names_rules = builtins_option ∷ main_option ∷ output_option ∷ names_json_option ∷ files_argument ∷ []
 
 -- an app that takes the words of the syntax too
 abbrev pub with_syntax : App → App
