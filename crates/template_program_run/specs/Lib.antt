@@ -1,6 +1,7 @@
 pub mod Ids
 pub mod Brought
 pub mod Served
+pub mod Asked
 pub mod History
 pub mod Additions
 pub mod Environments

@@ -5,9 +5,12 @@ use Rattle.std.specs.declared.io.Error.{Error}
 use Rattle.std.specs.declared.io.ErrorKind.{ErrorKind as IoKind}
 use Rattle.std.specs.declared.io.ErrorKind.TheVariants as io
 use Rattle.clap.specs.Words.{Kinds, Row}
-use Rattle.template_values_errors.specs.declared.ErrorKind.TheVariants.{OutOfMemory}
+use Rattle.template_values_errors.specs.declared.ErrorKind.TheVariants.{InvalidDelimiter, OutOfMemory}
+use Rattle.template_values_errors.specs.Memory.{NoMemory}
+use Rattle.template_values_errors.specs.declared.ErrorKind.{ErrorKind}
 use Rattle.template_values_errors.specs.declared.modes.UndefinedBehavior.{UndefinedBehavior}
 use Rattle.template_values_errors.specs.declared.modes.UndefinedBehavior.TheVariants.{Lenient}
+use Rattle.template_compiler_syntax.specs.Syntax.{IsUsable, Syntax}
 use Rattle.template_program_parts.specs.declared.faults.FileFault.{FileFault}
 use Rattle.template_program_parts.specs.declared.faults.FileFault.TheVariants as refusal
 use Rattle.template_program_words.specs.Reading.{ReadsWords, default_limit, parts_of}
@@ -17,8 +20,8 @@ use Rattle.template_program_words.specs.declared.faults.WordsFault.TheVariants.{
 use Rattle.template_program_words.specs.declared.words.Words.{Words}
 use Rattle.template_program_words.specs.declared.words.Words.TheVariants as asks
 use Rattle.template_program_run.specs.Answers.{AnswersWith, definitions_of}
-use Rattle.template_program_run.specs.Brought.{brought_if}
-use Rattle.template_program_run.specs.Served.{Served, plainly_served}
+use Rattle.template_program_run.specs.Asked.{served_by, syntax_set, syntax_words}
+use Rattle.template_program_run.specs.Served.{Served}
 use Rattle.template_program_parts.specs.declared.outcome.Outcome.{Outcome}
 use Rattle.template_program_parts.specs.declared.outcome.Outcome.TheVariants.{Done, Render, Context, Template}
 use Rattle.template_program_parts.specs.declared.command.Command.TheVariants as asked
@@ -26,7 +29,7 @@ use Rattle.template_program_run.specs.declared.request.Request.{Request}
 use Rattle.template_program_parts.specs.Flushes.{flushed}
 use Rattle.template_program_parts.specs.Reading.{LacksFile, LacksText}
 use Rattle.template_program_parts.specs.Status.{IsStatusOf}
-use Rattle.template_program_run.specs.Status.{file_status}
+use Rattle.template_program_run.specs.Status.{file_status, syntax_status}
 use Rattle.template_program_output.specs.Answer.{Answer, failures_among}
 use Rattle.template_program_output.specs.Lines.{error_line, fault_line}
 use Rattle.template_program_output.specs.Shown.{IsFlushed, Puts, PutsFlushed, Shown, TellsResult}
@@ -63,11 +66,6 @@ IsNamed main paths request additions =
 abbrev pub HasLimits : Request → Option ℕ → ℕ → UndefinedBehavior → Type 0
 HasLimits request fuel limit undefined =
     (request.fuel ≡ fuel) × (request.limit ≡ limit) × (request.undefined ≡ undefined)
-
--- what requests are served with, as the words ask: with the builtins, or with nothing
-abbrev pub served_by : Words → Served
-served_by (asks.Render read) = record plainly_served { brought = brought_if read.builtins }
-served_by (asks.Names read) = record plainly_served { brought = brought_if read.builtins }
 
 -- The request is what the words ask for. Names are told in an environment set as one begins.
 abbrev pub IsAsked : Words → Request → List (List ℕ × List ℕ) → Type 0
@@ -201,16 +199,32 @@ abbrev pub arguments_line : IoKind → List ℕ
 arguments_line io.OutOfMemory = memory_line
 arguments_line _ = fault_line (codes "Arguments")
 
--- Words that are refused have their status, and are told. Else the files are read, or one is refused with the status and
--- the line of its fault, and what the words ask for is done with them.
+-- why a syntax is refused: segments cannot be told apart in it, or memory is wanting
+abbrev pub RefusesSyntax : Syntax → List ErrorKind → Type 0
+RefusesSyntax syntax kinds = ((kinds ≡ InvalidDelimiter ∷ []) × ¬ IsUsable syntax) ⊎ NoMemory kinds
+
+-- The files that the words name are read, or one is refused with the status and the line of its fault, and what the words ask
+-- for is done with them.
+abbrev pub DoesWords : Words → (List ℕ → Option (List ℕ)) → Bool → Option (List ℕ) → Shown → Shown → Shown → Shown → ℕ → Type 0
+DoesWords words content may_fail input out out_after fault fault_after result =
+    ((refused : FileFault) × RefusesInputs content may_fail input words refused × (result ≡ file_status refused)
+    × (out_after ≡ out) × Puts fault fault_after (file_line refused))
+    ⊎ ((request : Request) × (additions : List (List ℕ × List ℕ)) × (json : Option (List ℕ))
+    × IsAsked words request additions × AreRead content input words additions json
+    × PerformsRequest request (served_by words) additions json out out_after fault fault_after result)
+
+-- The syntax that the words set is refused, before any file is read, and that is told. Else they are done.
+abbrev pub FollowsWords : Words → (List ℕ → Option (List ℕ)) → Bool → Option (List ℕ) → Shown → Shown → Shown → Shown → ℕ → Type 0
+FollowsWords words content may_fail input out out_after fault fault_after result =
+    ((kinds : List ErrorKind) × RefusesSyntax (syntax_set (syntax_words words)) kinds × (result ≡ syntax_status kinds)
+    × (out_after ≡ out) × Puts fault fault_after (error_line kinds))
+    ⊎ (IsUsable (syntax_set (syntax_words words)) × DoesWords words content may_fail input out out_after fault fault_after result)
+
+-- Words that are refused have their status, and are told. Else they are followed.
 abbrev pub Starts : Kinds → Option (List ℕ × List Row) → (List ℕ → Option (List ℕ)) → Bool → Option (List ℕ)
     → Shown → Shown → Shown → Shown → ℕ → Type 0
 Starts kinds found content may_fail input out out_after fault fault_after result =
     ((refused : WordsFault) × RefusesWords kinds found refused × (result ≡ words_status refused)
     × TellsWords refused out out_after fault fault_after)
-    ⊎ ((words : Words) × ReadsWords found words × (kinds ≡ []) × (((refused : FileFault)
-    × RefusesInputs content may_fail input words refused × (result ≡ file_status refused)
-    × (out_after ≡ out) × Puts fault fault_after (file_line refused))
-    ⊎ ((request : Request) × (additions : List (List ℕ × List ℕ)) × (json : Option (List ℕ))
-    × IsAsked words request additions × AreRead content input words additions json
-    × PerformsRequest request (served_by words) additions json out out_after fault fault_after result)))
+    ⊎ ((words : Words) × ReadsWords found words × (kinds ≡ [])
+    × FollowsWords words content may_fail input out out_after fault fault_after result)

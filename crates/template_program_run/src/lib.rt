@@ -12,6 +12,7 @@ mod request;
 mod running;
 mod serving;
 mod starting;
+mod syntax;
 mod telling;
 
 pub use options::Options;

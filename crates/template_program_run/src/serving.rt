@@ -1,28 +1,53 @@
 //! What requests are served with, by the words.
-ghost use Rattle.std.specs.Prelude.{◌≡◌};
-ghost use Rattle.template_program_run.specs.Brought.{brought_if};
-ghost use Rattle.template_program_run.specs.Served.{plainly_served, served_under};
-ghost use Rattle.template_program_run.specs.Starts.{served_by};
+ghost use Rattle.std.specs.Prelude.{◌≡◌, option_map, unwrap_or};
+ghost use Rattle.template_compiler_syntax.specs.Syntax.{default_syntax};
+ghost use Rattle.template_program_run.specs.Asked.{rule_named as rule_of, served_by, syntax_set, syntax_words as syntax_in};
+ghost use Rattle.template_program_run.specs.Served.{served_under};
 
 use crate::options::Options;
-use template_program_words::Words;
+use template_compiler_syntax::SyntaxConfig;
+use template_machine_surroundings::EscapeRule;
+use template_program_words::{EscapeWord, SyntaxWords, Words};
+use template_values_errors::AutoEscape;
 
-/// The options that the words ask for.
-pub(crate) fn options_of(words: &Words<'_>) -> Options<'static>
+/// The options that the words ask for, with the syntax that they set.
+pub(crate) fn options_of<'a>(words: &Words<'_>, syntax: Option<&'a SyntaxConfig>) -> Options<'a>
+    requires { unwrap_or (option_map (λ given. given.now) syntax) default_syntax ≡ syntax_set (syntax_in words.now) }
     ensures { served_under result ≡ served_by words.now }
 {
     match words {
-        Words::Render(words) => with_builtins(words.builtins),
-        Words::Names(words) => with_builtins(words.builtins),
+        Words::Render(words) => Options {
+            builtins: words.builtins,
+            escapes: rule_named(words.autoescape),
+            syntax,
+            names_as_json: false,
+        },
+        Words::Names(words) => Options {
+            builtins: words.builtins,
+            escapes: EscapeRule::ByName,
+            syntax,
+            names_as_json: words.json,
+        },
     }
 }
 
-// Options that say whether the builtins are brought, and nothing else.
-fn with_builtins(builtins: bool) -> Options<'static>
-    ensures { served_under result ≡ record plainly_served { brought = brought_if builtins } }
+fn rule_named(word: EscapeWord) -> EscapeRule
+    ensures { result ≡ rule_of word }
 {
-    Options {
-        builtins,
-        ..Options::new()
+    match word {
+        EscapeWord::None => EscapeRule::Never,
+        EscapeWord::Html => EscapeRule::Fixed(AutoEscape::Html),
+        EscapeWord::Json => EscapeRule::Fixed(AutoEscape::Json),
+        EscapeWord::Name => EscapeRule::ByName,
+    }
+}
+
+/// The words that set the syntax.
+pub(crate) fn syntax_words<'a, 'b>(words: &'b Words<'a>) -> &'b SyntaxWords<'a>
+    ensures { result.now ≡ syntax_in words.now }
+{
+    match words {
+        Words::Render(words) => &words.syntax,
+        Words::Names(words) => &words.syntax,
     }
 }

@@ -3,26 +3,32 @@ ghost use Rattle.std.specs.Prelude.{◌≡◌, map};
 ghost use Rattle.std.specs.IoError.{error_kind};
 ghost use Rattle.clap.specs.Words.{fault_of, subcommand_of};
 ghost use Rattle.template_program_words.specs.CommandLine.{program};
+ghost use Rattle.template_program_output.specs.Lines.{error_line};
 ghost use Rattle.template_program_output.specs.Shown.{Puts};
-ghost use Rattle.template_program_run.specs.Starts.{Starts, TellsWords, arguments_line, file_line, words_status};
-ghost use Rattle.template_program_run.specs.Status.{arguments_status, file_status};
+ghost use Rattle.template_program_run.specs.Asked.{served_by};
+ghost use Rattle.template_program_run.specs.Served.{served_under};
+ghost use Rattle.template_program_run.specs.Starts.{DoesWords, FollowsWords, Starts, TellsWords, arguments_line, file_line, words_status};
+ghost use Rattle.template_program_run.specs.Status.{arguments_status, file_status, syntax_status};
 
 use crate::inputs::read_inputs;
+use crate::options::Options;
 use crate::performing::perform;
-use crate::serving::options_of;
-use crate::telling::{tell_memory, tell_text, tell_word};
+use crate::serving::{options_of, syntax_words};
+use crate::syntax::syntax_of;
+use crate::telling::{tell_error, tell_memory, tell_text, tell_word};
 use std::io;
 use template_program_output::{Output, write_flushed};
 use template_program_parts::{DONE, FILE, FileFault, FileSystem, MEMORY, Reader, WORDS};
-use template_program_words::{WordsFault, read_words};
+use template_program_words::{Words, WordsFault, read_words};
+use template_values_errors::{Error, ErrorKind};
 
-/// Runs the program: reads the words, then the templates' files (or the input, where no file is named),
+/// Runs the program: reads the words, and puts together the syntax that they set; then reads the templates' files (or the input, where no file is named),
 /// then the context's file, and writes what is asked to `out` through a buffer, and a fault to `fault`
 /// where something is refused: the text of refused words as it is, any other as one line. What cannot be
 /// written there changes nothing.
 ///
 /// The status is 0 where all is written, or help or the version was asked for, 1 for a fault of the
-/// render, 2 for words that are refused, 3 for a file, 4 for the context, 5 for a template that is refused
+/// render, 2 for words or a syntax that are refused, 3 for a file, 4 for the context, 5 for a template that is refused
 /// or a main one that does not stand, and 6 where memory was refused.
 ///
 /// Gives the output back behind the status. Holds all templates, the context and the output's buffer of 8 KiB in
@@ -40,11 +46,47 @@ pub fn start<R: FileSystem + AllocGlobal, I: Reader, O: Output, F: Output>(
         (O.shown out) (O.shown result.1) (F.shown fault.old) (F.shown fault.new) result.0 }
 {
     match read_words(rt.alloc(), words) {
-        Ok(words) => match read_inputs(rt, &words, input) {
-            Ok(inputs) => perform(rt.alloc(), options_of(&words), &inputs, out, fault),
-            Err(refused) => (refuse_file(refused, fault), out),
-        },
+        Ok(words) => follow_words(rt, &words, input, out, fault),
         Err(refused) => refuse_words(&refused, out, fault),
+    }
+}
+
+// Does what the words ask for, once the syntax that they set is put together.
+fn follow_words<R: FileSystem + AllocGlobal, I: Reader, O: Output, F: Output>(
+    rt: &R,
+    words: &Words<'_>,
+    input: &mut I,
+    out: O,
+    fault: &mut F,
+) -> (u8, O)
+    ensures { FollowsWords words.now (R.content rt.now) (I.may_fail input.old) (I.remaining input.old)
+        (O.shown out) (O.shown result.1) (F.shown fault.old) (F.shown fault.new) result.0 }
+{
+    match syntax_of(rt.alloc(), syntax_words(words)) {
+        Ok(syntax) => {
+            let options = options_of(words, syntax.as_ref());
+            do_words(rt, words, options, input, out, fault)
+        }
+        Err(refused) => (refuse_syntax(&refused, fault), out),
+    }
+}
+
+// Reads the files that the words name, and does with them what the words ask for.
+fn do_words<R: FileSystem + AllocGlobal, I: Reader, O: Output, F: Output>(
+    rt: &R,
+    words: &Words<'_>,
+    options: Options<'_>,
+    input: &mut I,
+    out: O,
+    fault: &mut F,
+) -> (u8, O)
+    requires { served_under options ≡ served_by words.now }
+    ensures { DoesWords words.now (R.content rt.now) (I.may_fail input.old) (I.remaining input.old)
+        (O.shown out) (O.shown result.1) (F.shown fault.old) (F.shown fault.new) result.0 }
+{
+    match read_inputs(rt, words, input) {
+        Ok(inputs) => perform(rt.alloc(), options, &inputs, out, fault),
+        Err(refused) => (refuse_file(refused, fault), out),
     }
 }
 
@@ -87,6 +129,18 @@ pub fn refuse_arguments<F: Output>(refused: &io::Error, fault: &mut F) -> u8
             tell_word(fault, "Arguments");
             WORDS
         }
+    }
+}
+
+// Tells why a syntax is refused.
+fn refuse_syntax<F: Output>(refused: &Error, fault: &mut F) -> u8
+    ensures status { result ≡ syntax_status refused.now }
+    ensures told { Puts (F.shown fault.old) (F.shown fault.new) (error_line refused.now) }
+{
+    tell_error(fault, refused);
+    match refused.kind() {
+        ErrorKind::OutOfMemory => MEMORY,
+        _ => WORDS,
     }
 }
 
