@@ -49,6 +49,11 @@ abbrev pub syntax_words : Words → SyntaxWords
 syntax_words (asks.Render read) = read.syntax
 syntax_words (asks.Names read) = read.syntax
 
+-- the path of the file that is written in place of the output, if the words name one
+abbrev pub output_word : Words → Option (List ℕ)
+output_word (asks.Render read) = option_map (λ path. path.now) read.output
+output_word (asks.Names read) = option_map (λ path. path.now) read.output
+
 -- the rule of escapes that the word names
 abbrev pub rule_named : EscapeWord → EscapeRule
 rule_named word.None = Never

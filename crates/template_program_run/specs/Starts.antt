@@ -20,7 +20,7 @@ use Rattle.template_program_words.specs.declared.faults.WordsFault.TheVariants.{
 use Rattle.template_program_words.specs.declared.words.Words.{Words}
 use Rattle.template_program_words.specs.declared.words.Words.TheVariants as asks
 use Rattle.template_program_run.specs.Answers.{AnswersWith, definitions_of}
-use Rattle.template_program_run.specs.Asked.{served_by, syntax_set, syntax_words}
+use Rattle.template_program_run.specs.Asked.{output_word, served_by, syntax_set, syntax_words}
 use Rattle.template_program_run.specs.Served.{Served}
 use Rattle.template_program_parts.specs.declared.outcome.Outcome.{Outcome}
 use Rattle.template_program_parts.specs.declared.outcome.Outcome.TheVariants.{Done, Render, Context, Template}
@@ -30,6 +30,7 @@ use Rattle.template_program_parts.specs.Flushes.{flushed}
 use Rattle.template_program_parts.specs.Reading.{LacksFile, LacksText}
 use Rattle.template_program_parts.specs.Status.{IsStatusOf}
 use Rattle.template_program_run.specs.Status.{file_status, syntax_status}
+use Rattle.template_program_files.specs.Written.{IsRefused, IsWritten}
 use Rattle.template_program_output.specs.Answer.{Answer, failures_among}
 use Rattle.template_program_output.specs.Lines.{error_line, fault_line}
 use Rattle.template_program_output.specs.Shown.{IsFlushed, Puts, PutsFlushed, Shown, TellsResult}
@@ -179,6 +180,29 @@ PerformsRequest request served additions json out out_after fault fault_after re
     ⊎ ((outcome : Outcome) × RunsFlushed request served additions json out out_after outcome × IsStatusOf outcome result
     × TellsOutcome outcome fault fault_after)
 
+-- the line of a file or an input that is refused
+abbrev pub file_line : FileFault → List ℕ
+file_line refusal.File = fault_line (codes "File")
+file_line refusal.Memory = memory_line
+
+-- The request is run over a file, which shows what is told of it when it is opened, and takes its place where the status is 0.
+-- Or the file cannot be opened, or cannot take its place when all is written, and that is told.
+abbrev pub PerformsInto : Option Shown → (Shown → Type 0) → Request → Served → List (List ℕ × List ℕ) → Option (List ℕ)
+    → Shown → Shown → ℕ → Type 0
+PerformsInto fresh Placed request served additions json fault fault_after result =
+    IsWritten fresh Placed (λ before after. PerformsRequest request served additions json before after fault fault_after result) result
+    ⊎ ((refused : FileFault) × (told : Shown)
+    × IsRefused fresh fault told (λ before after. PerformsRequest request served additions json before after fault told 0)
+    × (refused ≡ refusal.File → fresh ≡ None) × (result ≡ file_status refused) × Puts told fault_after (file_line refused))
+
+-- It is run over the output; or over the file of a path, if one is given, and then the output stays as it is.
+abbrev pub PerformsTo : Option (List ℕ) → (List ℕ → Option Shown) → (List ℕ → Shown → Type 0) → Request → Served
+    → List (List ℕ × List ℕ) → Option (List ℕ) → Shown → Shown → Shown → Shown → ℕ → Type 0
+PerformsTo None fresh Placed request served additions json out out_after fault fault_after result =
+    PerformsRequest request served additions json out out_after fault fault_after result
+PerformsTo (Some path) fresh Placed request served additions json out out_after fault fault_after result =
+    (out_after ≡ out) × PerformsInto (fresh path) (Placed path) request served additions json fault fault_after result
+
 -- what is written to the output, and told, of words that are refused
 abbrev pub TellsWords : WordsFault → Shown → Shown → Shown → Shown → Type 0
 TellsWords Memory out out_after fault fault_after = (out_after ≡ out) × Puts fault fault_after memory_line
@@ -188,11 +212,6 @@ TellsWords (Version text) out out_after fault fault_after =
 TellsWords (Usage text) out out_after fault fault_after = (out_after ≡ out) × Puts fault fault_after (string_bytes text)
 TellsWords Definition out out_after fault fault_after =
     (out_after ≡ out) × Puts fault fault_after (fault_line (codes "Arguments"))
-
--- the line of a file or an input that is refused
-abbrev pub file_line : FileFault → List ℕ
-file_line refusal.File = fault_line (codes "File")
-file_line refusal.Memory = memory_line
 
 -- the line of arguments that cannot be had
 abbrev pub arguments_line : IoKind → List ℕ
@@ -205,26 +224,28 @@ RefusesSyntax syntax kinds = ((kinds ≡ InvalidDelimiter ∷ []) × ¬ IsUsable
 
 -- The files that the words name are read, or one is refused with the status and the line of its fault, and what the words ask
 -- for is done with them.
-abbrev pub DoesWords : Words → (List ℕ → Option (List ℕ)) → Bool → Option (List ℕ) → Shown → Shown → Shown → Shown → ℕ → Type 0
-DoesWords words content may_fail input out out_after fault fault_after result =
+abbrev pub DoesWords : Words → (List ℕ → Option (List ℕ)) → Bool → Option (List ℕ) → (List ℕ → Option Shown)
+    → (List ℕ → Shown → Type 0) → Shown → Shown → Shown → Shown → ℕ → Type 0
+DoesWords words content may_fail input fresh Placed out out_after fault fault_after result =
     ((refused : FileFault) × RefusesInputs content may_fail input words refused × (result ≡ file_status refused)
     × (out_after ≡ out) × Puts fault fault_after (file_line refused))
     ⊎ ((request : Request) × (additions : List (List ℕ × List ℕ)) × (json : Option (List ℕ))
     × IsAsked words request additions × AreRead content input words additions json
-    × PerformsRequest request (served_by words) additions json out out_after fault fault_after result)
+    × PerformsTo (output_word words) fresh Placed request (served_by words) additions json out out_after fault fault_after result)
 
 -- The syntax that the words set is refused, before any file is read, and that is told. Else they are done.
-abbrev pub FollowsWords : Words → (List ℕ → Option (List ℕ)) → Bool → Option (List ℕ) → Shown → Shown → Shown → Shown → ℕ → Type 0
-FollowsWords words content may_fail input out out_after fault fault_after result =
+abbrev pub FollowsWords : Words → (List ℕ → Option (List ℕ)) → Bool → Option (List ℕ) → (List ℕ → Option Shown)
+    → (List ℕ → Shown → Type 0) → Shown → Shown → Shown → Shown → ℕ → Type 0
+FollowsWords words content may_fail input fresh Placed out out_after fault fault_after result =
     ((kinds : List ErrorKind) × RefusesSyntax (syntax_set (syntax_words words)) kinds × (result ≡ syntax_status kinds)
     × (out_after ≡ out) × Puts fault fault_after (error_line kinds))
-    ⊎ (IsUsable (syntax_set (syntax_words words)) × DoesWords words content may_fail input out out_after fault fault_after result)
+    ⊎ (IsUsable (syntax_set (syntax_words words)) × DoesWords words content may_fail input fresh Placed out out_after fault fault_after result)
 
 -- Words that are refused have their status, and are told. Else they are followed.
 abbrev pub Starts : Kinds → Option (List ℕ × List Row) → (List ℕ → Option (List ℕ)) → Bool → Option (List ℕ)
-    → Shown → Shown → Shown → Shown → ℕ → Type 0
-Starts kinds found content may_fail input out out_after fault fault_after result =
+    → (List ℕ → Option Shown) → (List ℕ → Shown → Type 0) → Shown → Shown → Shown → Shown → ℕ → Type 0
+Starts kinds found content may_fail input fresh Placed out out_after fault fault_after result =
     ((refused : WordsFault) × RefusesWords kinds found refused × (result ≡ words_status refused)
     × TellsWords refused out out_after fault fault_after)
     ⊎ ((words : Words) × ReadsWords found words × (kinds ≡ [])
-    × FollowsWords words content may_fail input out out_after fault fault_after result)
+    × FollowsWords words content may_fail input fresh Placed out out_after fault fault_after result)

@@ -8,6 +8,7 @@ mod inputs;
 mod names;
 mod options;
 mod performing;
+mod placing;
 mod request;
 mod running;
 mod serving;

@@ -1,7 +1,7 @@
 //! What requests are served with, by the words.
 ghost use Rattle.std.specs.Prelude.{◌≡◌, option_map, unwrap_or};
 ghost use Rattle.template_compiler_syntax.specs.Syntax.{default_syntax};
-ghost use Rattle.template_program_run.specs.Asked.{rule_named as rule_of, served_by, syntax_set, syntax_words as syntax_in};
+ghost use Rattle.template_program_run.specs.Asked.{output_word, rule_named as rule_of, served_by, syntax_set, syntax_words as syntax_in};
 ghost use Rattle.template_program_run.specs.Served.{served_under};
 
 use crate::options::Options;
@@ -39,6 +39,16 @@ fn rule_named(word: EscapeWord) -> EscapeRule
         EscapeWord::Html => EscapeRule::Fixed(AutoEscape::Html),
         EscapeWord::Json => EscapeRule::Fixed(AutoEscape::Json),
         EscapeWord::Name => EscapeRule::ByName,
+    }
+}
+
+/// The path of the file that is written in place of the output, if the words name one.
+pub(crate) fn output_of<'a>(words: &Words<'a>) -> Option<&'a str>
+    ensures { option_map (λ path. path.now) result ≡ output_word words.now }
+{
+    match words {
+        Words::Render(words) => words.output,
+        Words::Names(words) => words.output,
     }
 }
 

@@ -12,18 +12,20 @@ ghost use Rattle.template_program_run.specs.Status.{arguments_status, file_statu
 
 use crate::inputs::read_inputs;
 use crate::options::Options;
-use crate::performing::perform;
-use crate::serving::{options_of, syntax_words};
+use crate::placing::perform_to;
+use crate::serving::{options_of, output_of, syntax_words};
 use crate::syntax::syntax_of;
 use crate::telling::{tell_error, tell_memory, tell_text, tell_word};
 use std::io;
+use template_program_files::Placing;
 use template_program_output::{Output, write_flushed};
 use template_program_parts::{DONE, FILE, FileFault, FileSystem, MEMORY, Reader, WORDS};
 use template_program_words::{Words, WordsFault, read_words};
 use template_values_errors::{Error, ErrorKind};
 
 /// Runs the program: reads the words, and puts together the syntax that they set; then reads the templates' files (or the input, where no file is named),
-/// then the context's file, and writes what is asked to `out` through a buffer, and a fault to `fault`
+/// then the context's file, and writes what is asked to `out` through a buffer, or to the file that the words name in its
+/// place, and a fault to `fault`
 /// where something is refused: the text of refused words as it is, any other as one line. What cannot be
 /// written there changes nothing.
 ///
@@ -33,7 +35,7 @@ use template_values_errors::{Error, ErrorKind};
 ///
 /// Gives the output back behind the status. Holds all templates, the context and the output's buffer of 8 KiB in
 /// memory.
-pub fn start<R: FileSystem + AllocGlobal, I: Reader, O: Output, F: Output>(
+pub fn start<R: FileSystem + Placing + AllocGlobal, I: Reader, O: Output, F: Output>(
     rt: &R,
     words: &[&str],
     input: &mut I,
@@ -42,7 +44,7 @@ pub fn start<R: FileSystem + AllocGlobal, I: Reader, O: Output, F: Output>(
 ) -> (u8, O)
     ensures { Starts (fault_of program (map (λ word. word.now) words.now))
         (subcommand_of program (map (λ word. word.now) words.now))
-        (R.content rt.now) (I.may_fail input.old) (I.remaining input.old)
+        (R.content rt.now) (I.may_fail input.old) (I.remaining input.old) (R.fresh rt.now) (R.placed rt.now)
         (O.shown out) (O.shown result.1) (F.shown fault.old) (F.shown fault.new) result.0 }
 {
     match read_words(rt.alloc(), words) {
@@ -52,14 +54,14 @@ pub fn start<R: FileSystem + AllocGlobal, I: Reader, O: Output, F: Output>(
 }
 
 // Does what the words ask for, once the syntax that they set is put together.
-fn follow_words<R: FileSystem + AllocGlobal, I: Reader, O: Output, F: Output>(
+fn follow_words<R: FileSystem + Placing + AllocGlobal, I: Reader, O: Output, F: Output>(
     rt: &R,
     words: &Words<'_>,
     input: &mut I,
     out: O,
     fault: &mut F,
 ) -> (u8, O)
-    ensures { FollowsWords words.now (R.content rt.now) (I.may_fail input.old) (I.remaining input.old)
+    ensures { FollowsWords words.now (R.content rt.now) (I.may_fail input.old) (I.remaining input.old) (R.fresh rt.now) (R.placed rt.now)
         (O.shown out) (O.shown result.1) (F.shown fault.old) (F.shown fault.new) result.0 }
 {
     match syntax_of(rt.alloc(), syntax_words(words)) {
@@ -72,7 +74,7 @@ fn follow_words<R: FileSystem + AllocGlobal, I: Reader, O: Output, F: Output>(
 }
 
 // Reads the files that the words name, and does with them what the words ask for.
-fn do_words<R: FileSystem + AllocGlobal, I: Reader, O: Output, F: Output>(
+fn do_words<R: FileSystem + Placing + AllocGlobal, I: Reader, O: Output, F: Output>(
     rt: &R,
     words: &Words<'_>,
     options: Options<'_>,
@@ -81,11 +83,11 @@ fn do_words<R: FileSystem + AllocGlobal, I: Reader, O: Output, F: Output>(
     fault: &mut F,
 ) -> (u8, O)
     requires { served_under options ≡ served_by words.now }
-    ensures { DoesWords words.now (R.content rt.now) (I.may_fail input.old) (I.remaining input.old)
+    ensures { DoesWords words.now (R.content rt.now) (I.may_fail input.old) (I.remaining input.old) (R.fresh rt.now) (R.placed rt.now)
         (O.shown out) (O.shown result.1) (F.shown fault.old) (F.shown fault.new) result.0 }
 {
     match read_inputs(rt, words, input) {
-        Ok(inputs) => perform(rt.alloc(), options, &inputs, out, fault),
+        Ok(inputs) => perform_to(rt, output_of(words), options, &inputs, out, fault),
         Err(refused) => (refuse_file(refused, fault), out),
     }
 }
@@ -144,7 +146,7 @@ fn refuse_syntax<F: Output>(refused: &Error, fault: &mut F) -> u8
     }
 }
 
-fn refuse_file<F: Output>(refused: FileFault, fault: &mut F) -> u8
+pub(crate) fn refuse_file<F: Output>(refused: FileFault, fault: &mut F) -> u8
     ensures status { result ≡ file_status refused }
     ensures told { Puts (F.shown fault.old) (F.shown fault.new) (file_line refused) }
 {

@@ -1,7 +1,8 @@
-use Rattle.std.proofs.Common.{Err, ap, inl, inr, option_map, refl, subst}
+use Rattle.std.proofs.Common.{Err, List, Option, ℕ, ap, inl, inr, option_map, refl, subst}
 use Rattle.template_program_parts.specs.Context.{text_pairs}
+use Rattle.template_program_run.specs.Asked.{served_by}
 use Rattle.template_program_run.specs.Served.{Served}
-use Rattle.template_program_run.specs.Starts.{PerformsRequest}
+use Rattle.template_program_run.specs.Starts.{PerformsTo}
 use Rattle.template_program_run.proofs.Refusing.{refuses_inputs}
 use Rattle.template_program_run.proofs.starting.do_words.Goals as goal
 
@@ -10,9 +11,16 @@ returns-in-Ok g c =
     let inputs = c.in-Ok.inputs in
     let additions = text_pairs inputs.templates.items in
     let json = option_map (λ bytes. bytes.items) inputs.context in
-    let performs = subst (λ (served : Served). PerformsRequest inputs.request served additions json (g.O.Output.shown c.args.out)
-    (g.O.Output.shown c.perform.result.1) (g.F.Output.shown c.args.fault.now) (g.F.Output.shown c.perform.new.fault) c.perform.result.0)
-    c.requires c.perform.ensures in
+    let fresh = g.R.Placing.fresh c.args.rt.now in
+    let placed = g.R.Placing.placed c.args.rt.now in
+    let out = g.O.Output.shown c.args.out in
+    let out_after = g.O.Output.shown c.perform_to.result.1 in
+    let fault = g.F.Output.shown c.args.fault.now in
+    let fault_after = g.F.Output.shown c.perform_to.new.fault in
+    let served = subst (λ (s : Served). PerformsTo (option_map (λ path. path.now) c.output_of.result) fresh placed inputs.request s additions json
+    out out_after fault fault_after c.perform_to.result.0) c.requires c.perform_to.ensures in
+    let performs = subst (λ (path : Option (List ℕ)). PerformsTo path fresh placed inputs.request (served_by c.args.words.now) additions json
+    out out_after fault fault_after c.perform_to.result.0) c.output_of.ensures served in
     inr (inputs.request, additions, json, c.in-Ok.ensures.asked, c.in-Ok.ensures.read, performs)
 
 pub returns-in-Err : goal.returns-in-Err

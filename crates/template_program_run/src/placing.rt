@@ -1,0 +1,79 @@
+//! The run of a request over the output, or over a file in its place.
+ghost use Rattle.std.specs.Prelude.{option_map};
+ghost use Rattle.template_program_parts.specs.Context.{text_pairs};
+ghost use Rattle.template_program_run.specs.Served.{served_under};
+ghost use Rattle.template_program_run.specs.Starts.{PerformsInto, PerformsTo};
+
+use crate::inputs::Inputs;
+use crate::options::Options;
+use crate::performing::perform;
+use crate::starting::refuse_file;
+use std::alloc::Global;
+use template_program_files::{Placing, Writer, write_file};
+use template_program_output::Output;
+
+/// Runs the request over the output; or over the file at `path`, if one is given, which takes its place when all is
+/// written.
+pub(crate) fn perform_to<R: Placing + AllocGlobal, O: Output, F: Output>(
+    rt: &R,
+    path: Option<&str>,
+    options: Options<'_>,
+    inputs: &Inputs,
+    out: O,
+    fault: &mut F,
+) -> (u8, O)
+    ensures { PerformsTo (option_map (λ path. path.now) path.entry) (R.fresh rt.now) (R.placed rt.now) inputs.now.request
+        (served_under options.entry) (text_pairs inputs.now.templates.items) (option_map (λ bytes. bytes.items) inputs.now.context)
+        (O.shown out) (O.shown result.1) (F.shown fault.old) (F.shown fault.new) result.0 }
+{
+    match path {
+        Some(path) => (perform_into(rt, path, options, inputs, fault), out),
+        None => perform(rt.alloc(), options, inputs, out, fault),
+    }
+}
+
+// Runs the request over the file at `path`.
+fn perform_into<R: Placing + AllocGlobal, F: Output>(
+    rt: &R,
+    path: &str,
+    options: Options<'_>,
+    inputs: &Inputs,
+    fault: &mut F,
+) -> u8
+    ensures { PerformsInto (R.fresh rt.now path.now) (R.placed rt.now path.now) inputs.now.request (served_under options.entry)
+        (text_pairs inputs.now.templates.items) (option_map (λ bytes. bytes.items) inputs.now.context)
+        (F.shown fault.old) (F.shown fault.new) result }
+{
+    let performer = Performer {
+        alloc: rt.alloc(),
+        options,
+        inputs,
+    };
+    match write_file(rt, path, &performer, fault) {
+        Ok(status) => status,
+        Err(refused) => refuse_file(refused, fault),
+    }
+}
+
+// A request that is run over an output.
+#[derive(Drop)]
+struct Performer<'a> {
+    alloc: Global,
+    options: Options<'a>,
+    inputs: &'a Inputs,
+}
+
+impl Writer for Performer<'_> {
+    ghost use Rattle.std.specs.Prelude.{option_map};
+    ghost use Rattle.template_program_parts.specs.Context.{text_pairs};
+    ghost use Rattle.template_program_run.specs.Served.{served_under};
+    ghost use Rattle.template_program_run.specs.Starts.{PerformsRequest};
+
+    ghost writes = { λ performer out out_after fault fault_after status. PerformsRequest performer.inputs.now.request
+        (served_under performer.options) (text_pairs performer.inputs.now.templates.items)
+        (option_map (λ bytes. bytes.items) performer.inputs.now.context) out out_after fault fault_after status };
+
+    fn write_to<O: Output, F: Output>(&self, out: O, fault: &mut F) -> (u8, O) {
+        perform(self.alloc, self.options, self.inputs, out, fault)
+    }
+}
