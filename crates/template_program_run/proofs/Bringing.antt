@@ -13,7 +13,8 @@ use Rattle.template_builtins.specs.Brought.{builtins_brought}
 use Rattle.template_builtins.specs.Installed.{Installs}
 use Rattle.template_builtins.proofs.Bringing.{answers_alike}
 use Rattle.template_builtins_callables.specs.declared.builtin.Builtin.{Builtin}
-use Rattle.template_program_run.specs.Brought.{brought_if, program_answers, program_method_says}
+use Rattle.template_builtins_methods.specs.declared.method.PythonMethods.{PythonMethods}
+use Rattle.template_program_run.specs.Brought.{brought_if, program_answers}
 use Rattle.template_program_run.specs.Environments.{callback_under}
 use Rattle.template_program_run.specs.Served.{plainly_served, rule_under, served_under}
 use Rattle.template_program_run.specs.declared.extension.OneEscape.{OneEscape}
@@ -35,22 +36,24 @@ asks_none builtins true = builtins
 asks_none builtins false = no_callables_ask
 
 -- extras of none bring nothing
-pub nothing_added : {M F J R : Type 0} (flag : Bool) → flag ≡ false → (x : Extras Builtin M F J R) → x ≡ no_extras
+pub nothing_added : {F J R : Type 0} (flag : Bool) → flag ≡ false → (x : Extras Builtin PythonMethods F J R) → x ≡ no_extras
     → brought_by program_answers x ≡ brought_if flag
 nothing_added flag is x none = ap (brought_by program_answers) none ∙ sym (ap brought_if is)
 
 -- and where the builtins are installed they bring these
-pub builtins_added : {M F J R : Type 0} (flag : Bool) → flag ≡ true → (old new : Extras Builtin M F J R) → old ≡ no_extras
-    → Installs (λ b c. c ≡ b) old new → brought_by program_answers new ≡ brought_if flag
-builtins_added {M} {F} {J} {R} flag is old new none installs =
-    answers_alike program_method_says (λ formatter view v. escapes v) (λ join. keeps_name) new
-    (subst (λ (x : Extras Builtin M F J R). Installs (λ b c. c ≡ b) x new) none installs)
+pub builtins_added : {F J R : Type 0} (flag : Bool) → flag ≡ true → (old new : Extras Builtin PythonMethods F J R) → old ≡ no_extras
+    → Installs (λ b c. c ≡ b) (λ methods m. m ≡ methods) old new → brought_by program_answers new ≡ brought_if flag
+builtins_added {F} {J} {R} flag is old new none installs =
+    answers_alike (λ formatter view v. escapes v) (λ join. keeps_name) new
+    (subst (λ (x : Extras Builtin PythonMethods F J R). Installs (λ b c. c ≡ b) (λ methods m. m ≡ methods) x new) none installs)
     ∙ sym (ap brought_if is)
 
 -- no rule comes with them
-pub rule_added : {M F J R : Type 0} (old new : Extras Builtin M F J R) → old ≡ no_extras → Installs (λ b c. c ≡ b) old new → new.rule ≡ None
-rule_added {M} {F} {J} {R} old new none installs =
-    ap (λ (x : Extras Builtin M F J R). x.rule) installs.others ∙ ap (λ (x : Extras Builtin M F J R). x.rule) none
+pub rule_added : {F J R : Type 0} (old new : Extras Builtin PythonMethods F J R) → old ≡ no_extras
+    → Installs (λ b c. c ≡ b) (λ methods m. m ≡ methods) old new → new.rule ≡ None
+rule_added {F} {J} {R} old new none installs =
+    ap (λ (x : Extras Builtin PythonMethods F J R). x.rule) installs.others
+    ∙ ap (λ (x : Extras Builtin PythonMethods F J R). x.rule) none
 
 -- under what is set to give the escapes, templates are read by the rule of the options
 pub rule_read : (rule : EscapeRule) (name : List ℕ) → rule_for (λ (one : OneEscape) (n : List ℕ). one.escape) ByName (callback_under rule) name ≡ rule_under rule

@@ -1,6 +1,6 @@
 //! What the program brings to the environments of its requests, by its types.
-use template_builtins::Builtin;
-use template_callables::{Extension, NoFormatter, NoJoin, NoMethod};
+use template_builtins::{Builtin, PythonMethods};
+use template_callables::{Extension, NoFormatter, NoJoin};
 use template_machine_surroundings::AutoEscapeRule;
 use template_values_errors::AutoEscape;
 
@@ -10,7 +10,7 @@ pub(crate) struct Program;
 impl Extension for Program {
     type Callable = Builtin;
 
-    type Method = NoMethod;
+    type Method = PythonMethods;
 
     type Formatter = NoFormatter;
 
