@@ -8,7 +8,7 @@ ghost use Rattle.template_program_contexts.specs.Entries.{Say};
 ghost use Rattle.template_values_contexts.specs.Contexts.{fault_of};
 
 use crate::texts::spelled_entries;
-use crate::toml::toml_entries;
+use crate::toml_tables::toml_entries;
 use std::alloc::Global;
 use template_values_contexts::Floats;
 use template_values_core::Entry;

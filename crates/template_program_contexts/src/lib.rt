@@ -7,7 +7,7 @@ mod laws;
 mod numbers;
 mod spelled;
 mod texts;
-mod toml;
+mod toml_tables;
 mod values;
 mod whole;
 

@@ -9,7 +9,7 @@ use Rattle.template_values_json.proofs.Made.{only_memory}
 use Rattle.template_values_json.proofs.Plain.{plain_push}
 use Rattle.template_program_contexts.specs.Toml.{items_fault, members_fault, toml_values}
 use Rattle.template_program_contexts.proofs.EachPart.{all_values, entry_more, part_passes, value_more, within_more}
-use Rattle.template_program_contexts.proofs.toml.+values.Goals as goal
+use Rattle.template_program_contexts.proofs.toml_tables.+values.Goals as goal
 
 pub values_from-returns-clause-are : goal.values_from-returns-clause-are
 values_from-returns-clause-are t c =

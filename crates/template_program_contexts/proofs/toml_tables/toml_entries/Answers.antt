@@ -4,7 +4,7 @@ use Rattle.toml.specs.Data.{table}
 use Rattle.template_values_model.specs.Lookup.{value_at}
 use Rattle.template_program_contexts.specs.Toml.{toml_value}
 use Rattle.template_program_contexts.proofs.EachPart.{toml_said}
-use Rattle.template_program_contexts.proofs.toml.toml_entries.Goals as goal
+use Rattle.template_program_contexts.proofs.toml_tables.toml_entries.Goals as goal
 
 pub returns-clause-says : goal.returns-clause-says
 returns-clause-says c =

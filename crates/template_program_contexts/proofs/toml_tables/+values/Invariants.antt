@@ -7,7 +7,7 @@ use Rattle.template_values_core.specs.Depth.{vals_depth}
 use Rattle.template_values_core.specs.Shape.{pairs_in}
 use Rattle.template_values_json.specs.Entries.{ArePlain}
 use Rattle.template_program_contexts.specs.Toml.{items_fault, members_fault, toml_pairs, toml_values}
-use Rattle.template_program_contexts.proofs.toml.+values.Given as goal
+use Rattle.template_program_contexts.proofs.toml_tables.+values.Given as goal
 
 abbrev pub decreases-value_from : goal.decreases-value_from
 decreases-value_from l = 3 * depth (view l.toml)

@@ -1,6 +1,6 @@
 use Rattle.std.proofs.Common.{inl, inr}
 use Rattle.template_program_contexts.proofs.EachPart.{toml_in_text, no_toml_in}
-use Rattle.template_program_contexts.proofs.toml.read_table.Goals as goal
+use Rattle.template_program_contexts.proofs.toml_tables.read_table.Goals as goal
 
 pub returns-in-Ok-clause-is : goal.returns-in-Ok-clause-is
 returns-in-Ok-clause-is c = toml_in_text _ _ c.in-Ok.ensures.ok.0 c.in-Ok.ensures.ok.1
