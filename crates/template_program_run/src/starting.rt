@@ -23,11 +23,10 @@ use template_program_parts::{DONE, FILE, FileFault, FileSystem, MEMORY, Reader, 
 use template_program_words::{Words, WordsFault, read_words};
 use template_values_errors::{Error, ErrorKind};
 
-/// Runs the program: reads the words, and puts together the syntax that they set; then reads the templates' files (or the input, where no file is named),
-/// then the context's file, and writes what is asked to `out` through a buffer, or to the file that the words name in its
-/// place, and a fault to `fault`
-/// where something is refused: the text of refused words as it is, any other as one line. What cannot be
-/// written there changes nothing.
+/// Runs the program: reads the words, and puts together the syntax that they set; then reads the templates' files (or the
+/// input, where no file is named), then the context's file, and writes what is asked to `out` through a buffer, or to the
+/// file that the words name in its place, and a fault to `fault` where something is refused: the text of refused words as it
+/// is, any other as one line. What cannot be written there changes nothing.
 ///
 /// The status is 0 where all is written, or help or the version was asked for, 1 for a fault of the
 /// render, 2 for words or a syntax that are refused, 3 for a file, 4 for the context, 5 for a template that is refused
