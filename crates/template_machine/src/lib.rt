@@ -18,7 +18,8 @@
 //!
 //! # The main calls
 //!
-//! - [`context_from_json`] gives the context that a JSON object says, and [`Value`] has makers for every other one.
+//! - [`context_from_json`] gives the context that a JSON object says, [`context_from_json_with`] one whose numbers with a fraction
+//!   are texts, and [`Value`] has makers for every other one.
 //! - [`Environment::new`] makes an environment whose globals are the functions `range`, `dict` and `namespace`, and
 //!   [`Environment::empty`] one without globals.
 //! - [`Environment::add_template`] adds a template in the place of one of that name, or refuses it and
@@ -103,6 +104,7 @@ pub use template_machine_surroundings::{
     one_rule,
 };
 pub use template_process::{enough_is_enough, fuel_adds_up, writes_beginning};
+pub use template_values_contexts::{ContextError, Floats, context_from_json_with};
 pub use template_values_core::{Content, Entry, Value};
 pub use template_values_errors::{AutoEscape, Error, ErrorKind, UndefinedBehavior};
 pub use template_values_json::{context_from_json, entries_from_json};
