@@ -1,0 +1,4 @@
+pub mod Cutting
+pub mod Filling
+pub mod Numbers
+pub mod Widths

@@ -1,0 +1,7 @@
+pub mod Answers
+pub mod Choices
+pub mod Formats
+pub mod Layouts
+pub mod Numerals
+pub mod Padding
+pub mod Shown
