@@ -7,6 +7,8 @@ use Rattle.template_values_model.specs.Val as value
 use Rattle.template_values_model.specs.Val.{Val}
 use Rattle.template_callables.specs.Callables.{Stated, View}
 use Rattle.template_builtins_arguments.specs.Answers.{Made, answered}
+use Rattle.template_builtins_fields.specs.Answers.{field_made}
+use Rattle.template_builtins_fields.specs.declared.method.FieldMethod.{FieldMethod}
 use Rattle.template_builtins_pieces.specs.Answers.{piece_made}
 use Rattle.template_builtins_pieces.specs.declared.method.PieceMethod.{PieceMethod}
 use Rattle.template_builtins_methods.specs.Maps.{map_called}
@@ -15,7 +17,7 @@ use Rattle.template_builtins_methods.specs.Texts.{text_called}
 use Rattle.template_builtins_methods.specs.declared.maps.MapMethod.{MapMethod}
 use Rattle.template_builtins_methods.specs.declared.lists.ListMethod.{ListMethod}
 use Rattle.template_builtins_methods.specs.declared.texts.TextMethod.{TextMethod}
-use Rattle.template_builtins_methods.specs.declared.names.TheConstants.{TEXT_METHODS, PIECE_METHODS, MAP_METHODS, LIST_METHODS}
+use Rattle.template_builtins_methods.specs.declared.names.TheConstants.{TEXT_METHODS, PIECE_METHODS, FIELD_METHODS, MAP_METHODS, LIST_METHODS}
 use Rattle.template_builtins_methods.specs.declared.method.PythonMethod.{PythonMethod}
 use Rattle.template_builtins_methods.specs.declared.method.PythonMethod.TheVariants as methods
 use Rattle.template_builtins_methods.specs.declared.method.PythonMethods.{PythonMethods}
@@ -35,15 +37,21 @@ text_method = named (map (λ row. (row.0.now, row.1)) TEXT_METHODS)
 unfoldable pub piece_method : List ℕ → Option PieceMethod
 piece_method = named (map (λ row. (row.0.now, row.1)) PIECE_METHODS)
 
+unfoldable pub field_method : List ℕ → Option FieldMethod
+field_method = named (map (λ row. (row.0.now, row.1)) FIELD_METHODS)
+
 unfoldable pub map_method : List ℕ → Option MapMethod
 map_method = named (map (λ row. (row.0.now, row.1)) MAP_METHODS)
 
 unfoldable pub list_method : List ℕ → Option ListMethod
 list_method = named (map (λ row. (row.0.now, row.1)) LIST_METHODS)
 
--- of texts there are two tables
+-- of texts there are three tables
+abbrev pub method_of_format : List ℕ → Option PythonMethod
+method_of_format name = option_or (option_map methods.Piece (piece_method name)) (option_map methods.Field (field_method name))
+
 abbrev pub method_of_text : List ℕ → Option PythonMethod
-method_of_text name = option_or (option_map methods.Text (text_method name)) (option_map methods.Piece (piece_method name))
+method_of_text name = option_or (option_map methods.Text (text_method name)) (method_of_format name)
 
 -- the method of a name that a value of its kind has
 unfoldable pub method_of : Val → List ℕ → Option PythonMethod
@@ -59,6 +67,7 @@ method_of _ name = None
 abbrev pub called : PythonMethod → View → Val → List Val → Made
 called (methods.Text method) view v vs = text_called method view v vs
 called (methods.Piece method) view v vs = piece_made method view v vs
+called (methods.Field method) view v vs = field_made method view v vs
 called (methods.Map method) view v vs = map_called method view v vs
 called (methods.List method) view v vs = list_called method view v vs
 

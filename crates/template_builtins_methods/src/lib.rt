@@ -19,5 +19,5 @@ mod texts;
 pub use lists::ListMethod;
 pub use maps::MapMethod;
 pub use method::{PythonMethod, PythonMethods};
-pub use names::{LIST_METHODS, MAP_METHODS, PIECE_METHODS, TEXT_METHODS};
+pub use names::{FIELD_METHODS, LIST_METHODS, MAP_METHODS, PIECE_METHODS, TEXT_METHODS};
 pub use texts::TextMethod;

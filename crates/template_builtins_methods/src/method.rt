@@ -6,10 +6,11 @@ ghost use Rattle.template_callables.specs.Views.{seen_in};
 
 use crate::lists::ListMethod;
 use crate::maps::MapMethod;
-use crate::names::{list_method, map_method, piece_method, text_method};
+use crate::names::{field_method, list_method, map_method, piece_method, text_method};
 use crate::texts::TextMethod;
 use std::alloc::Global;
 use template_builtins_arguments::stated;
+use template_builtins_fields::FieldMethod;
 use template_builtins_pieces::PieceMethod;
 use template_callables::{Answer, CallView, Either, UnknownMethod};
 use template_values_core::{Content, Value};
@@ -22,6 +23,8 @@ pub enum PythonMethod {
     Text(TextMethod),
     /// Of a text, which it cuts, pads or joins.
     Piece(PieceMethod),
+    /// Of a text, whose fields it fills in.
+    Field(FieldMethod),
     /// Of a map or a keyword map.
     Map(MapMethod),
     /// Of a list or a tuple.
@@ -48,7 +51,17 @@ impl PythonMethod {
     {
         match text_method(name) {
             Some(method) => Some(PythonMethod::Text(method)),
-            None => Some(PythonMethod::Piece(piece_method(name)?)),
+            None => PythonMethod::of_format(name),
+        }
+    }
+
+    // The method that makes a text of parts, or of fields.
+    fn of_format(name: &str) -> Option<PythonMethod>
+        ensures { result ≡ methods.method_of_format name.now }
+    {
+        match piece_method(name) {
+            Some(method) => Some(PythonMethod::Piece(method)),
+            None => Some(PythonMethod::Field(field_method(name)?)),
         }
     }
 
@@ -56,7 +69,7 @@ impl PythonMethod {
     ///
     /// # Errors
     ///
-    /// Those of [`TextMethod::apply`], [`PieceMethod::apply`], [`MapMethod::apply`] and [`ListMethod::apply`].
+    /// Those of [`TextMethod::apply`], [`PieceMethod::apply`], [`FieldMethod::apply`], [`MapMethod::apply`] and [`ListMethod::apply`].
     pub fn apply(
         self,
         alloc: Global,
@@ -69,6 +82,7 @@ impl PythonMethod {
         match self {
             PythonMethod::Text(method) => method.apply(alloc, view, value, arguments),
             PythonMethod::Piece(method) => method.apply(alloc, view, value, arguments),
+            PythonMethod::Field(method) => method.apply(alloc, view, value, arguments),
             PythonMethod::Map(method) => method.apply(alloc, view, value, arguments),
             PythonMethod::List(method) => method.apply(alloc, view, value, arguments),
         }

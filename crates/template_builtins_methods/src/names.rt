@@ -5,6 +5,7 @@ ghost use Rattle.template_builtins_methods.specs.Methods as methods;
 use crate::lists::ListMethod;
 use crate::maps::MapMethod;
 use crate::texts::TextMethod;
+use template_builtins_fields::FieldMethod;
 use template_builtins_pieces::PieceMethod;
 
 /// The methods of texts under their names.
@@ -48,6 +49,9 @@ pub const PIECE_METHODS: [(&str, PieceMethod); 13] = [
     ("zfill", PieceMethod::ZFill),
 ];
 
+/// The methods that fill fields of texts in, under their names.
+pub const FIELD_METHODS: [(&str, FieldMethod); 1] = [("format", FieldMethod::Format)];
+
 /// The methods of maps and keyword maps under their names.
 pub const MAP_METHODS: [(&str, MapMethod); 4] = [
     ("get", MapMethod::Get),
@@ -74,6 +78,13 @@ pub(crate) fn piece_method(name: &str) -> Option<PieceMethod>
     ensures { result ≡ methods.piece_method name.now }
 {
     look_up(&PIECE_METHODS, name)
+}
+
+#[tactic(auto, unfolding(crate::specs::Methods::field_method))]
+pub(crate) fn field_method(name: &str) -> Option<FieldMethod>
+    ensures { result ≡ methods.field_method name.now }
+{
+    look_up(&FIELD_METHODS, name)
 }
 
 #[tactic(auto, unfolding(crate::specs::Methods::map_method))]
