@@ -22,3 +22,30 @@ pub(crate) fn remove_files(rt: &HostRuntime, files: &Map<String, Json>, out: &mu
         }
     }
 }
+
+/// Tells what stands in the file at a path in the end, and removes it, if it did not stand before.
+pub(crate) fn tell_file(
+    rt: &HostRuntime,
+    path: &str,
+    entries: &Map<String, Json>,
+    out: &mut Report,
+) {
+    match fs::read(rt, path) {
+        Ok(bytes) => {
+            out.tell(", ", &path);
+            out.push_str(" ");
+            out.quoted(bytes.as_slice())
+        }
+        Err(_missing) => out.tell(", no ", &path),
+    }
+    if !stood(path, entries) {
+        let _ = fs::remove_file(rt, path);
+    }
+}
+
+fn stood(path: &str, entries: &Map<String, Json>) -> bool {
+    match entries.get("files") {
+        Some(Json::Object(files)) => files.get(path).is_some(),
+        _ => false,
+    }
+}

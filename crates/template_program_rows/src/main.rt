@@ -7,9 +7,11 @@
 //! - `input`: what the input has, told as that of a file;
 //! - `input_fails`: how the input fails once at its end, `Other`, `Interrupted` or `OutOfMemory`;
 //! - `output_room`: how many bytes the output takes; all, if left out;
-//! - `flush_fails`: how the output fails when it is flushed, as `input_fails`.
+//! - `flush_fails`: how the output fails when it is flushed, as `input_fails`;
+//! - `leaves`: the path of a file that the run is to leave.
 //!
-//! It gives `"text" status N`, and behind it, in quotes too, what was told, where something was. The input gives, and the
+//! It gives `"text" status N`, and behind it, in quotes too, what was told, where something was; and then that file's path
+//! and what it has, or `no` and the path. The input gives, and the
 //! output takes, three bytes in a call at most.
 //!
 //! A request:

@@ -1,4 +1,5 @@
 //! Runs of the program's body, with their inputs and outputs.
+use crate::files::tell_file;
 use crate::report::Report;
 use serde_json::{Map, Value as Json};
 use std::alloc::{AllocError, Global};
@@ -21,10 +22,14 @@ pub(crate) fn about_start(
             "input_fails",
             "output_room",
             "flush_fails",
+            "leaves",
         ],
     );
     let words = out.or(texts_of(rt.alloc(), words), Vec::new(rt.alloc()));
-    start_over(rt, words.as_slice(), entries, out)
+    start_over(rt, words.as_slice(), entries, out);
+    if let Some(Json::String(path)) = entries.get("leaves") {
+        tell_file(rt, path.as_str(), entries, out)
+    }
 }
 
 // A run over the input that the entries tell.
