@@ -9,9 +9,11 @@ use Rattle.clap.specs.declared.error.kind.ErrorKind.TheVariants.{OutOfMemory}
 use Rattle.clap.specs.declared.parser.matches.ArgMatches.{ArgMatches}
 use Rattle.clap.specs.declared.parser.matches.ArgMatches.TheViews.{out-ArgMatches}
 use Rattle.template_values_errors.specs.declared.modes.UndefinedBehavior.{UndefinedBehavior}
+use Rattle.template_program_words.specs.declared.escapes.EscapeWord.{EscapeWord}
+use Rattle.template_program_words.specs.Escapes.{escape_of}
 use Rattle.template_program_words.specs.Modes.{mode_of}
 use Rattle.template_program_words.specs.Reading.{ReadsNumber, is_set, values_of}
-use Rattle.template_program_words.specs.Refusals.{IsWordsFault, IsUsage, NamesNoMode, RefusesWords, RefusesDefinitions, RefusesMode, RefusesRender}
+use Rattle.template_program_words.specs.Refusals.{IsWordsFault, IsUsage, NamesNone, RefusesFor, RefusesWords, RefusesDefinitions, RefusesRender}
 use Rattle.template_program_words.specs.declared.faults.WordsFault.{WordsFault}
 use Rattle.template_program_words.specs.declared.faults.WordsFault.TheVariants.{Memory, Help, Version, Usage, Definition}
 
@@ -67,23 +69,37 @@ RefusesWords-render found rows (Version text) is h = absurd h
 RefusesWords-render found rows (Usage text) is h = inr (refl, inr (rows, is, h))
 RefusesWords-render found rows Definition is h = (refl, (rows, is, h))
 
--- a text for the user is right where no mode has the name
-pub RefusesMode-usage : (rows : List Row) (fault : WordsFault) → IsUsage fault → NamesNoMode rows → RefusesMode rows fault
-RefusesMode-usage rows Memory usage none = tt
-RefusesMode-usage rows (Help text) usage none = absurd usage
-RefusesMode-usage rows (Version text) usage none = absurd usage
-RefusesMode-usage rows (Usage text) usage none = none
-RefusesMode-usage rows Definition usage none = absurd usage
+-- a text for the user is right for a reason
+pub RefusesFor-usage : (Reason : Type 0) (fault : WordsFault) → IsUsage fault → Reason → RefusesFor Reason fault
+RefusesFor-usage Reason Memory usage reason = tt
+RefusesFor-usage Reason (Help text) usage reason = absurd usage
+RefusesFor-usage Reason (Version text) usage reason = absurd usage
+RefusesFor-usage Reason (Usage text) usage reason = reason
+RefusesFor-usage Reason Definition usage reason = absurd usage
 
--- and so is a definition with no `=` where a mode has it
-pub RefusesRender-definitions : (rows : List Row) (mode : UndefinedBehavior) (fault : WordsFault)
-    → mode_of (first_of (codes "undefined") rows) ≡ Some mode
+-- and behind `render` where an option has a value that is none
+pub RefusesRender-none : (Reason : Type 0) (rows : List Row) (fault : WordsFault) → (Reason → NamesNone rows)
+    → RefusesFor Reason fault → RefusesRender rows fault
+RefusesRender-none Reason rows Memory is h = tt
+RefusesRender-none Reason rows (Help text) is h = absurd h
+RefusesRender-none Reason rows (Version text) is h = absurd h
+RefusesRender-none Reason rows (Usage text) is h = is h
+RefusesRender-none Reason rows Definition is h = absurd h
+
+-- an option has a value that is one of those that it takes
+pub names_some : (rows : List Row) (mode : UndefinedBehavior) (escape : EscapeWord)
+    → mode_of (first_of (codes "undefined") rows) ≡ Some mode → escape_of (first_of (codes "autoescape") rows) ≡ Some escape
+    → ¬ (NamesNone rows)
+names_some rows mode escape mode_is escape_is = λ none. elim none [ inl n ↦ cc | inr n ↦ cc ]
+
+-- and a definition with no `=` is refused where each option has such a value
+pub RefusesRender-definitions : (rows : List Row) (fault : WordsFault) → ¬ (NamesNone rows)
     → RefusesDefinitions (values_of (codes "definition") rows) fault → RefusesRender rows fault
-RefusesRender-definitions rows mode Memory named h = tt
-RefusesRender-definitions rows mode (Help text) named h = absurd h
-RefusesRender-definitions rows mode (Version text) named h = absurd h
-RefusesRender-definitions rows mode (Usage text) named h = absurd h
-RefusesRender-definitions rows mode Definition named h = ((λ none. cc), h)
+RefusesRender-definitions rows Memory some h = tt
+RefusesRender-definitions rows (Help text) some h = absurd h
+RefusesRender-definitions rows (Version text) some h = absurd h
+RefusesRender-definitions rows (Usage text) some h = absurd h
+RefusesRender-definitions rows Definition some h = (some, h)
 
 -- an error of one of these kinds is refused
 pub RefusesWords-kind : (kinds : Kinds) (found : Option (List ℕ × List Row)) (kind : ErrorKind) (fault : WordsFault)

@@ -7,6 +7,11 @@ use Rattle.clap.specs.declared.builder.command.Command.{Command}
 use Rattle.clap.specs.declared.builder.command.Command.TheViews.{out-Command}
 use Rattle.template_program_words.specs.CommandLine.{with_rules}
 
+-- this command describes this app, and no argument of it is global
+pub record Describes (command : Command) (app : App) : Type 0 where
+  pub is : app_of command ≡ app
+  pub local : (out-Command command).has_globals ≡ false
+
 -- `arg`
 pub app_of-arg : (old : Command) (arg : Arg) (new : Command) (app : App) (rule : Rule) → AddsArg old arg new
     → app_of old ≡ app → rule_of arg ≡ rule → arg.global ≡ false → app_of new ≡ with_rule app rule
@@ -32,6 +37,14 @@ is_local-args old (a ∷ args) new (middle, first, adds) before local =
     is_local-args middle args new adds
     (is_local-arg old a middle first before (All-head (λ a. a.global ≡ false) a args local))
     (All-tail (λ a. a.global ≡ false) a args local)
+
+pub Describes-args : (old : Command) (args : List Arg) (new : Command) (app : App) (rules : List Rule)
+    → AddsInTurn AddsArg old args new → Describes old app → map rule_of args ≡ rules → All (λ a. a.global ≡ false) args
+    → Describes new (with_rules app rules)
+Describes-args old args new app rules adds before are local = record {
+  is = app_of-args old args new app adds before.is local ∙ ap (with_rules app) are;
+  local = is_local-args old args new adds before.local local;
+}
 
 -- `subcommand`
 pub app_of-subcommand : (old below new : Command) (app inner : App) → AddsSubcommand old below new

@@ -1,6 +1,7 @@
--- The command line, in the words in which `clap` describes one: `names [--builtins] [--main NAME] [FILE...]` and
--- `render [--context FILE] [-D NAME=TEXT]... [--fuel N] [--limit N] [--undefined MODE] [--builtins] [--main NAME] [FILE...]`.
-use Rattle.std.specs.Prelude.{ℕ, List, [], ◌∷◌, Some, codes, pos, true}
+-- The command line, in the words in which `clap` describes one: `names [--builtins] [--main NAME] [SYNTAX] [FILE...]` and
+-- `render [--context FILE] [-D NAME=TEXT]... [--fuel N] [--limit N] [--undefined MODE] [--builtins] [--main NAME]
+-- [--autoescape FORMAT] [SYNTAX] [FILE...]`.
+use Rattle.std.specs.Prelude.{ℕ, List, [], ◌∷◌, Some, codes, map, pos, true}
 use Rattle.clap.specs.Lexer.{usize_max}
 use Rattle.clap.specs.Words.{App, Rule, new_app, new_rule, with_rule, with_subcommand}
 use Rattle.clap.specs.declared.builder.action.ArgAction.TheVariants.{Append, SetTrue}
@@ -10,9 +11,17 @@ use Rattle.clap.specs.declared.builder.value_parser.ValueParser.TheVariants.{Sig
 abbrev pub taking_value : List ℕ → Rule
 taking_value id = record (new_rule id) { value_names = 1 }
 
+-- `--NAME TEXT`, once at most
+abbrev pub text_option : List ℕ → Rule
+text_option name = record (new_rule name) { long = Some name; value_names = 1 }
+
+-- `--NAME`, once at most, without a value
+abbrev pub flag_option : List ℕ → Rule
+flag_option name = record (new_rule name) { long = Some name; action = Some SetTrue }
+
 -- `--context FILE`, once at most
 abbrev pub context_option : Rule
-context_option = record (new_rule (codes "context")) { long = Some (codes "context"); value_names = 1 }
+context_option = text_option (codes "context")
 
 -- `-D NAME=TEXT`, any number of times
 abbrev pub definition_option : Rule
@@ -37,15 +46,28 @@ limit_option = record (new_rule (codes "limit")) {
 
 -- `--undefined MODE`, once at most
 abbrev pub undefined_option : Rule
-undefined_option = record (new_rule (codes "undefined")) { long = Some (codes "undefined"); value_names = 1 }
+undefined_option = text_option (codes "undefined")
 
 -- `--builtins`, once at most, without a value
 abbrev pub builtins_option : Rule
-builtins_option = record (new_rule (codes "builtins")) { long = Some (codes "builtins"); action = Some SetTrue }
+builtins_option = flag_option (codes "builtins")
 
 -- `--main NAME`, once at most
 abbrev pub main_option : Rule
-main_option = record (new_rule (codes "main")) { long = Some (codes "main"); value_names = 1 }
+main_option = text_option (codes "main")
+
+-- `--autoescape FORMAT`, once at most
+abbrev pub autoescape_option : Rule
+autoescape_option = text_option (codes "autoescape")
+
+-- the flags of the syntax
+abbrev pub syntax_flags : List Rule
+syntax_flags = map flag_option (codes "trim-blocks" ∷ codes "lstrip-blocks" ∷ codes "keep-trailing-newline" ∷ [])
+
+-- the prefixes and the delimiters of the syntax
+abbrev pub syntax_texts : List Rule
+syntax_texts = map text_option (codes "line-statement" ∷ codes "line-comment" ∷ codes "block-start" ∷ codes "block-end"
+    ∷ codes "variable-start" ∷ codes "variable-end" ∷ codes "comment-start" ∷ codes "comment-end" ∷ [])
 
 -- `FILE...`, none or more
 abbrev pub files_argument : Rule
@@ -64,11 +86,22 @@ abbrev pub render_rules : List Rule
 render_rules = context_option ∷ definition_option ∷ fuel_option ∷ limit_option ∷ undefined_option ∷ builtins_option
     ∷ main_option ∷ files_argument ∷ []
 
+-- how values are printed
+abbrev pub value_rules : List Rule
+value_rules = autoescape_option ∷ []
+
+abbrev pub names_rules : List Rule
+names_rules = builtins_option ∷ main_option ∷ files_argument ∷ []
+
+-- an app that takes the words of the syntax too
+abbrev pub with_syntax : App → App
+with_syntax app = with_rules (with_rules app syntax_flags) syntax_texts
+
 abbrev pub render_command : App
-render_command = with_rules (new_app (codes "render")) render_rules
+render_command = with_syntax (with_rules (with_rules (new_app (codes "render")) render_rules) value_rules)
 
 abbrev pub names_command : App
-names_command = with_rule (with_rule (with_rule (new_app (codes "names")) builtins_option) main_option) files_argument
+names_command = with_syntax (with_rules (new_app (codes "names")) names_rules)
 
 -- the program's own name is not among the words, one of the commands has to be, and the version is told
 abbrev pub bare_program : App

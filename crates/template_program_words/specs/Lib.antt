@@ -1,5 +1,6 @@
 pub mod Definitions
 pub mod CommandLine
 pub mod Modes
+pub mod Escapes
 pub mod Reading
 pub mod Refusals

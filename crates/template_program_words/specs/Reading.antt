@@ -1,11 +1,14 @@
 -- What the words ask for, by what `clap` finds in them.
 use Rattle.std.specs.Prelude.{◌≡◌, ◌<◌, ◌^◌, ℕ, Bool, false, List, [], map, codes, Option, None, Some, unwrap_or, option_map, All, Contains, bytes_eq}
+use Rattle.std.specs.Borrow.{Bor}
 use Rattle.std.specs.Option.{SomeIff}
 use Rattle.std.specs.Str.Parse.{IsNumeral, digits_value, without_leading_plus}
 use Rattle.clap.specs.Words.{Row, all_of, first_of, one_of}
 use Rattle.template_program_words.specs.Definitions.{equals_sign, definition_name, definition_text}
+use Rattle.template_program_words.specs.Escapes.{escape_of}
 use Rattle.template_program_words.specs.Modes.{mode_of}
 use Rattle.template_program_words.specs.declared.definitions.Definition.{Definition}
+use Rattle.template_program_words.specs.declared.syntax.SyntaxWords.{SyntaxWords}
 use Rattle.template_program_words.specs.declared.words.NamesWords.{NamesWords}
 use Rattle.template_program_words.specs.declared.words.RenderWords.{RenderWords}
 use Rattle.template_program_words.specs.declared.words.Words.{Words}
@@ -47,21 +50,46 @@ abbrev pub is_set : Option (List ℕ) → Bool
 is_set None = false
 is_set (Some text) = bytes_eq text (codes "true")
 
+-- the flag of this name is set
+abbrev pub has_flag : List ℕ → List Row → Bool
+has_flag name rows = is_set (one_of name rows)
+
+-- the text of the option of this name
+abbrev pub ReadsText : List ℕ → List Row → Option (Bor (List ℕ)) → Type 0
+ReadsText name rows read = option_map (λ text. text.now) read ≡ first_of name rows
+
+-- the words of the syntax
+pub record ReadsSyntax (rows : List Row) (read : SyntaxWords) : Type 0 where
+  pub trim_blocks : read.trim_blocks ≡ has_flag (codes "trim-blocks") rows
+  pub lstrip_blocks : read.lstrip_blocks ≡ has_flag (codes "lstrip-blocks") rows
+  pub keep_trailing_newline : read.keep_trailing_newline ≡ has_flag (codes "keep-trailing-newline") rows
+  pub line_statement : ReadsText (codes "line-statement") rows read.line_statement
+  pub line_comment : ReadsText (codes "line-comment") rows read.line_comment
+  pub block_start : ReadsText (codes "block-start") rows read.block_start
+  pub block_end : ReadsText (codes "block-end") rows read.block_end
+  pub variable_start : ReadsText (codes "variable-start") rows read.variable_start
+  pub variable_end : ReadsText (codes "variable-end") rows read.variable_end
+  pub comment_start : ReadsText (codes "comment-start") rows read.comment_start
+  pub comment_end : ReadsText (codes "comment-end") rows read.comment_end
+
 -- the words behind `render`
 pub record ReadsRender (rows : List Row) (read : RenderWords) : Type 0 where
-  pub context : option_map (λ path. path.now) read.context ≡ first_of (codes "context") rows
+  pub context : ReadsText (codes "context") rows read.context
   pub definitions : Defines (values_of (codes "definition") rows) read.definitions.items
   pub fuel : ReadsNumber 64 (one_of (codes "fuel") rows) read.fuel
   pub limit : ReadsLimit (one_of (codes "limit") rows) read.limit
   pub undefined : mode_of (first_of (codes "undefined") rows) ≡ Some read.undefined
-  pub builtins : read.builtins ≡ is_set (one_of (codes "builtins") rows)
-  pub main : option_map (λ name. name.now) read.main ≡ first_of (codes "main") rows
+  pub autoescape : escape_of (first_of (codes "autoescape") rows) ≡ Some read.autoescape
+  pub builtins : read.builtins ≡ has_flag (codes "builtins") rows
+  pub syntax : ReadsSyntax rows read.syntax
+  pub main : ReadsText (codes "main") rows read.main
   pub files : map (λ path. path.now) read.files.items ≡ values_of (codes "files") rows
 
 -- the words behind `names`
 pub record ReadsNames (rows : List Row) (read : NamesWords) : Type 0 where
-  pub builtins : read.builtins ≡ is_set (one_of (codes "builtins") rows)
-  pub main : option_map (λ name. name.now) read.main ≡ first_of (codes "main") rows
+  pub builtins : read.builtins ≡ has_flag (codes "builtins") rows
+  pub syntax : ReadsSyntax rows read.syntax
+  pub main : ReadsText (codes "main") rows read.main
   pub files : map (λ path. path.now) read.files.items ≡ values_of (codes "files") rows
 
 -- the command that was found, and the words behind it

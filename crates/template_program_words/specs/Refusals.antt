@@ -5,6 +5,7 @@ use Rattle.clap.specs.Words.{IsAmong, Kinds, Row, first_of}
 use Rattle.clap.specs.declared.error.kind.ErrorKind.{ErrorKind}
 use Rattle.clap.specs.declared.error.kind.ErrorKind.TheVariants.{DisplayHelp, DisplayVersion, OutOfMemory}
 use Rattle.template_program_words.specs.Definitions.{equals_sign}
+use Rattle.template_program_words.specs.Escapes.{escape_of}
 use Rattle.template_program_words.specs.Modes.{mode_of}
 use Rattle.template_program_words.specs.Reading.{values_of}
 use Rattle.template_program_words.specs.declared.faults.WordsFault.{WordsFault}
@@ -41,18 +42,27 @@ FindsNone found = (option_map (λ f. f.0) found ≢ Some (codes "render"))
 abbrev pub NamesNoMode : List Row → Type 0
 NamesNoMode rows = mode_of (first_of (codes "undefined") rows) ≡ None
 
-abbrev pub RefusesMode : List Row → WordsFault → Type 0
-RefusesMode rows Memory = ⊤
-RefusesMode rows (Usage text) = NamesNoMode rows
-RefusesMode rows fault = ⊥
+-- values are escaped in no way of this name
+abbrev pub NamesNoEscape : List Row → Type 0
+NamesNoEscape rows = escape_of (first_of (codes "autoescape") rows) ≡ None
 
--- the words behind `render`, that `clap` takes: a mode that is none comes first, and then a definition with no `=`
+-- an option has a value that is none of those that it takes
+abbrev pub NamesNone : List Row → Type 0
+NamesNone rows = NamesNoMode rows ⊎ NamesNoEscape rows
+
+-- a text for the user, for this reason
+abbrev pub RefusesFor : Type 0 → WordsFault → Type 0
+RefusesFor Reason Memory = ⊤
+RefusesFor Reason (Usage text) = Reason
+RefusesFor Reason fault = ⊥
+
+-- the words behind `render`, that `clap` takes: a value that is none comes first, and then a definition with no `=`
 abbrev pub RefusesRender : List Row → WordsFault → Type 0
 RefusesRender rows Memory = ⊤
 RefusesRender rows (Help text) = ⊥
 RefusesRender rows (Version text) = ⊥
-RefusesRender rows (Usage text) = NamesNoMode rows
-RefusesRender rows Definition = ¬ (NamesNoMode rows) × LacksSign (values_of (codes "definition") rows)
+RefusesRender rows (Usage text) = NamesNone rows
+RefusesRender rows Definition = ¬ (NamesNone rows) × LacksSign (values_of (codes "definition") rows)
 
 -- the words that `clap` takes
 abbrev pub RefusesFound : Option (List ℕ × List Row) → WordsFault → Type 0

@@ -55,13 +55,14 @@ pub(crate) fn fault_from(alloc: Global, error: &clap::Error) -> WordsFault
     }
 }
 
-/// The fault where no mode has this name, in the words in which `clap` refuses a value.
-pub(crate) fn unknown_mode(alloc: Global, name: &str) -> WordsFault
+/// The fault where an option, as `--undefined <MODE>`, takes none but the possible values, in the words in which
+/// `clap` refuses a value.
+pub(crate) fn unknown_value(alloc: Global, value: &str, option: &str, possible: &str) -> WordsFault
     ensures { IsUsage result }
 {
     let text = format!(in alloc;
-        "error: invalid value '{name}' for '--undefined <MODE>'\n  \
-         [possible values: lenient, chainable, semistrict, strict]\n\n\
+        "error: invalid value '{value}' for '{option}'\n  \
+         [possible values: {possible}]\n\n\
          For more information, try '--help'.\n"
     );
     match text {

@@ -1,18 +1,17 @@
 //! What `clap` found in the words.
 ghost use Rattle.std.specs.Prelude.{◌≡◌, [], Some, codes, map, IfErr, IfOk};
-ghost use Rattle.clap.specs.Words.{first_of, found_of, one_of, rows_of, subcommand_rows_of};
-ghost use Rattle.template_program_words.specs.Modes.{mode_of};
-ghost use Rattle.template_program_words.specs.Reading.{Defines, ReadsWords, is_set, values_of};
-ghost use Rattle.template_program_words.specs.Refusals.{RefusesWords, RefusesDefinitions, RefusesMode, RefusesRender};
+ghost use Rattle.clap.specs.Words.{found_of, rows_of, subcommand_rows_of};
+ghost use Rattle.template_program_words.specs.Reading.{Defines, ReadsText, ReadsWords, has_flag, values_of};
+ghost use Rattle.template_program_words.specs.Refusals.{RefusesWords, RefusesDefinitions, RefusesRender};
 ghost use Rattle.template_program_words.specs.declared.faults.WordsFault.TheVariants.{Memory};
 
+use crate::choices::{escape_in, undefined_in};
 use crate::definitions::{Definition, split_definition};
-use crate::faults::{WordsFault, unknown_mode};
-use crate::modes::mode_named;
+use crate::faults::WordsFault;
+use crate::syntax::syntax_words;
 use crate::words::{NamesWords, RenderWords, Words};
 use clap::ArgMatches;
 use std::alloc::{AllocError, Global};
-use template_values_errors::UndefinedBehavior;
 
 /// How deep a render may be where no word says it.
 const DEFAULT_LIMIT: u16 = 500;
@@ -38,30 +37,19 @@ fn render_words<'a>(alloc: Global, matches: &ArgMatches<'a>) -> Result<Words<'a>
     ensures refuses { IfErr result (RefusesRender (rows_of (found_of matches.now))) }
 {
     let undefined = undefined_in(alloc, matches)?;
-    let definitions = values(alloc, matches, "definition")?;
+    let autoescape = escape_in(alloc, matches)?;
     Ok(Words::Render(RenderWords {
-        context: matches.get_str("context"),
-        definitions: definitions_in(alloc, definitions.as_slice())?,
+        context: text(matches, "context"),
+        definitions: definitions(alloc, matches, "definition")?,
         fuel: matches.get_one::<u64>("fuel"),
         limit: matches.get_one::<u16>("limit").unwrap_or(DEFAULT_LIMIT),
         undefined,
+        autoescape,
         builtins: is_flagged(matches, "builtins"),
-        main: matches.get_str("main"),
+        syntax: syntax_words(matches),
+        main: text(matches, "main"),
         files: values(alloc, matches, "files")?,
     }))
-}
-
-fn undefined_in(alloc: Global, matches: &ArgMatches<'_>) -> Result<UndefinedBehavior, WordsFault>
-    ensures reads { IfOk result (λ mode. mode_of (first_of (codes "undefined") (rows_of (found_of matches.now))) ≡ Some mode) }
-    ensures refuses { IfErr result (RefusesMode (rows_of (found_of matches.now))) }
-{
-    let Some(name) = matches.get_str("undefined") else {
-        return Ok(UndefinedBehavior::Lenient);
-    };
-    match mode_named(name) {
-        Some(mode) => Ok(mode),
-        None => Err(unknown_mode(alloc, name)),
-    }
 }
 
 fn names_words<'a>(alloc: Global, matches: &ArgMatches<'a>) -> Result<Words<'a>, WordsFault>
@@ -70,16 +58,24 @@ fn names_words<'a>(alloc: Global, matches: &ArgMatches<'a>) -> Result<Words<'a>,
 {
     Ok(Words::Names(NamesWords {
         builtins: is_flagged(matches, "builtins"),
-        main: matches.get_str("main"),
+        syntax: syntax_words(matches),
+        main: text(matches, "main"),
         files: values(alloc, matches, "files")?,
     }))
 }
 
 /// Is this flag set?
-fn is_flagged(matches: &ArgMatches<'_>, id: &str) -> bool
-    ensures { result ≡ is_set (one_of id.now (rows_of (found_of matches.now))) }
+pub(crate) fn is_flagged(matches: &ArgMatches<'_>, id: &str) -> bool
+    ensures { result ≡ has_flag id.now (rows_of (found_of matches.now)) }
 {
     matches.get_one::<bool>(id).unwrap_or(false)
+}
+
+/// The text of `id`.
+pub(crate) fn text<'a>(matches: &ArgMatches<'a>, id: &str) -> Option<&'a str>
+    ensures { ReadsText id.now (rows_of (found_of matches.now)) result }
+{
+    matches.get_str(id)
 }
 
 /// All values of `id`.
@@ -88,6 +84,19 @@ fn values<'a>(alloc: Global, matches: &ArgMatches<'a>, id: &str) -> Result<Vec<&
         ≡ values_of id.now (rows_of (found_of matches.now))) }
 {
     Vec::from_slice(alloc, matches.get_strs(id).unwrap_or(&[]))
+}
+
+/// All values of `id`, as definitions.
+fn definitions<'a>(
+    alloc: Global,
+    matches: &ArgMatches<'a>,
+    id: &str,
+) -> Result<Vec<Definition<'a>>, WordsFault>
+    ensures defines { IfOk result (λ definitions. Defines (values_of id.now (rows_of (found_of matches.now))) definitions.items) }
+    ensures refuses { IfErr result (RefusesDefinitions (values_of id.now (rows_of (found_of matches.now)))) }
+{
+    let words = values(alloc, matches, id)?;
+    definitions_in(alloc, words.as_slice())
 }
 
 fn definitions_in<'a>(alloc: Global, words: &[&'a str]) -> Result<Vec<Definition<'a>>, WordsFault>

@@ -4,6 +4,8 @@ ghost use Rattle.clap.specs.Words.{app_of, rule_of};
 ghost use Rattle.clap.specs.declared.builder.command.Command.TheViews.{out-Command};
 ghost use Rattle.template_program_words.specs.CommandLine as line;
 
+use crate::syntax_options::{syntax_flags, syntax_texts};
+use crate::value_options::value_arguments;
 use clap::{Arg, ArgAction, Command, value_parser};
 use std::alloc::{AllocError, Global};
 
@@ -40,14 +42,18 @@ fn bare_program<'a>(alloc: Global) -> Result<Command<'a>, AllocError>
         .bin_name("template")
 }
 
-/// `render [--context FILE] [-D NAME=TEXT]... [--fuel N] [--limit N] [--undefined MODE] [--builtins] [--main NAME] [FILE...]`
+/// `render [--context FILE] [-D NAME=TEXT]... [--fuel N] [--limit N] [--undefined MODE] [--builtins] [--main NAME]
+/// [--autoescape FORMAT] [SYNTAX] [FILE...]`
 fn render<'a>(alloc: Global) -> Result<Command<'a>, AllocError>
     ensures app { IfOk result (λ command. app_of command ≡ line.render_command) }
     ensures local { IfOk result (λ command. (out-Command command).has_globals ≡ false) }
 {
     Command::new(alloc, "render")
         .about("Renders the main template to standard output")
-        .args(render_arguments(alloc)?)
+        .args(render_arguments(alloc)?)?
+        .args(value_arguments(alloc)?)?
+        .args(syntax_flags(alloc)?)?
+        .args(syntax_texts(alloc)?)
 }
 
 fn render_arguments<'a>(alloc: Global) -> Result<Vec<Arg<'a>>, AllocError>
@@ -66,16 +72,23 @@ fn render_arguments<'a>(alloc: Global) -> Result<Vec<Arg<'a>>, AllocError>
     ]?)
 }
 
-/// `names [--builtins] [--main NAME] [FILE...]`
+/// `names [--builtins] [--main NAME] [SYNTAX] [FILE...]`
 fn names<'a>(alloc: Global) -> Result<Command<'a>, AllocError>
     ensures app { IfOk result (λ command. app_of command ≡ line.names_command) }
     ensures local { IfOk result (λ command. (out-Command command).has_globals ≡ false) }
 {
     Command::new(alloc, "names")
         .about("Prints the names of a context that can matter to the main template, one a line")
-        .arg(builtins(alloc))?
-        .arg(main(alloc))?
-        .arg(files(alloc))
+        .args(names_arguments(alloc)?)?
+        .args(syntax_flags(alloc)?)?
+        .args(syntax_texts(alloc)?)
+}
+
+fn names_arguments<'a>(alloc: Global) -> Result<Vec<Arg<'a>>, AllocError>
+    ensures rules { IfOk result (λ arguments. map rule_of arguments.items ≡ line.names_rules) }
+    ensures local { IfOk result (λ arguments. All (λ a. a.global ≡ false) arguments.items) }
+{
+    Ok(vec![in alloc; builtins(alloc), main(alloc), files(alloc)]?)
 }
 
 // An argument with a value, of this name in help.
@@ -86,12 +99,36 @@ fn taking<'a>(alloc: Global, id: &'a str, value: &'a str, help: &'a str) -> Arg<
     Arg::new(alloc, id).value_name(value).help(help)
 }
 
+/// An option with a text, of this name in help.
+pub(crate) fn text_option<'a>(
+    alloc: Global,
+    name: &'a str,
+    value: &'a str,
+    help: &'a str,
+) -> Arg<'a>
+    ensures rule { rule_of result ≡ line.text_option name.entry.now }
+    ensures local { result.global ≡ false }
+{
+    taking(alloc, name, value, help).long(name)
+}
+
+/// A flag.
+pub(crate) fn flag_option<'a>(alloc: Global, name: &'a str, help: &'a str) -> Arg<'a>
+    ensures rule { rule_of result ≡ line.flag_option name.entry.now }
+    ensures local { result.global ≡ false }
+{
+    Arg::new(alloc, name)
+        .long(name)
+        .help(help)
+        .action(ArgAction::SetTrue)
+}
+
 fn context<'a>(alloc: Global) -> Arg<'a>
     ensures rule { rule_of result ≡ line.context_option }
     ensures local { result.global ≡ false }
 {
     let help = "The context: a file that holds a JSON object; an empty one if not given";
-    taking(alloc, "context", "FILE", help).long("context")
+    text_option(alloc, "context", "FILE", help)
 }
 
 fn definition<'a>(alloc: Global) -> Arg<'a>
@@ -132,17 +169,15 @@ fn undefined<'a>(alloc: Global) -> Arg<'a>
 {
     let help =
         "What may be done with undefined values: lenient (if not given), chainable, semistrict or strict";
-    taking(alloc, "undefined", "MODE", help).long("undefined")
+    text_option(alloc, "undefined", "MODE", help)
 }
 
 fn builtins<'a>(alloc: Global) -> Arg<'a>
     ensures rule { rule_of result ≡ line.builtins_option }
     ensures local { result.global ≡ false }
 {
-    Arg::new(alloc, "builtins")
-        .long("builtins")
-        .help("Templates have the builtin filters and tests; none if not given")
-        .action(ArgAction::SetTrue)
+    let help = "Templates have the builtin filters and tests; none if not given";
+    flag_option(alloc, "builtins", help)
 }
 
 fn main<'a>(alloc: Global) -> Arg<'a>
@@ -150,7 +185,7 @@ fn main<'a>(alloc: Global) -> Arg<'a>
     ensures local { result.global ≡ false }
 {
     let help = "The name of the main template, in place of the first";
-    taking(alloc, "main", "NAME", help).long("main")
+    text_option(alloc, "main", "NAME", help)
 }
 
 fn files<'a>(alloc: Global) -> Arg<'a>

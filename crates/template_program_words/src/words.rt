@@ -1,5 +1,7 @@
 //! The types of what the words ask for.
 use crate::definitions::Definition;
+use crate::escapes::EscapeWord;
+use crate::syntax::SyntaxWords;
 use template_values_errors::UndefinedBehavior;
 
 /// What the words ask for.
@@ -24,8 +26,12 @@ pub struct RenderWords<'a> {
     pub limit: u16,
     /// What may be done with undefined values: lenient where no word says it.
     pub undefined: UndefinedBehavior,
+    /// How values are escaped: as the template's name says where no word says it.
+    pub autoescape: EscapeWord,
     /// Whether templates have the builtins.
     pub builtins: bool,
+    /// The syntax of the templates.
+    pub syntax: SyntaxWords<'a>,
     /// The name of the main template.
     pub main: Option<&'a str>,
     /// The paths of the templates, in the order of the words.
@@ -37,6 +43,8 @@ pub struct RenderWords<'a> {
 pub struct NamesWords<'a> {
     /// Whether templates have the builtins.
     pub builtins: bool,
+    /// The syntax of the templates.
+    pub syntax: SyntaxWords<'a>,
     /// The name of the main template.
     pub main: Option<&'a str>,
     /// The paths of the templates, in the order of the words.
