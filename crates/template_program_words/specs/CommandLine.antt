@@ -1,5 +1,5 @@
--- The command line, in the words in which `clap` describes one: `names [--builtins] [--main NAME] [SYNTAX] [FILE...]` and
--- `render [--context FILE] [-D NAME=TEXT]... [--fuel N] [--limit N] [--undefined MODE] [--builtins] [--main NAME]
+-- The command line, in the words in which `clap` describes one: `names [--builtins] [--main NAME] [-o FILE] [SYNTAX] [FILE...]`
+-- and `render [--context FILE] [-D NAME=TEXT]... [--fuel N] [--limit N] [--undefined MODE] [--builtins] [--main NAME] [-o FILE]
 -- [--data FILE]... [--json NAME=JSON]... [--floats FORM] [--autoescape FORMAT] [SYNTAX] [FILE...]`.
 use Rattle.std.specs.Prelude.{ℕ, List, [], ◌∷◌, Some, codes, map, pos, true}
 use Rattle.clap.specs.Lexer.{usize_max}
@@ -85,6 +85,10 @@ abbrev pub syntax_texts : List Rule
 syntax_texts = map text_option (codes "line-statement" ∷ codes "line-comment" ∷ codes "block-start" ∷ codes "block-end"
     ∷ codes "variable-start" ∷ codes "variable-end" ∷ codes "comment-start" ∷ codes "comment-end" ∷ [])
 
+-- `--output FILE` or `-o FILE`, once at most
+abbrev pub output_option : Rule
+output_option = record (text_option (codes "output")) { short = Some 111 }
+
 -- `FILE...`, none or more
 abbrev pub files_argument : Rule
 files_argument = record (new_rule (codes "files")) {
@@ -100,14 +104,14 @@ with_rules app (rule ∷ rules) = with_rules (with_rule app rule) rules
 
 abbrev pub render_rules : List Rule
 render_rules = context_option ∷ definition_option ∷ fuel_option ∷ limit_option ∷ undefined_option ∷ builtins_option
-    ∷ main_option ∷ files_argument ∷ []
+    ∷ main_option ∷ output_option ∷ files_argument ∷ []
 
 -- the words on values
 abbrev pub value_rules : List Rule
 value_rules = data_option ∷ json_option ∷ floats_option ∷ autoescape_option ∷ []
 
 abbrev pub names_rules : List Rule
-names_rules = builtins_option ∷ main_option ∷ files_argument ∷ []
+names_rules = builtins_option ∷ main_option ∷ output_option ∷ files_argument ∷ []
 
 -- an app that takes the words of the syntax too
 abbrev pub with_syntax : App → App

@@ -87,6 +87,7 @@ pub record ReadsRender (rows : List Row) (read : RenderWords) : Type 0 where
   pub builtins : read.builtins ≡ has_flag (codes "builtins") rows
   pub syntax : ReadsSyntax rows read.syntax
   pub main : ReadsText (codes "main") rows read.main
+  pub output : ReadsText (codes "output") rows read.output
   pub files : map (λ path. path.now) read.files.items ≡ values_of (codes "files") rows
 
 -- the words behind `names`
@@ -94,6 +95,7 @@ pub record ReadsNames (rows : List Row) (read : NamesWords) : Type 0 where
   pub builtins : read.builtins ≡ has_flag (codes "builtins") rows
   pub syntax : ReadsSyntax rows read.syntax
   pub main : ReadsText (codes "main") rows read.main
+  pub output : ReadsText (codes "output") rows read.output
   pub files : map (λ path. path.now) read.files.items ≡ values_of (codes "files") rows
 
 -- the command that was found, and the words behind it

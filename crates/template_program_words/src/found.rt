@@ -52,6 +52,7 @@ fn render_words<'a>(alloc: Global, matches: &ArgMatches<'a>) -> Result<Words<'a>
         builtins: is_flagged(matches, "builtins"),
         syntax: syntax_words(matches),
         main: text(matches, "main"),
+        output: text(matches, "output"),
         files: values(alloc, matches, "files")?,
     }))
 }
@@ -64,6 +65,7 @@ fn names_words<'a>(alloc: Global, matches: &ArgMatches<'a>) -> Result<Words<'a>,
         builtins: is_flagged(matches, "builtins"),
         syntax: syntax_words(matches),
         main: text(matches, "main"),
+        output: text(matches, "output"),
         files: values(alloc, matches, "files")?,
     }))
 }

@@ -42,7 +42,7 @@ fn bare_program<'a>(alloc: Global) -> Result<Command<'a>, AllocError>
         .bin_name("template")
 }
 
-/// `render [--context FILE] [-D NAME=TEXT]... [--fuel N] [--limit N] [--undefined MODE] [--builtins] [--main NAME]
+/// `render [--context FILE] [-D NAME=TEXT]... [--fuel N] [--limit N] [--undefined MODE] [--builtins] [--main NAME] [-o FILE]
 /// [--data FILE]... [--json NAME=JSON]... [--floats FORM] [--autoescape FORMAT] [SYNTAX] [FILE...]`
 fn render<'a>(alloc: Global) -> Result<Command<'a>, AllocError>
     ensures app { IfOk result (λ command. app_of command ≡ line.render_command) }
@@ -68,11 +68,12 @@ fn render_arguments<'a>(alloc: Global) -> Result<Vec<Arg<'a>>, AllocError>
         undefined(alloc),
         builtins(alloc),
         main(alloc),
+        output(alloc),
         files(alloc),
     ]?)
 }
 
-/// `names [--builtins] [--main NAME] [SYNTAX] [FILE...]`
+/// `names [--builtins] [--main NAME] [-o FILE] [SYNTAX] [FILE...]`
 fn names<'a>(alloc: Global) -> Result<Command<'a>, AllocError>
     ensures app { IfOk result (λ command. app_of command ≡ line.names_command) }
     ensures local { IfOk result (λ command. (out-Command command).has_globals ≡ false) }
@@ -88,7 +89,7 @@ fn names_arguments<'a>(alloc: Global) -> Result<Vec<Arg<'a>>, AllocError>
     ensures rules { IfOk result (λ arguments. map rule_of arguments.items ≡ line.names_rules) }
     ensures local { IfOk result (λ arguments. All (λ a. a.global ≡ false) arguments.items) }
 {
-    Ok(vec![in alloc; builtins(alloc), main(alloc), files(alloc)]?)
+    Ok(vec![in alloc; builtins(alloc), main(alloc), output(alloc), files(alloc)]?)
 }
 
 // An argument with a value, of this name in help.
@@ -186,6 +187,15 @@ fn main<'a>(alloc: Global) -> Arg<'a>
 {
     let help = "The name of the main template, in place of the first";
     text_option(alloc, "main", "NAME", help)
+}
+
+fn output<'a>(alloc: Global) -> Arg<'a>
+    ensures rule { rule_of result ≡ line.output_option }
+    ensures local { result.global ≡ false }
+{
+    let help =
+        "The file that is written, in place of standard output; a fault leaves what stood there";
+    text_option(alloc, "output", "FILE", help).short('o')
 }
 
 fn files<'a>(alloc: Global) -> Arg<'a>

@@ -40,6 +40,8 @@ pub struct RenderWords<'a> {
     pub syntax: SyntaxWords<'a>,
     /// The name of the main template.
     pub main: Option<&'a str>,
+    /// The path of the file that is written in place of standard output.
+    pub output: Option<&'a str>,
     /// The paths of the templates, in the order of the words.
     pub files: Vec<&'a str>,
 }
@@ -53,6 +55,8 @@ pub struct NamesWords<'a> {
     pub syntax: SyntaxWords<'a>,
     /// The name of the main template.
     pub main: Option<&'a str>,
+    /// The path of the file that is written in place of standard output.
+    pub output: Option<&'a str>,
     /// The paths of the templates, in the order of the words.
     pub files: Vec<&'a str>,
 }

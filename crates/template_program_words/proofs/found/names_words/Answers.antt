@@ -10,6 +10,7 @@ returns-clause-reads c = (
     builtins = c.is_flagged.ensures;
     syntax = c.syntax_words.ensures;
     main = c.text.ensures;
+    output = c.text-2.ensures;
     files = c.in_ok-values.ensures;
   },
 )

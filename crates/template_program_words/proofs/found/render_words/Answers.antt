@@ -36,6 +36,7 @@ returns-clause-reads c =
         builtins = c.is_flagged.ensures;
         syntax = c.syntax_words.ensures;
         main = c.text-2.ensures;
+        output = c.text-3.ensures;
         files = c.in_ok-values-2.ensures;
       },
     )
