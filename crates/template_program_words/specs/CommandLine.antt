@@ -1,4 +1,4 @@
--- The command line, in the words in which `clap` describes one: `names [--builtins] [--main NAME] [-o FILE] [SYNTAX] [FILE...]`
+-- The command line, in the words in which `clap` describes one: `names [--builtins] [--main NAME] [-o FILE] [--json] [SYNTAX] [FILE...]`
 -- and `render [--context FILE] [-D NAME=TEXT]... [--fuel N] [--limit N] [--undefined MODE] [--builtins] [--main NAME] [-o FILE]
 -- [--data FILE]... [--json NAME=JSON]... [--floats FORM] [--autoescape FORMAT] [SYNTAX] [FILE...]`.
 use Rattle.std.specs.Prelude.{ℕ, List, [], ◌∷◌, Some, codes, map, pos, true}
@@ -68,6 +68,10 @@ data_option = texts_option (codes "data")
 abbrev pub json_option : Rule
 json_option = texts_option (codes "json")
 
+-- `--json` of `names`, once at most, without a value
+abbrev pub names_json_option : Rule
+names_json_option = flag_option (codes "json")
+
 -- `--floats FORM`, once at most
 abbrev pub floats_option : Rule
 floats_option = text_option (codes "floats")
@@ -111,7 +115,7 @@ abbrev pub value_rules : List Rule
 value_rules = data_option ∷ json_option ∷ floats_option ∷ autoescape_option ∷ []
 
 abbrev pub names_rules : List Rule
-names_rules = builtins_option ∷ main_option ∷ output_option ∷ files_argument ∷ []
+names_rules = builtins_option ∷ main_option ∷ output_option ∷ names_json_option ∷ files_argument ∷ []
 
 -- an app that takes the words of the syntax too
 abbrev pub with_syntax : App → App

@@ -66,6 +66,7 @@ fn names_words<'a>(alloc: Global, matches: &ArgMatches<'a>) -> Result<Words<'a>,
         syntax: syntax_words(matches),
         main: text(matches, "main"),
         output: text(matches, "output"),
+        json: is_flagged(matches, "json"),
         files: values(alloc, matches, "files")?,
     }))
 }

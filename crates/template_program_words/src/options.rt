@@ -73,7 +73,7 @@ fn render_arguments<'a>(alloc: Global) -> Result<Vec<Arg<'a>>, AllocError>
     ]?)
 }
 
-/// `names [--builtins] [--main NAME] [-o FILE] [SYNTAX] [FILE...]`
+/// `names [--builtins] [--main NAME] [-o FILE] [--json] [SYNTAX] [FILE...]`
 fn names<'a>(alloc: Global) -> Result<Command<'a>, AllocError>
     ensures app { IfOk result (λ command. app_of command ≡ line.names_command) }
     ensures local { IfOk result (λ command. (out-Command command).has_globals ≡ false) }
@@ -89,7 +89,13 @@ fn names_arguments<'a>(alloc: Global) -> Result<Vec<Arg<'a>>, AllocError>
     ensures rules { IfOk result (λ arguments. map rule_of arguments.items ≡ line.names_rules) }
     ensures local { IfOk result (λ arguments. All (λ a. a.global ≡ false) arguments.items) }
 {
-    Ok(vec![in alloc; builtins(alloc), main(alloc), output(alloc), files(alloc)]?)
+    Ok(vec![in alloc;
+        builtins(alloc),
+        main(alloc),
+        output(alloc),
+        names_json(alloc),
+        files(alloc),
+    ]?)
 }
 
 // An argument with a value, of this name in help.
@@ -196,6 +202,17 @@ fn output<'a>(alloc: Global) -> Arg<'a>
     let help =
         "The file that is written, in place of standard output; a fault leaves what stood there";
     text_option(alloc, "output", "FILE", help).short('o')
+}
+
+fn names_json<'a>(alloc: Global) -> Arg<'a>
+    ensures rule { rule_of result ≡ line.names_json_option }
+    ensures local { result.global ≡ false }
+{
+    flag_option(
+        alloc,
+        "json",
+        "Prints the names as a JSON list, on one line",
+    )
 }
 
 fn files<'a>(alloc: Global) -> Arg<'a>

@@ -57,6 +57,8 @@ pub struct NamesWords<'a> {
     pub main: Option<&'a str>,
     /// The path of the file that is written in place of standard output.
     pub output: Option<&'a str>,
+    /// Whether the names are printed as a JSON list.
+    pub json: bool,
     /// The paths of the templates, in the order of the words.
     pub files: Vec<&'a str>,
 }

@@ -11,6 +11,7 @@ returns-clause-reads c = (
     syntax = c.syntax_words.ensures;
     main = c.text.ensures;
     output = c.text-2.ensures;
+    json = c.is_flagged-2.ensures;
     files = c.in_ok-values.ensures;
   },
 )
