@@ -9,4 +9,7 @@ pub mod Lines
 pub mod Answers
 pub mod Plain
 pub mod Status
+pub mod Templates
+pub mod Folders
+pub mod Inputs
 pub mod Starts

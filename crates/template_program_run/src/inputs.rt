@@ -2,10 +2,16 @@
 ghost use Rattle.std.specs.Prelude.{◌≡◌, [], All, map, IfErr, IfOk, IsErrOf, unwrap_or, option_map, string_bytes};
 ghost use Rattle.template_program_parts.specs.Context.{text_pairs};
 ghost use Rattle.template_program_words.specs.Reading.{parts_of};
-ghost use Rattle.template_program_run.specs.Starts.{AreRead, AreTemplates, IsAsked, IsContextFile, IsInput, IsReadFrom, LacksContext, LacksFiles, LacksInput, LacksOne, LacksTemplate, first_name, addition_names, template_names};
+ghost use Rattle.template_compiler_syntax.specs.Syntax.{default_syntax};
+ghost use Rattle.template_program_run.specs.Folders.{main_of};
+ghost use Rattle.template_program_run.specs.Inputs.{AreNamed, AreRead, AreTemplatesOf, IsAsked, IsContextFile, LacksContext, LacksOne, LacksTemplateOf};
+ghost use Rattle.template_program_run.specs.Templates.{AreTemplates, IsInput, IsReadFrom, LacksFiles, LacksInput, LacksTemplate, addition_names, template_names};
 
+use crate::folder::{named_main, read_sifted};
 use crate::{Command, Request};
 use std::alloc::Global;
+use template_compiler_syntax::SyntaxConfig;
+use template_program_folder::Folders;
 use template_program_parts::{
     FileFault, FileSystem, ReadWrapper, Reader, read_file, read_text, read_text_file,
 };
@@ -13,7 +19,7 @@ use template_program_words::{Definition, NamesWords, RenderWords, Words};
 use template_values_errors::UndefinedBehavior;
 
 /// An input of so many bytes or more is refused.
-const INPUT_LIMIT: usize = 1 << 32;
+pub(crate) const INPUT_LIMIT: usize = 1 << 32;
 
 // How deep a render may be in an environment as it begins.
 const DEFAULT_LIMIT: usize = 500;
@@ -27,37 +33,40 @@ pub(crate) struct Inputs {
 }
 
 /// What the words ask for, with the files read: the templates in order, and then the context's.
-pub(crate) fn read_inputs<R: FileSystem + AllocGlobal, I: Reader>(
+pub(crate) fn read_inputs<R: FileSystem + Folders + AllocGlobal, I: Reader>(
     rt: &R,
     words: &Words<'_>,
+    syntax: Option<&SyntaxConfig>,
     input: &mut I,
 ) -> Result<Inputs, FileFault>
     ensures asked { IfOk result (λ inputs. IsAsked words.now inputs.request (text_pairs inputs.templates.items)) }
-    ensures read { IfOk result (λ inputs. AreRead (R.content rt.now) (I.remaining input.old) words.now
-        (text_pairs inputs.templates.items) (option_map (λ bytes. bytes.items) inputs.context)) }
-    ensures refused { IsErrOf result FileFault.File → LacksOne (R.content rt.now) (I.may_fail input.old) (I.remaining input.old) words.now }
+    ensures read { IfOk result (λ inputs. AreRead (R.entries rt.now) (R.content rt.now) (I.remaining input.old) words.now
+        (unwrap_or (option_map (λ given. given.now) syntax) default_syntax) (text_pairs inputs.templates.items) (option_map (λ bytes. bytes.items) inputs.context)) }
+    ensures refused { IsErrOf result FileFault.File → LacksOne (R.entries rt.now) (R.content rt.now) (I.may_fail input.old) (I.remaining input.old) words.now }
 {
     match words {
-        Words::Render(words) => read_render(rt, words, input),
-        Words::Names(words) => read_names(rt, words, input),
+        Words::Render(words) => read_render(rt, words, syntax, input),
+        Words::Names(words) => read_names(rt, words, syntax, input),
     }
 }
 
-fn read_render<R: FileSystem + AllocGlobal, I: Reader>(
+fn read_render<R: FileSystem + Folders + AllocGlobal, I: Reader>(
     rt: &R,
     words: &RenderWords<'_>,
+    syntax: Option<&SyntaxConfig>,
     input: &mut I,
 ) -> Result<Inputs, FileFault>
     ensures asked { IfOk result (λ inputs. IsAsked (Words.Render words.now) inputs.request
         (text_pairs inputs.templates.items)) }
-    ensures read { IfOk result (λ inputs. AreRead (R.content rt.now) (I.remaining input.old) (Words.Render words.now)
-        (text_pairs inputs.templates.items) (option_map (λ bytes. bytes.items) inputs.context)) }
-    ensures refused { IsErrOf result FileFault.File → LacksOne (R.content rt.now) (I.may_fail input.old) (I.remaining input.old) (Words.Render words.now) }
+    ensures read { IfOk result (λ inputs. AreRead (R.entries rt.now) (R.content rt.now) (I.remaining input.old) (Words.Render words.now)
+        (unwrap_or (option_map (λ given. given.now) syntax) default_syntax) (text_pairs inputs.templates.items) (option_map (λ bytes. bytes.items) inputs.context)) }
+    ensures refused { IsErrOf result FileFault.File → LacksOne (R.entries rt.now) (R.content rt.now) (I.may_fail input.old) (I.remaining input.old) (Words.Render words.now) }
 {
-    let templates = read_templates(rt, words.files.as_slice(), input)?;
+    let paths = words.files.as_slice();
+    let templates = read_templates_of(rt, words.templates, words.main, paths, syntax, input)?;
     let context = read_context_file(rt, words.context)?;
     let request = Request {
-        main: main_name(rt.alloc(), words.main, templates.as_slice())?,
+        main: main_name(rt.alloc(), words.main, paths)?,
         texts: owned_definitions(rt.alloc(), words.definitions.as_slice())?,
         fuel: words.fuel,
         limit: usize::from(words.limit),
@@ -71,20 +80,22 @@ fn read_render<R: FileSystem + AllocGlobal, I: Reader>(
     })
 }
 
-fn read_names<R: FileSystem + AllocGlobal, I: Reader>(
+fn read_names<R: FileSystem + Folders + AllocGlobal, I: Reader>(
     rt: &R,
     words: &NamesWords<'_>,
+    syntax: Option<&SyntaxConfig>,
     input: &mut I,
 ) -> Result<Inputs, FileFault>
     ensures asked { IfOk result (λ inputs. IsAsked (Words.Names words.now) inputs.request
         (text_pairs inputs.templates.items)) }
-    ensures read { IfOk result (λ inputs. AreRead (R.content rt.now) (I.remaining input.old) (Words.Names words.now)
-        (text_pairs inputs.templates.items) (option_map (λ bytes. bytes.items) inputs.context)) }
-    ensures refused { IsErrOf result FileFault.File → LacksOne (R.content rt.now) (I.may_fail input.old) (I.remaining input.old) (Words.Names words.now) }
+    ensures read { IfOk result (λ inputs. AreRead (R.entries rt.now) (R.content rt.now) (I.remaining input.old) (Words.Names words.now)
+        (unwrap_or (option_map (λ given. given.now) syntax) default_syntax) (text_pairs inputs.templates.items) (option_map (λ bytes. bytes.items) inputs.context)) }
+    ensures refused { IsErrOf result FileFault.File → LacksOne (R.entries rt.now) (R.content rt.now) (I.may_fail input.old) (I.remaining input.old) (Words.Names words.now) }
 {
-    let templates = read_templates(rt, words.files.as_slice(), input)?;
+    let paths = words.files.as_slice();
+    let templates = read_templates_of(rt, words.templates, words.main, paths, syntax, input)?;
     let request = Request {
-        main: main_name(rt.alloc(), words.main, templates.as_slice())?,
+        main: main_name(rt.alloc(), words.main, paths)?,
         texts: Vec::new(rt.alloc()),
         fuel: None,
         limit: DEFAULT_LIMIT,
@@ -96,6 +107,30 @@ fn read_names<R: FileSystem + AllocGlobal, I: Reader>(
         templates,
         context: None,
     })
+}
+
+/// The templates: of the folder, if one is given.
+fn read_templates_of<R: FileSystem + Folders + AllocGlobal, I: Reader>(
+    rt: &R,
+    folder: Option<&str>,
+    main: Option<&str>,
+    paths: &[&str],
+    syntax: Option<&SyntaxConfig>,
+    input: &mut I,
+) -> Result<Vec<(String, String)>, FileFault>
+    ensures named { IfOk result (λ templates. AreNamed (option_map (λ path. path.now) folder.entry) (map (λ path. path.now) paths.now)
+        (text_pairs templates.items)) }
+    ensures read { IfOk result (λ templates. AreTemplatesOf (R.entries rt.now) (R.content rt.now) (I.remaining input.old)
+        (option_map (λ path. path.now) folder.entry) (option_map (λ name. name.now) main) (map (λ path. path.now) paths.now)
+        (unwrap_or (option_map (λ given. given.now) syntax) default_syntax) (text_pairs templates.items)) }
+    ensures refused { IsErrOf result FileFault.File → LacksTemplateOf (R.entries rt.now) (R.content rt.now) (I.may_fail input.old)
+        (I.remaining input.old) (option_map (λ path. path.now) folder.entry) (option_map (λ name. name.now) main)
+        (map (λ path. path.now) paths.now) }
+{
+    match folder {
+        Some(folder) => read_sifted(rt, folder, main, paths, syntax, input),
+        None => read_templates(rt, paths, input),
+    }
 }
 
 /// The templates by name: the files by their paths, or the input as `<stdin>` where none is named.
@@ -118,7 +153,7 @@ fn read_templates<R: FileSystem + AllocGlobal, I: Reader>(
 }
 
 /// The input, as a template named `<stdin>`.
-fn read_input<I: Reader>(alloc: Global, input: &mut I) -> Result<Vec<(String, String)>, FileFault>
+pub(crate) fn read_input<I: Reader>(alloc: Global, input: &mut I) -> Result<Vec<(String, String)>, FileFault>
     ensures named { IfOk result (λ templates. addition_names (text_pairs templates.items) ≡ template_names []) }
     ensures read { IfOk result (λ templates. IsInput (I.remaining input.old) (text_pairs templates.items)) }
     ensures refused { IsErrOf result FileFault.File → LacksInput (I.may_fail input.old) (I.remaining input.old) }
@@ -131,7 +166,7 @@ fn read_input<I: Reader>(alloc: Global, input: &mut I) -> Result<Vec<(String, St
 }
 
 /// The files, in order, as templates named by their paths.
-fn read_files<R: FileSystem + AllocGlobal>(
+pub(crate) fn read_files<R: FileSystem + AllocGlobal>(
     rt: &R,
     paths: &[&str],
 ) -> Result<Vec<(String, String)>, FileFault>
@@ -164,21 +199,13 @@ fn read_context_file<R: FileSystem + AllocGlobal>(
     }
 }
 
-/// The name of the main template: the one that is named, else the first.
-fn main_name(
-    alloc: Global,
-    main: Option<&str>,
-    templates: &[(String, String)],
-) -> Result<String, FileFault>
+/// The name of the main template as an owned text: the one that is named, else that of the first path, else the input's.
+fn main_name(alloc: Global, main: Option<&str>, paths: &[&str]) -> Result<String, FileFault>
     ensures memory { IfErr result (λ fault. fault ≡ FileFault.Memory) }
     ensures name { IfOk result (λ name. string_bytes name
-        ≡ unwrap_or (option_map (λ main. main.now) main.entry) (first_name (addition_names (text_pairs templates.now)))) }
+        ≡ main_of (option_map (λ main. main.now) main) (map (λ path. path.now) paths.now)) }
 {
-    match (main, templates.first()) {
-        (Some(main), _) => Ok(String::from_str(alloc, main)?),
-        (None, Some(first)) => Ok(first.0.clone()?),
-        (None, None) => Ok(String::new(alloc)),
-    }
+    Ok(String::from_str(alloc, named_main(main, paths))?)
 }
 
 /// The definitions as owned texts.

@@ -4,7 +4,9 @@
 
 mod additions;
 mod extension;
+mod folder;
 mod inputs;
+mod named;
 mod names;
 mod options;
 mod performing;

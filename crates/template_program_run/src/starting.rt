@@ -18,6 +18,7 @@ use crate::syntax::syntax_of;
 use crate::telling::{tell_error, tell_memory, tell_text, tell_word};
 use std::io;
 use template_program_files::Placing;
+use template_program_folder::Folders;
 use template_program_output::{Output, write_flushed};
 use template_program_parts::{DONE, FILE, FileFault, FileSystem, MEMORY, Reader, WORDS};
 use template_program_words::{Words, WordsFault, read_words};
@@ -35,7 +36,7 @@ use template_values_errors::{Error, ErrorKind};
 ///
 /// Gives the output back behind the status. Holds all templates, the context and the output's buffer of 8 KiB in
 /// memory.
-pub fn start<R: FileSystem + Placing + AllocGlobal, I: Reader, O: Output, F: Output>(
+pub fn start<R: FileSystem + Folders + Placing + AllocGlobal, I: Reader, O: Output, F: Output>(
     rt: &R,
     words: &[&str],
     input: &mut I,
@@ -44,7 +45,7 @@ pub fn start<R: FileSystem + Placing + AllocGlobal, I: Reader, O: Output, F: Out
 ) -> (u8, O)
     ensures { Starts (fault_of program (map (λ word. word.now) words.now))
         (subcommand_of program (map (λ word. word.now) words.now))
-        (R.content rt.now) (I.may_fail input.old) (I.remaining input.old) (R.fresh rt.now) (R.placed rt.now)
+        (R.entries rt.now) (R.content rt.now) (I.may_fail input.old) (I.remaining input.old) (R.fresh rt.now) (R.placed rt.now)
         (O.shown out) (O.shown result.1) (F.shown fault.old) (F.shown fault.new) result.0 }
 {
     match read_words(rt.alloc(), words) {
@@ -54,14 +55,14 @@ pub fn start<R: FileSystem + Placing + AllocGlobal, I: Reader, O: Output, F: Out
 }
 
 // Does what the words ask for, once the syntax that they set is put together.
-fn follow_words<R: FileSystem + Placing + AllocGlobal, I: Reader, O: Output, F: Output>(
+fn follow_words<R: FileSystem + Folders + Placing + AllocGlobal, I: Reader, O: Output, F: Output>(
     rt: &R,
     words: &Words<'_>,
     input: &mut I,
     out: O,
     fault: &mut F,
 ) -> (u8, O)
-    ensures { FollowsWords words.now (R.content rt.now) (I.may_fail input.old) (I.remaining input.old) (R.fresh rt.now) (R.placed rt.now)
+    ensures { FollowsWords words.now (R.entries rt.now) (R.content rt.now) (I.may_fail input.old) (I.remaining input.old) (R.fresh rt.now) (R.placed rt.now)
         (O.shown out) (O.shown result.1) (F.shown fault.old) (F.shown fault.new) result.0 }
 {
     match syntax_of(rt.alloc(), syntax_words(words)) {
@@ -74,7 +75,7 @@ fn follow_words<R: FileSystem + Placing + AllocGlobal, I: Reader, O: Output, F: 
 }
 
 // Reads the files that the words name, and does with them what the words ask for.
-fn do_words<R: FileSystem + Placing + AllocGlobal, I: Reader, O: Output, F: Output>(
+fn do_words<R: FileSystem + Folders + Placing + AllocGlobal, I: Reader, O: Output, F: Output>(
     rt: &R,
     words: &Words<'_>,
     options: Options<'_>,
@@ -83,10 +84,10 @@ fn do_words<R: FileSystem + Placing + AllocGlobal, I: Reader, O: Output, F: Outp
     fault: &mut F,
 ) -> (u8, O)
     requires { served_under options ≡ served_by words.now }
-    ensures { DoesWords words.now (R.content rt.now) (I.may_fail input.old) (I.remaining input.old) (R.fresh rt.now) (R.placed rt.now)
+    ensures { DoesWords words.now (R.entries rt.now) (R.content rt.now) (I.may_fail input.old) (I.remaining input.old) (R.fresh rt.now) (R.placed rt.now)
         (O.shown out) (O.shown result.1) (F.shown fault.old) (F.shown fault.new) result.0 }
 {
-    match read_inputs(rt, words, input) {
+    match read_inputs(rt, words, options.syntax, input) {
         Ok(inputs) => perform_to(rt, output_of(words), options, &inputs, out, fault),
         Err(refused) => (refuse_file(refused, fault), out),
     }

@@ -2,6 +2,7 @@ use Rattle.std.proofs.Common.{Err, List, Option, ℕ, ap, inl, inr, option_map, 
 use Rattle.template_program_parts.specs.Context.{text_pairs}
 use Rattle.template_program_run.specs.Asked.{served_by}
 use Rattle.template_program_run.specs.Served.{Served}
+use Rattle.template_program_run.specs.Inputs.{AreRead}
 use Rattle.template_program_run.specs.Starts.{PerformsTo}
 use Rattle.template_program_run.proofs.Refusing.{refuses_inputs}
 use Rattle.template_program_run.proofs.starting.do_words.Goals as goal
@@ -21,14 +22,16 @@ returns-in-Ok g c =
     out out_after fault fault_after c.perform_to.result.0) c.requires c.perform_to.ensures in
     let performs = subst (λ (path : Option (List ℕ)). PerformsTo path fresh placed inputs.request (served_by c.args.words.now) additions json
     out out_after fault fault_after c.perform_to.result.0) c.output_of.ensures served in
-    inr (inputs.request, additions, json, c.in-Ok.ensures.asked, c.in-Ok.ensures.read, performs)
+    let read = subst (λ (s : Served). AreRead (g.R.Folders.entries c.args.rt.now) (g.R.FileSystem.content c.args.rt.now)
+    (g.I.Reader.remaining c.args.input.now) c.args.words.now s.syntax additions json) c.requires c.in-Ok.ensures.read in
+    inr (inputs.request, additions, json, c.in-Ok.ensures.asked, read, performs)
 
 pub returns-in-Err : goal.returns-in-Err
 returns-in-Err g c =
     let refused = c.in-Err.refused in
     inl (
       refused,
-      refuses_inputs (g.R.FileSystem.content c.args.rt.now) (g.I.Reader.may_fail c.args.input.now) (g.I.Reader.remaining c.args.input.now)
+      refuses_inputs (g.R.Folders.entries c.args.rt.now) (g.R.FileSystem.content c.args.rt.now) (g.I.Reader.may_fail c.args.input.now) (g.I.Reader.remaining c.args.input.now)
           c.args.words.now refused (λ is. c.in-Err.ensures.refused (ap Err is)),
       c.refuse_file.ensures.status,
       refl,
