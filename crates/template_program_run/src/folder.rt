@@ -26,10 +26,10 @@ pub(crate) fn read_sifted<R: FileSystem + Folders + AllocGlobal, I: Reader>(
     input: &mut I,
 ) -> Result<Vec<(String, String)>, FileFault>
     ensures read { IfOk result (λ templates. AreSifted (R.entries rt.now) (R.content rt.now) (I.remaining input.old) folder.now
-        (option_map (λ name. name.now) main) (map (λ path. path.now) paths.now)
-        (unwrap_or (option_map (λ given. given.now) syntax) default_syntax) (text_pairs templates.items)) }
+        (option_map (λ name. name.now) main.entry) (map (λ path. path.now) paths.now)
+        (unwrap_or (option_map (λ given. given.now) syntax.entry) default_syntax) (text_pairs templates.items)) }
     ensures refused { IsErrOf result FileFault.File → LacksSifted (R.entries rt.now) (R.content rt.now) (I.may_fail input.old)
-        (I.remaining input.old) folder.now (option_map (λ name. name.now) main) (map (λ path. path.now) paths.now) }
+        (I.remaining input.old) folder.now (option_map (λ name. name.now) main.entry) (map (λ path. path.now) paths.now) }
 {
     let files = read_folder(rt, folder, INPUT_LIMIT)?;
     check_paths(files.as_slice(), paths)?;
@@ -47,9 +47,9 @@ fn read_behind<R: FileSystem + AllocGlobal, I: Reader>(
     input: &mut I,
 ) -> Result<Vec<(String, String)>, FileFault>
     ensures read { IfOk result (λ templates. AreBehind (R.content rt.now) (I.remaining input.old) (map (λ path. path.now) paths.now)
-        (text_pairs templates.items) (is_read (option_map (λ name. name.now) main) (map (λ path. path.now) paths.now))) }
+        (text_pairs templates.items) (is_read (option_map (λ name. name.now) main.entry) (map (λ path. path.now) paths.now))) }
     ensures refused { IsErrOf result FileFault.File → LacksBehind (R.content rt.now) (I.may_fail input.old) (I.remaining input.old)
-        (map (λ path. path.now) paths.now) (is_read (option_map (λ name. name.now) main) (map (λ path. path.now) paths.now)) }
+        (map (λ path. path.now) paths.now) (is_read (option_map (λ name. name.now) main.entry) (map (λ path. path.now) paths.now)) }
 {
     if reads_input(main, paths) {
         return read_input(rt.alloc(), input);
@@ -60,7 +60,7 @@ fn read_behind<R: FileSystem + AllocGlobal, I: Reader>(
 
 // Whether the input is read: no path is given, and no main template named.
 fn reads_input(main: Option<&str>, paths: &[&str]) -> bool
-    ensures { result ≡ is_read (option_map (λ name. name.now) main) (map (λ path. path.now) paths.now) }
+    ensures { result ≡ is_read (option_map (λ name. name.now) main.entry) (map (λ path. path.now) paths.now) }
 {
     main.is_none() && paths.is_empty()
 }
@@ -81,7 +81,7 @@ fn absolute_paths<'a>(alloc: Global, paths: &[&'a str]) -> Result<Vec<&'a str>, 
 
 /// The name of the main template: the one that is named, else that of the first path, else the input's.
 pub(crate) fn named_main<'a>(main: Option<&'a str>, paths: &[&'a str]) -> &'a str
-    ensures { result.now ≡ main_of (option_map (λ name. name.now) main) (map (λ path. path.now) paths.now) }
+    ensures { result.now ≡ main_of (option_map (λ name. name.now) main.entry) (map (λ path. path.now) paths.now) }
 {
     match (main, paths.first()) {
         (Some(main), _) => main,
@@ -110,8 +110,9 @@ fn texts_of(alloc: Global, files: Vec<FolderFile>) -> Result<Vec<(String, String
 {
     let mut templates = Vec::new(alloc);
     for file in files {
-        if let Some(text) = file.text {
-            templates.push((file.name, text))?;
+        let FolderFile { name, text } = file;
+        if let Some(text) = text {
+            templates.push((name, text))?;
         }
     }
     Ok(templates)
@@ -125,7 +126,7 @@ fn sifted(
     syntax: Option<&SyntaxConfig>,
 ) -> Result<Vec<(String, String)>, FileFault>
     ensures memory { IfErr result (λ fault. fault ≡ FileFault.Memory) }
-    ensures sifted { IfOk result (λ left. Sifts (unwrap_or (option_map (λ given. given.now) syntax) default_syntax)
+    ensures sifted { IfOk result (λ left. Sifts (unwrap_or (option_map (λ given. given.now) syntax.entry) default_syntax)
         (text_pairs templates.items) main.now (text_pairs templates.items) (text_pairs left.items)) }
 {
     let standard = SyntaxConfig::new();

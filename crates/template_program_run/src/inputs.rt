@@ -41,7 +41,7 @@ pub(crate) fn read_inputs<R: FileSystem + Folders + AllocGlobal, I: Reader>(
 ) -> Result<Inputs, FileFault>
     ensures asked { IfOk result (λ inputs. IsAsked words.now inputs.request (text_pairs inputs.templates.items)) }
     ensures read { IfOk result (λ inputs. AreRead (R.entries rt.now) (R.content rt.now) (I.remaining input.old) words.now
-        (unwrap_or (option_map (λ given. given.now) syntax) default_syntax) (text_pairs inputs.templates.items) (option_map (λ bytes. bytes.items) inputs.context)) }
+        (unwrap_or (option_map (λ given. given.now) syntax.entry) default_syntax) (text_pairs inputs.templates.items) (option_map (λ bytes. bytes.items) inputs.context)) }
     ensures refused { IsErrOf result FileFault.File → LacksOne (R.entries rt.now) (R.content rt.now) (I.may_fail input.old) (I.remaining input.old) words.now }
 {
     match words {
@@ -59,7 +59,7 @@ fn read_render<R: FileSystem + Folders + AllocGlobal, I: Reader>(
     ensures asked { IfOk result (λ inputs. IsAsked (Words.Render words.now) inputs.request
         (text_pairs inputs.templates.items)) }
     ensures read { IfOk result (λ inputs. AreRead (R.entries rt.now) (R.content rt.now) (I.remaining input.old) (Words.Render words.now)
-        (unwrap_or (option_map (λ given. given.now) syntax) default_syntax) (text_pairs inputs.templates.items) (option_map (λ bytes. bytes.items) inputs.context)) }
+        (unwrap_or (option_map (λ given. given.now) syntax.entry) default_syntax) (text_pairs inputs.templates.items) (option_map (λ bytes. bytes.items) inputs.context)) }
     ensures refused { IsErrOf result FileFault.File → LacksOne (R.entries rt.now) (R.content rt.now) (I.may_fail input.old) (I.remaining input.old) (Words.Render words.now) }
 {
     let paths = words.files.as_slice();
@@ -89,7 +89,7 @@ fn read_names<R: FileSystem + Folders + AllocGlobal, I: Reader>(
     ensures asked { IfOk result (λ inputs. IsAsked (Words.Names words.now) inputs.request
         (text_pairs inputs.templates.items)) }
     ensures read { IfOk result (λ inputs. AreRead (R.entries rt.now) (R.content rt.now) (I.remaining input.old) (Words.Names words.now)
-        (unwrap_or (option_map (λ given. given.now) syntax) default_syntax) (text_pairs inputs.templates.items) (option_map (λ bytes. bytes.items) inputs.context)) }
+        (unwrap_or (option_map (λ given. given.now) syntax.entry) default_syntax) (text_pairs inputs.templates.items) (option_map (λ bytes. bytes.items) inputs.context)) }
     ensures refused { IsErrOf result FileFault.File → LacksOne (R.entries rt.now) (R.content rt.now) (I.may_fail input.old) (I.remaining input.old) (Words.Names words.now) }
 {
     let paths = words.files.as_slice();
@@ -121,10 +121,10 @@ fn read_templates_of<R: FileSystem + Folders + AllocGlobal, I: Reader>(
     ensures named { IfOk result (λ templates. AreNamed (option_map (λ path. path.now) folder.entry) (map (λ path. path.now) paths.now)
         (text_pairs templates.items)) }
     ensures read { IfOk result (λ templates. AreTemplatesOf (R.entries rt.now) (R.content rt.now) (I.remaining input.old)
-        (option_map (λ path. path.now) folder.entry) (option_map (λ name. name.now) main) (map (λ path. path.now) paths.now)
-        (unwrap_or (option_map (λ given. given.now) syntax) default_syntax) (text_pairs templates.items)) }
+        (option_map (λ path. path.now) folder.entry) (option_map (λ name. name.now) main.entry) (map (λ path. path.now) paths.now)
+        (unwrap_or (option_map (λ given. given.now) syntax.entry) default_syntax) (text_pairs templates.items)) }
     ensures refused { IsErrOf result FileFault.File → LacksTemplateOf (R.entries rt.now) (R.content rt.now) (I.may_fail input.old)
-        (I.remaining input.old) (option_map (λ path. path.now) folder.entry) (option_map (λ name. name.now) main)
+        (I.remaining input.old) (option_map (λ path. path.now) folder.entry) (option_map (λ name. name.now) main.entry)
         (map (λ path. path.now) paths.now) }
 {
     match folder {
@@ -153,7 +153,10 @@ fn read_templates<R: FileSystem + AllocGlobal, I: Reader>(
 }
 
 /// The input, as a template named `<stdin>`.
-pub(crate) fn read_input<I: Reader>(alloc: Global, input: &mut I) -> Result<Vec<(String, String)>, FileFault>
+pub(crate) fn read_input<I: Reader>(
+    alloc: Global,
+    input: &mut I,
+) -> Result<Vec<(String, String)>, FileFault>
     ensures named { IfOk result (λ templates. addition_names (text_pairs templates.items) ≡ template_names []) }
     ensures read { IfOk result (λ templates. IsInput (I.remaining input.old) (text_pairs templates.items)) }
     ensures refused { IsErrOf result FileFault.File → LacksInput (I.may_fail input.old) (I.remaining input.old) }
@@ -203,7 +206,7 @@ fn read_context_file<R: FileSystem + AllocGlobal>(
 fn main_name(alloc: Global, main: Option<&str>, paths: &[&str]) -> Result<String, FileFault>
     ensures memory { IfErr result (λ fault. fault ≡ FileFault.Memory) }
     ensures name { IfOk result (λ name. string_bytes name
-        ≡ main_of (option_map (λ main. main.now) main) (map (λ path. path.now) paths.now)) }
+        ≡ main_of (option_map (λ main. main.now) main.entry) (map (λ path. path.now) paths.now)) }
 {
     Ok(String::from_str(alloc, named_main(main, paths))?)
 }
