@@ -66,8 +66,14 @@ absent_parted q (f ∷ files) i parted (k, h, e) = either (nat_lt k i) refl
     level = subst (λ (n : List ℕ). slice_cmp nat_cmp n q ≡ Equal) (sym (at.1)) (tied_itself nat_list_cmp_total q)
 
     either : (b : Bool) → nat_lt k i ≡ b → ⊥
-    either true is = let less = parted.0 k f (omega arith) (ltb-true k i is) in absurd (cc)
-    either false is = let greater = parted.1 k f (ltb-false k i is) (at.0) in absurd (cc)
+    either true is =
+        let less : slice_cmp nat_cmp (string_bytes (get_or (f ∷ files) k f).name) q ≡ Less = parted.0 k f (omega arith) (ltb-true k i is) in
+        let equal : slice_cmp nat_cmp (string_bytes (get_or (f ∷ files) k f).name) q ≡ Equal = level in
+        absurd (cc)
+    either false is =
+        let greater : slice_cmp nat_cmp (string_bytes (get_or (f ∷ files) k f).name) q ≡ Greater = parted.1 k f (ltb-false k i is) (at.0) in
+        let equal : slice_cmp nat_cmp (string_bytes (get_or (f ∷ files) k f).name) q ≡ Equal = level in
+        absurd (cc)
 
 -- names that are equal in order are one
 pub same_name : (xs ys : List ℕ) → slice_cmp nat_cmp xs ys ≡ Equal → xs ≡ ys
