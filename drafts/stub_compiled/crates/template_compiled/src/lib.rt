@@ -1,0 +1,8 @@
+//! A stand-in.
+#![tactic(auto)]
+
+mod compiled;
+mod config;
+
+pub use compiled::CompiledTemplate;
+pub use config::TemplateConfig;
