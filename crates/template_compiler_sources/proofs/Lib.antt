@@ -1,3 +1,4 @@
 pub mod Sources
 pub mod Placed
 pub mod Faults
+pub mod Reached

@@ -93,11 +93,11 @@ faulty_expression source tokens f h e = record {
 }
 
 -- what is read with places, without them
-read_bare : (spans : List Span) (ts : List Token) (t : PlacedTemplate) → placed_reader.template_of spans ts ≡ Ok t → template_of ts ≡ Ok t.tree
+pub read_bare : (spans : List Span) (ts : List Token) (t : PlacedTemplate) → placed_reader.template_of spans ts ≡ Ok t → template_of ts ≡ Ok t.tree
 unfolding bare_template
 read_bare spans ts t read = sym (template_erased spans ts) ∙ ap bare_template read
 
-fails_bare : (spans : List Span) (ts : List Token) (f : TokenFault) → placed_reader.template_of spans ts ≡ Err f → template_of ts ≡ Err f
+pub fails_bare : (spans : List Span) (ts : List Token) (f : TokenFault) → placed_reader.template_of spans ts ≡ Err f → template_of ts ≡ Err f
 unfolding bare_template
 fails_bare spans ts f read = sym (template_erased spans ts) ∙ ap bare_template read
 

@@ -1,3 +1,4 @@
 pub mod Source
 pub mod Wholes
 pub mod Parsers
+pub mod Ends

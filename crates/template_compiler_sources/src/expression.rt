@@ -7,6 +7,8 @@ ghost use Rattle.template_compiler_placed_grammar.specs.Views.{node_of};
 ghost use Rattle.template_tree.specs.View.{expression_of};
 ghost use Rattle.template_values_errors.specs.declared.ErrorKind.TheVariants.{TooLarge};
 
+use crate::prefixes::Text;
+use crate::refused::refused_at;
 use crate::template::MAX_DEPTH;
 use std::alloc::Global;
 use template_compiler_expression_parser::read_expression;
@@ -22,7 +24,8 @@ use template_values_errors::{Error, ErrorKind};
 ///
 /// `TooLarge` for a source of 2^32 bytes or more. Else the fault that the reading of its tokens ends with: `BadEscape` where
 /// that is a text literal with an escape that is none, `NoFloats` where it is a number with a fraction or an exponent,
-/// `SyntaxError` for any other. `OutOfMemory`.
+/// `SyntaxError` for any other. `OutOfMemory`. Such a fault has its place as in [`parse`](crate::parse), under the name
+/// `<expression>`.
 pub fn parse_expr<'source>(alloc: Global, source: &'source str) -> Result<Expr<'source>, Error>
     ensures found { IfOk result (λ tree. IsExpressionSource source.now (expression_of tree)) }
     ensures places { IfOk result (λ tree. IsPlacedExpressionSource source.now (node_of tree)) }
@@ -35,15 +38,20 @@ pub fn parse_expr<'source>(alloc: Global, source: &'source str) -> Result<Expr<'
     match read_expression_tokens(alloc, source) {
         Ok(mut tokens) => match whole_expression(alloc, &mut tokens) {
             Ok(tree) => Ok(tree),
-            Err(refusal) => Err(error_of(refusal)),
+            Err(refusal) => Err(refused_at(
+                alloc,
+                &Text::Expression(source),
+                tokens.passed(),
+                refusal,
+            )),
         },
         Err(refusal) => Err(error_of(refusal)),
     }
 }
 
-// Reads all tokens as one expression.
+/// Reads all tokens as one expression.
 #[tactic(auto, unfolding(template_compiler_grammar::specs::Reader::expression_at))]
-fn whole_expression<'source>(
+pub(crate) fn whole_expression<'source>(
     alloc: Global,
     tokens: &mut TokenStream<'source>,
 ) -> Result<Expr<'source>, Refusal>

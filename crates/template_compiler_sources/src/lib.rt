@@ -1,10 +1,13 @@
 //! Sources to trees: `parse` reads a template, `parse_expr` an expression.
 #![tactic(auto)]
 
+mod ends;
 mod expression;
 mod laws;
 mod parser;
+mod prefixes;
 mod reads;
+mod refused;
 mod source;
 mod template;
 

@@ -13,5 +13,5 @@ returns-in-Ok-whole_expression-clause-places c =
 
 pub returns-in-Ok-clause-refused : goal.returns-in-Ok-clause-refused
 returns-in-Ok-clause-refused c =
-    refused_alone c.args.source.now c.in-Ok.tokens.left c.in-Err-whole_expression.refusal c.error_of.result c.in-Ok.ensures.tokens.tokens
-    c.in-Err-whole_expression.ensures.tree c.error_of.ensures
+    refused_alone c.args.source.now c.in-Ok.tokens.left c.in-Err-whole_expression.refusal c.refused_at.result c.in-Ok.ensures.tokens.tokens
+    c.in-Err-whole_expression.ensures.tree c.refused_at.ensures

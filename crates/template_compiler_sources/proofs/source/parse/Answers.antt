@@ -16,5 +16,5 @@ returns-in-Ok-whole_template-clause-places c =
 pub returns-in-Err-whole_template-clause-refused : goal.returns-in-Err-whole_template-clause-refused
 returns-in-Err-whole_template-clause-refused c =
     let usable : IsUsable c.args.syntax = search rules in
-    refused_whole c.args.syntax c.args.source.now c.in-Ok.tokens.spans c.in-Ok.tokens.left c.new-tokenizer.result.left c.in-Err-whole_template.refusal c.error_of.result
-    usable c.new-tokenizer.ensures.tokens c.in-Ok.ensures.tokens c.in-Err-whole_template.ensures c.error_of.ensures
+    refused_whole c.args.syntax c.args.source.now c.in-Ok.tokens.spans c.in-Ok.tokens.left c.new-tokenizer.result.left c.in-Err-whole_template.refusal c.refused_at.result
+    usable c.new-tokenizer.ensures.tokens c.in-Ok.ensures.tokens c.in-Err-whole_template.ensures c.refused_at.ensures
