@@ -1,7 +1,7 @@
 //! What all forms are made of: a head with its parts in parentheses, a list in brackets, words and texts.
 use std::alloc::{AllocError, Global};
 use template_tree::{BinOpKind, CompareOpKind, Span, UnaryOpKind};
-use template_values_errors::ErrorKind;
+use template_values_errors::{Error, ErrorKind};
 
 /// A form as far as it is written. What is refused on the way is kept, so that what writes need not ask.
 #[derive(Drop)]
@@ -11,6 +11,8 @@ pub(crate) struct Form {
     pub(crate) with_places: bool,
     /// Why it is not whole, where it is not.
     pub(crate) refused: Option<ErrorKind>,
+    /// Where it was refused: ` at ` before each place.
+    pub(crate) places: String,
 }
 
 impl Form {
@@ -20,6 +22,7 @@ impl Form {
             text: String::new(alloc),
             with_places: false,
             refused: None,
+            places: String::new(alloc),
         }
     }
 
@@ -27,6 +30,15 @@ impl Form {
     pub(crate) fn refuse(&mut self, kind: ErrorKind) {
         if self.refused.is_none() {
             self.refused = Some(kind);
+        }
+    }
+
+    /// Keeps a refusal of a source with its place.
+    pub(crate) fn refuse_source(&mut self, error: &Error) {
+        self.refuse(error.kind());
+        for place in error.places() {
+            let written = write!(self.places, " at {place}");
+            self.note(written);
         }
     }
 

@@ -1,7 +1,8 @@
 //! Texts with their trees, as rows. Each line of standard input is a template in JSON, under the default syntax; or an
 //! object with `source` and the entries of a syntax; or an object with `expression`. It is written as it stands, then
-//! ` = `, then the tree in a plain form, or the kind of the refusal. A line that begins with `#` is a heading. Where an
-//! object has an entry `places`, the place of each node stands behind its form, as `@line:column:offset-line:column:offset`.
+//! ` = `, then the tree in a plain form, or the kind of the refusal and its place, as ` at name:line:column`. A line that
+//! begins with `#` is a heading. Where an object has an entry `places`, the place of each node stands behind its form, as
+//! `@line:column:offset-line:column:offset`.
 //!
 //! Where an object with `expression` has an entry `ask`, what that asks for is told in place of the tree:
 //!
@@ -80,7 +81,7 @@ fn write_line(rt: &HostRuntime, line: &str) -> io::Result<()> {
 fn write_answer(rt: &HostRuntime, line: &str, answer: &Form) -> io::Result<()> {
     match answer.refused {
         None => println!(rt; "{line} = {}", answer.text),
-        Some(kind) => println!(rt; "{line} = {}", kind.name()),
+        Some(kind) => println!(rt; "{line} = {}{}", kind.name(), answer.places),
     }
 }
 
@@ -140,7 +141,7 @@ fn about_tree(read: &Result<Stmt<'_>, Error>, asked: Asked, out: &mut Form) {
     match (read, asked) {
         (Ok(tree), Asked::Form) => statement(tree, out, LEVELS),
         (Ok(tree), Asked::Count) => statement_count(tree, out),
-        (Err(error), _) => out.refuse(error.kind()),
+        (Err(error), _) => out.refuse_source(error),
     }
 }
 
@@ -154,7 +155,7 @@ fn about_expr(read: &Result<Expr<'_>, Error>, ask: Option<&str>, out: &mut Form)
         (Ok(expr), Some("words")) => out.push_str(expr.description()),
         (Ok(expr), Some("callee")) => callee(expr, out),
         (Ok(_), Some(_)) => out.refuse(ErrorKind::SyntaxError),
-        (Err(error), _) => out.refuse(error.kind()),
+        (Err(error), _) => out.refuse_source(error),
     }
 }
 
