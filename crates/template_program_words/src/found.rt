@@ -5,7 +5,7 @@ ghost use Rattle.template_program_words.specs.Reading.{Defines, ReadsText, Reads
 ghost use Rattle.template_program_words.specs.Refusals.{RefusesWords, RefusesDefinitions, RefusesRender};
 ghost use Rattle.template_program_words.specs.declared.faults.WordsFault.TheVariants.{Memory};
 
-use crate::choices::{escape_in, undefined_in};
+use crate::choices::{escape_in, floats_in, undefined_in};
 use crate::definitions::{Definition, split_definition};
 use crate::faults::WordsFault;
 use crate::syntax::syntax_words;
@@ -38,9 +38,15 @@ fn render_words<'a>(alloc: Global, matches: &ArgMatches<'a>) -> Result<Words<'a>
 {
     let undefined = undefined_in(alloc, matches)?;
     let autoescape = escape_in(alloc, matches)?;
+    let float_texts = floats_in(alloc, matches)?;
     Ok(Words::Render(RenderWords {
         context: text(matches, "context"),
         definitions: definitions(alloc, matches, "definition")?,
+        values: definitions(alloc, matches, "json")?,
+        data_files: values(alloc, matches, "data")?,
+        float_texts,
+        expression: text(matches, "expression"),
+        as_json: is_flagged(matches, "as-json"),
         fuel: matches.get_one::<u64>("fuel"),
         limit: matches.get_one::<u16>("limit").unwrap_or(DEFAULT_LIMIT),
         undefined,
@@ -49,6 +55,8 @@ fn render_words<'a>(alloc: Global, matches: &ArgMatches<'a>) -> Result<Words<'a>
         syntax: syntax_words(matches),
         main: text(matches, "main"),
         output: text(matches, "output"),
+        tells_where: is_flagged(matches, "where"),
+        templates: text(matches, "templates"),
         files: values(alloc, matches, "files")?,
     }))
 }
@@ -62,7 +70,9 @@ fn names_words<'a>(alloc: Global, matches: &ArgMatches<'a>) -> Result<Words<'a>,
         syntax: syntax_words(matches),
         main: text(matches, "main"),
         output: text(matches, "output"),
+        tells_where: is_flagged(matches, "where"),
         json: is_flagged(matches, "json"),
+        templates: text(matches, "templates"),
         files: values(alloc, matches, "files")?,
     }))
 }

@@ -1,0 +1,2 @@
+pub mod LineMade
+pub mod Told
