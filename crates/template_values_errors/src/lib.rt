@@ -1,19 +1,23 @@
 //! The refusals of the template engine: a kind, and at most one error as its cause; and the modes of a render.
 #![tactic(auto)]
 
-ghost use Rattle.std.specs.Prelude.{◌≡◌, ◌∷◌, [], ◌⊎◌, Some};
+ghost use Rattle.std.specs.Prelude.{◌≡◌, ◌∷◌, [], ◌⊎◌, IfOk, None, Some};
 ghost use Rattle.std.specs.Fmt.{WritesOnOk, padded};
 ghost use Rattle.std.specs.Cmp.{partial_equiv_from_equiv};
 ghost use Rattle.template_values_errors.specs.Same.{same_kinds, same_kinds-laws};
-ghost use Rattle.template_values_errors.specs.Causes.{IsCause, IsHead};
+ghost use Rattle.template_values_errors.specs.Causes.{IsCause, IsHead, IsKindedCause};
+ghost use Rattle.template_values_errors.specs.Chain.{HasKinds, kinds_of};
 ghost use Rattle.template_values_errors.specs.Memory.{NoMemory};
 ghost use Rattle.template_values_errors.specs.Names.{causes_text, kind_name, kinds_text};
 
 mod modes;
+mod places;
 
 pub use modes::{AutoEscape, UndefinedBehavior};
+pub use places::Place;
 use std::alloc::{AllocError, AllocFailed, Global};
 use std::marker::Model;
+use std::ops::Range;
 use std::{error, fmt};
 
 /// Why a call was refused.
@@ -110,12 +114,21 @@ impl fmt::Display for ErrorKind {
     }
 }
 
-/// A refusal: its kind, and the error that caused it, if one did. A contract sees the kinds,
-/// outermost first.
+/// A refusal: its kind, the error that caused it, if one did, and the places where it happened. A
+/// contract sees the kinds, outermost first.
+#[cycle(errors)]
 #[derive(Debug, Drop)]
 pub struct Error {
     kind: ErrorKind,
-    cause: Option<Box<Error>>,
+    rest: Option<Box<Rest>>,
+}
+
+/// What an error has beside its kind; most have neither.
+#[cycle(errors)]
+#[derive(Debug, Drop)]
+struct Rest {
+    cause: Option<Error>,
+    places: Vec<Place>,
 }
 
 impl Model for Error {
@@ -127,9 +140,9 @@ impl Model for Error {
 
     ghost use Rattle.template_values_errors.specs.Chain.{HasKinds, kinds_of};
 
-    ghost view = { λ e. e.kind ∷ kinds_of e.cause };
+    ghost view = { λ e. e.kind ∷ kinds_of e.rest };
 
-    ghost invariant = { λ e. HasKinds e.cause };
+    ghost invariant = { λ e. HasKinds e.rest };
 
     ghost size = { length };
 
@@ -137,11 +150,11 @@ impl Model for Error {
 }
 
 impl Error {
-    /// An error with no cause.
+    /// An error with no cause and no place.
     pub fn new(kind: ErrorKind) -> Error
         ensures { result ≡ kind ∷ [] }
     {
-        Error { kind, cause: None }
+        Error { kind, rest: None }
     }
 
     /// An error that `cause` led to. Where no memory is left for the cause, the error is
@@ -149,12 +162,28 @@ impl Error {
     pub fn with_cause(alloc: Global, kind: ErrorKind, cause: Error) -> Error
         ensures { (result ≡ kind ∷ cause) ⊎ NoMemory result }
     {
-        match Box::new(alloc, cause) {
-            Ok(cause) => Error {
+        let rest = Rest {
+            cause: Some(cause),
+            places: Vec::new(alloc),
+        };
+        match Box::new(alloc, rest) {
+            Ok(rest) => Error {
                 kind,
-                cause: Some(cause),
+                rest: Some(rest),
             },
             Err(refused) => refused.into(),
+        }
+    }
+
+    /// The same error, with `place` as the last of its places. Where no memory is left for the
+    /// place, it has those that it had.
+    pub fn placed(self, alloc: Global, place: Place) -> Error
+        ensures { result ≡ self }
+    {
+        let Error { kind, rest } = self;
+        Error {
+            kind,
+            rest: with_place(alloc, rest, place),
         }
     }
 
@@ -169,11 +198,87 @@ impl Error {
     pub fn cause(&self) -> Option<&Error>
         ensures { IsCause self.now result }
     {
-        match &self.cause {
-            Some(cause) => Some(cause),
+        self.kinded_cause()
+    }
+
+    fn kinded_cause(&self) -> Option<&Error>
+        ensures { IsKindedCause self.now result }
+    {
+        match &self.rest {
+            Some(rest) => match &rest.cause {
+                Some(cause) => Some(cause),
+                None => None,
+            },
             None => None,
         }
     }
+
+    /// Where this was refused: first what was refused, then each call of a macro, a block or a
+    /// recursive loop around it. What a cause has is its own. None where memory was wanting, where
+    /// the writer failed, or where what was refused lies in no template.
+    pub fn places(&self) -> &[Place] {
+        match &self.rest {
+            Some(rest) => rest.places.as_slice(),
+            None => &[],
+        }
+    }
+
+    /// The name of the template that the first place lies in.
+    pub fn name(&self) -> Option<&str> {
+        match self.places().first() {
+            Some(place) => Some(place.name.as_str()),
+            None => None,
+        }
+    }
+
+    /// The line of the first place; lines begin at 1.
+    pub fn line(&self) -> Option<usize> {
+        match self.places().first() {
+            Some(place) => Some(place.line as usize),
+            None => None,
+        }
+    }
+
+    /// The bytes of the source at the first place; none where only a line is known.
+    pub fn range(&self) -> Option<Range<usize>> {
+        match self.places().first() {
+            Some(place) if place.start < place.end => {
+                Some(place.start as usize..place.end as usize)
+            }
+            _ => None,
+        }
+    }
+}
+
+/// What an error has beside its kind, with one more place, or as it was where no memory is left.
+fn with_place(alloc: Global, rest: Option<Box<Rest>>, place: Place) -> Option<Box<Rest>>
+    requires { HasKinds rest }
+    ensures kinded { HasKinds result }
+    ensures same { kinds_of result ≡ kinds_of rest }
+{
+    match rest {
+        Some(mut rest) => {
+            let _ = rest.places.push(place);
+            Some(rest)
+        }
+        None => match one_place(alloc, place) {
+            Ok(rest) => Some(rest),
+            Err(_wanting) => None,
+        },
+    }
+}
+
+/// One place, and no cause.
+fn one_place(alloc: Global, place: Place) -> Result<Box<Rest>, Error>
+    ensures { IfOk result (λ rest. rest.value.cause ≡ None) }
+{
+    let mut places = Vec::new(alloc);
+    places.push(place)?;
+    let rest = Rest {
+        cause: None,
+        places,
+    };
+    Ok(Box::new(alloc, rest)?)
 }
 
 /// Writes the kinds, outermost first, joined by `: `, as `BadInclude: OutOfFuel`.
@@ -182,8 +287,8 @@ impl fmt::Display for Error {
 
     fn fmt<W: fmt::Write>(&self, f: &mut fmt::Formatter<W>) -> fmt::Result {
         f.write_str(self.kind.name())?;
-        match &self.cause {
-            Some(cause) => write_cause(cause.as_ref(), f),
+        match self.cause() {
+            Some(cause) => write_cause(cause, f),
             None => Ok(()),
         }
     }
@@ -195,8 +300,8 @@ fn write_cause<W: fmt::Write>(cause: &Error, f: &mut fmt::Formatter<W>) -> fmt::
 {
     f.write_str(": ")?;
     f.write_str(cause.kind.name())?;
-    match &cause.cause {
-        Some(cause) => write_cause(cause.as_ref(), f),
+    match cause.cause() {
+        Some(cause) => write_cause(cause, f),
         None => Ok(()),
     }
 }
@@ -211,8 +316,8 @@ impl PartialEq for Error {
 
     fn eq(&self, other: &Error) -> bool {
         self.kind == other.kind
-            && match (&self.cause, &other.cause) {
-                (Some(cause), Some(other)) => cause.as_ref() == other.as_ref(),
+            && match (self.kinded_cause(), other.kinded_cause()) {
+                (Some(cause), Some(other)) => cause == other,
                 (None, None) => true,
                 _ => false,
             }
