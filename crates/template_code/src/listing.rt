@@ -14,7 +14,7 @@ use std::alloc::{AllocError, Global};
 use std::borrow::CowStr;
 use template_code_marks::{Mark, Marks};
 use template_tree::Span;
-use template_values_errors::{Error, ErrorKind};
+use template_values_errors::{Error, ErrorKind, Place};
 
 // How many bytes of a source give an instruction, and how many one that is marked, where it has little text.
 const BYTES_AN_INSTRUCTION: usize = 4;
@@ -201,6 +201,36 @@ impl<'source> Instructions<'source> {
         ensures { result ≡ span_in self.now index }
     {
         self.marks.span(index)
+    }
+
+    /// The same error, with one more place: where in the source the instruction at `index` comes from. For
+    /// [`Error::places`]; contracts do not see it. Takes a search by halving and a copy of the name.
+    #[cold]
+    #[inline(never)]
+    pub fn placed(&self, error: Error, index: u32) -> Error
+        ensures { result ≡ error }
+    {
+        let alloc = *self.code.allocator();
+        let Ok(name) = String::from_str(alloc, self.name()) else {
+            return error;
+        };
+        let place = match self.get_span(index) {
+            Some(span) => Place {
+                name,
+                line: span.start_line,
+                column: span.start_col,
+                start: span.start_offset,
+                end: span.end_offset,
+            },
+            None => Place {
+                name,
+                line: self.get_line(index).unwrap_or(0),
+                column: 0,
+                start: 0,
+                end: 0,
+            },
+        };
+        error.placed(alloc, place)
     }
 
     /// Puts an instruction behind the others, and answers its place.
