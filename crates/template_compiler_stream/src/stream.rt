@@ -191,6 +191,11 @@ impl<'source> TokenStream<'source> {
         }
     }
 
+    /// How many tokens were passed: a hint for where to look for a refusal, which no contract speaks of.
+    pub fn passed(&self) -> usize {
+        self.place
+    }
+
     /// Whether a closing bracket stands next.
     pub fn closes(&self) -> bool
         ensures { result ≡ begins_closing self.now.left }

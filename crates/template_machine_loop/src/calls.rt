@@ -10,7 +10,8 @@ ghost use Rattle.template_machine_loop.specs.declared.tasks.Task.TheVariants.{Ca
 
 use std::alloc::Global;
 use template_callables::Callbacks;
-use template_code::Instruction;
+use crate::writing::stopped_at;
+use template_code::{Instruction, Instructions};
 use template_machine_calls::{
     Entry, Rules, apply_filter, call_function, call_method, call_object, perform_test,
 };
@@ -28,6 +29,29 @@ use template_values_errors::{Error, ErrorKind};
 #[cold]
 #[inline(never)]
 pub(crate) fn call<H: Callbacks>(
+    alloc: Global,
+    rules: Rules<'_>,
+    host: &H,
+    code: &Instructions<'_>,
+    instruction: &Instruction<'_>,
+    place: u32,
+    operands: &mut Operands,
+    state: &mut State<'_>,
+) -> Result<Option<Entry>, Stop>
+    requires { task_of (code_of instruction.now) ≡ Calls }
+    ensures { (program : Programs) →
+        CallsSo (hosted rules.entry (H.callables host.now) program) (code_of instruction.now) (operands_in operands.old) state.old
+        result (operands_in operands.new) state.new }
+{
+    match called(alloc, rules, host, instruction, operands, state) {
+        Ok(entry) => Ok(entry),
+        Err(stop) => Err(stopped_at(code, place, stop)),
+    }
+}
+
+// As `call`; the stop has no place yet.
+#[inline(always)]
+fn called<H: Callbacks>(
     alloc: Global,
     rules: Rules<'_>,
     host: &H,

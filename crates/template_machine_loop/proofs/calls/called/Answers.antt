@@ -5,7 +5,7 @@ use Rattle.template_machine_calls.specs.Hosted.{hosted}
 use Rattle.template_walk.specs.Statements.{is_super_name}
 use Rattle.template_machine_loop.specs.Programs.{task_of}
 use Rattle.template_machine_loop.proofs.Calling.{none_calls, calls_at, called_name}
-use Rattle.template_machine_loop.proofs.calls.call.Goals as goal
+use Rattle.template_machine_loop.proofs.calls.called.Goals as goal
 
 pub returns-in-ApplyFilter : goal.returns-in-ApplyFilter
 returns-in-ApplyFilter g c program =
