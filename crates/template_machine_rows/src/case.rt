@@ -9,7 +9,7 @@ use template_values_errors::{Error, ErrorKind, UndefinedBehavior};
 use template_values_json::context_from_json;
 
 // The names of a case's entries.
-const KNOWN: [&str; 31] = [
+const KNOWN: [&str; 32] = [
     "globals",
     "remove_globals",
     "filters",
@@ -41,6 +41,7 @@ const KNOWN: [&str; 31] = [
     "state",
     "names",
     "skip",
+    "where",
 ];
 
 // The names of the entries that say what is brought.
@@ -447,7 +448,7 @@ fn listed_of<'line>(alloc: Global, names: Option<&'line Json>) -> Result<Vec<&'l
     }
 }
 
-fn truth_of(truth: Option<&Json>, out: &mut Report) -> bool {
+pub(crate) fn truth_of(truth: Option<&Json>, out: &mut Report) -> bool {
     match truth {
         None => false,
         Some(Json::Bool(truth)) => *truth,

@@ -41,7 +41,8 @@
 //! - `owned`: `true`, where the texts of templates and of the expression are copied, and let go before they are used;
 //! - `state`: `true`, where the state that a render left is told too;
 //! - `names`: `true`, where the names of a context are asked for in place of a render;
-//! - `skip`: `true`, where a refused addition does not end the case.
+//! - `skip`: `true`, where a refused addition does not end the case;
+//! - `where`: `true`, where the places of faults are told.
 //!
 //! What is brought is described by a word, or by an object with one answer:
 //!
@@ -68,6 +69,8 @@
 //! - `"text"` where the render is done, and ` price N` behind it under a fuel, N being what it took of the fuel, and the
 //!   state behind that;
 //! - `"text" ! Kind: Kind` where it ended with a fault: the text before that, then the kinds, outermost first;
+//! - behind the kinds, where places are told, ` at`, and for each level of the chain ` [name:line:column, name:line:column]`: what
+//!   was refused, then each call around it;
 //! - `_` in place of a text that went nowhere;
 //! - `- name ! Kind` where the addition of that template is refused, which ends the case (or goes before the rest,
 //!   with `, ` between, where refusals are skipped);
@@ -108,7 +111,7 @@ mod tellings;
 mod times;
 
 use crate::answers::answer;
-use crate::case::Case;
+use crate::case::{Case, truth_of};
 use crate::report::Report;
 use crate::times::about_time;
 use serde_json::{Map, Value as Json};
@@ -159,6 +162,7 @@ fn about_entries(rt: &HostRuntime, entries: &Map<String, Json>, out: &mut Report
 
 fn about_case(alloc: Global, entries: &Map<String, Json>, out: &mut Report) {
     let case = Case::read(alloc, entries, out);
+    out.tells_places = truth_of(entries.get("where"), out);
     if out.refused.is_none() {
         answer(alloc, &case, out)
     }

@@ -14,6 +14,8 @@ pub(crate) struct Report {
     pub(crate) text: String,
     /// Why it is not whole, where it is not.
     pub(crate) refused: Option<ErrorKind>,
+    /// Whether the places of faults are told.
+    pub(crate) tells_places: bool,
 }
 
 impl Report {
@@ -22,6 +24,7 @@ impl Report {
         Report {
             text: String::new(alloc),
             refused: None,
+            tells_places: false,
         }
     }
 
@@ -70,10 +73,32 @@ impl Report {
         self.note(written);
     }
 
-    /// The kinds of a fault.
+    /// The kinds of a fault, and behind them its places where they are told.
     pub(crate) fn fault(&mut self, error: &Error) {
         let written = write!(self.text, "! {error}");
         self.note(written);
+        if self.tells_places {
+            self.push_str(" at");
+            self.places(error);
+        }
+    }
+
+    // The places of each level, the outermost level first.
+    fn places(&mut self, error: &Error) {
+        self.push_str(" [");
+        let mut first = true;
+        for place in error.places() {
+            if !first {
+                self.push_str(", ");
+            }
+            first = false;
+            let written = write!(self.text, "{place}");
+            self.note(written);
+        }
+        self.push(']');
+        if let Some(cause) = error.cause() {
+            self.places(cause);
+        }
     }
 
     /// Bytes as a text of JSON.
