@@ -106,5 +106,5 @@ pub use template_machine_surroundings::{
 pub use template_process::{enough_is_enough, fuel_adds_up, writes_beginning};
 pub use template_values_contexts::{ContextError, Floats, context_from_json_with};
 pub use template_values_core::{Content, Entry, Value};
-pub use template_values_errors::{AutoEscape, Error, ErrorKind, UndefinedBehavior};
+pub use template_values_errors::{AutoEscape, Error, ErrorKind, Place, UndefinedBehavior};
 pub use template_values_json::{context_from_json, entries_from_json};

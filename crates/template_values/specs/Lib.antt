@@ -20,3 +20,13 @@ pub use Rattle.template_values_forms.specs.Known
 pub use Rattle.template_values_forms.specs.Printed
 pub use Rattle.template_values_forms.specs.Escaped
 pub use Rattle.template_values_forms.specs.Truth
+pub use Rattle.template_values_operators.specs.Kinds
+pub use Rattle.template_values_operators.specs.Arithmetic
+pub use Rattle.template_values_operators.specs.Sums
+pub use Rattle.template_values_operators.specs.Products
+pub use Rattle.template_values_operators.specs.Records
+pub use Rattle.template_values_operators.specs.Items
+pub use Rattle.template_values_operators.specs.Contains
+pub use Rattle.template_values_operators.specs.Iterated
+pub use Rattle.template_values_operators.specs.Slices
+pub use Rattle.template_values_items.specs.Loops

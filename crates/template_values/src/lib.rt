@@ -3,7 +3,7 @@
 #![tactic(auto)]
 
 pub use template_values_core::{Content, Entry, Value, order_laws};
-pub use template_values_errors::{AutoEscape, Error, ErrorKind, UndefinedBehavior};
+pub use template_values_errors::{AutoEscape, Error, ErrorKind, Place, UndefinedBehavior};
 pub use template_values_forms::{LoopView, MacroView, NoRecords, Records};
 pub use template_values_items::{contains, get_attr, get_item, items_of, slice};
 pub use template_values_json::{context_from_json, entries_from_json};
