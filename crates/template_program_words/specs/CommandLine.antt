@@ -1,6 +1,6 @@
 -- The command line, in the words in which `clap` describes one: `names [--builtins] [--main NAME] [-o FILE] [--json] [SYNTAX] [FILE...]`
 -- and `render [--context FILE] [-D NAME=TEXT]... [--fuel N] [--limit N] [--undefined MODE] [--builtins] [--main NAME] [-o FILE]
--- [--autoescape FORMAT] [SYNTAX] [FILE...]`.
+-- [--data FILE]... [--json NAME=JSON]... [--floats FORM] [--autoescape FORMAT] [SYNTAX] [FILE...]`.
 use Rattle.std.specs.Prelude.{ℕ, List, [], ◌∷◌, Some, codes, map, pos, true}
 use Rattle.clap.specs.Lexer.{usize_max}
 use Rattle.clap.specs.Words.{App, Rule, new_app, new_rule, with_rule, with_subcommand}
@@ -14,6 +14,10 @@ taking_value id = record (new_rule id) { value_names = 1 }
 -- `--NAME TEXT`, once at most
 abbrev pub text_option : List ℕ → Rule
 text_option name = record (new_rule name) { long = Some name; value_names = 1 }
+
+-- `--NAME TEXT`, any number of times
+abbrev pub texts_option : List ℕ → Rule
+texts_option name = record (text_option name) { action = Some Append }
 
 -- `--NAME`, once at most, without a value
 abbrev pub flag_option : List ℕ → Rule
@@ -60,6 +64,18 @@ main_option = text_option (codes "main")
 abbrev pub names_json_option : Rule
 names_json_option = flag_option (codes "json")
 
+-- `--data FILE`, any number of times
+abbrev pub data_option : Rule
+data_option = texts_option (codes "data")
+
+-- `--json NAME=JSON`, any number of times
+abbrev pub json_option : Rule
+json_option = texts_option (codes "json")
+
+-- `--floats FORM`, once at most
+abbrev pub floats_option : Rule
+floats_option = text_option (codes "floats")
+
 -- `--autoescape FORMAT`, once at most
 abbrev pub autoescape_option : Rule
 autoescape_option = text_option (codes "autoescape")
@@ -94,9 +110,9 @@ abbrev pub render_rules : List Rule
 render_rules = context_option ∷ definition_option ∷ fuel_option ∷ limit_option ∷ undefined_option ∷ builtins_option
     ∷ main_option ∷ output_option ∷ files_argument ∷ []
 
--- how values are printed
+-- the words on values
 abbrev pub value_rules : List Rule
-value_rules = autoescape_option ∷ []
+value_rules = data_option ∷ json_option ∷ floats_option ∷ autoescape_option ∷ []
 
 abbrev pub names_rules : List Rule
 names_rules = builtins_option ∷ main_option ∷ output_option ∷ names_json_option ∷ files_argument ∷ []

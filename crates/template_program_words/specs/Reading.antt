@@ -6,6 +6,7 @@ use Rattle.std.specs.Str.Parse.{IsNumeral, digits_value, without_leading_plus}
 use Rattle.clap.specs.Words.{Row, all_of, first_of, one_of}
 use Rattle.template_program_words.specs.Definitions.{equals_sign, definition_name, definition_text}
 use Rattle.template_program_words.specs.Escapes.{escape_of}
+use Rattle.template_program_words.specs.Floats.{floats_of}
 use Rattle.template_program_words.specs.Modes.{mode_of}
 use Rattle.template_program_words.specs.declared.definitions.Definition.{Definition}
 use Rattle.template_program_words.specs.declared.syntax.SyntaxWords.{SyntaxWords}
@@ -76,6 +77,9 @@ pub record ReadsSyntax (rows : List Row) (read : SyntaxWords) : Type 0 where
 pub record ReadsRender (rows : List Row) (read : RenderWords) : Type 0 where
   pub context : ReadsText (codes "context") rows read.context
   pub definitions : Defines (values_of (codes "definition") rows) read.definitions.items
+  pub values : Defines (values_of (codes "json") rows) read.values.items
+  pub data_files : map (λ path. path.now) read.data_files.items ≡ values_of (codes "data") rows
+  pub float_texts : floats_of (first_of (codes "floats") rows) ≡ Some read.float_texts
   pub fuel : ReadsNumber 64 (one_of (codes "fuel") rows) read.fuel
   pub limit : ReadsLimit (one_of (codes "limit") rows) read.limit
   pub undefined : mode_of (first_of (codes "undefined") rows) ≡ Some read.undefined

@@ -5,7 +5,7 @@ ghost use Rattle.template_program_words.specs.Reading.{Defines, ReadsText, Reads
 ghost use Rattle.template_program_words.specs.Refusals.{RefusesWords, RefusesDefinitions, RefusesRender};
 ghost use Rattle.template_program_words.specs.declared.faults.WordsFault.TheVariants.{Memory};
 
-use crate::choices::{escape_in, undefined_in};
+use crate::choices::{escape_in, floats_in, undefined_in};
 use crate::definitions::{Definition, split_definition};
 use crate::faults::WordsFault;
 use crate::syntax::syntax_words;
@@ -38,9 +38,13 @@ fn render_words<'a>(alloc: Global, matches: &ArgMatches<'a>) -> Result<Words<'a>
 {
     let undefined = undefined_in(alloc, matches)?;
     let autoescape = escape_in(alloc, matches)?;
+    let float_texts = floats_in(alloc, matches)?;
     Ok(Words::Render(RenderWords {
         context: text(matches, "context"),
         definitions: definitions(alloc, matches, "definition")?,
+        values: definitions(alloc, matches, "json")?,
+        data_files: values(alloc, matches, "data")?,
+        float_texts,
         fuel: matches.get_one::<u64>("fuel"),
         limit: matches.get_one::<u16>("limit").unwrap_or(DEFAULT_LIMIT),
         undefined,

@@ -5,6 +5,7 @@ mod choices;
 mod definitions;
 mod escapes;
 mod faults;
+mod floats;
 mod found;
 mod modes;
 mod options;

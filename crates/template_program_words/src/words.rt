@@ -20,6 +20,12 @@ pub struct RenderWords<'a> {
     pub context: Option<&'a str>,
     /// The texts that are set over the context, in the order of the words.
     pub definitions: Vec<Definition<'a>>,
+    /// The values that are set over the context, in the order of the words: the text of each is JSON.
+    pub values: Vec<Definition<'a>>,
+    /// The paths of the files that hold more of the context, in the order of the words.
+    pub data_files: Vec<&'a str>,
+    /// Whether a float of the context is a text, as it is spelled.
+    pub float_texts: bool,
     /// The fuel.
     pub fuel: Option<u64>,
     /// How deep the render may be: 500 where no word says it.
