@@ -1,6 +1,6 @@
--- The command line, in the words in which `clap` describes one: `names [--builtins] [--main NAME] [-o FILE] [--json] [SYNTAX] [FILE...]`
+-- The command line, in the words in which `clap` describes one: `names [--builtins] [--main NAME] [-o FILE] [--json] [--templates FOLDER] [SYNTAX] [FILE...]`
 -- and `render [--context FILE] [-D NAME=TEXT]... [--fuel N] [--limit N] [--undefined MODE] [--builtins] [--main NAME] [-o FILE]
--- [--data FILE]... [--json NAME=JSON]... [--floats FORM] [--autoescape FORMAT] [SYNTAX] [FILE...]`.
+-- [--templates FOLDER] [--data FILE]... [--json NAME=JSON]... [--floats FORM] [--autoescape FORMAT] [SYNTAX] [FILE...]`.
 use Rattle.std.specs.Prelude.{ℕ, List, [], ◌∷◌, Some, codes, map, pos, true}
 use Rattle.clap.specs.Lexer.{usize_max}
 use Rattle.clap.specs.Words.{App, Rule, new_app, new_rule, with_rule, with_subcommand}
@@ -93,6 +93,10 @@ syntax_texts = map text_option (codes "line-statement" ∷ codes "line-comment" 
 abbrev pub output_option : Rule
 output_option = record (text_option (codes "output")) { short = Some 111 }
 
+-- `--templates FOLDER`, once at most
+abbrev pub templates_option : Rule
+templates_option = text_option (codes "templates")
+
 -- `FILE...`, none or more
 abbrev pub files_argument : Rule
 files_argument = record (new_rule (codes "files")) {
@@ -108,14 +112,15 @@ with_rules app (rule ∷ rules) = with_rules (with_rule app rule) rules
 
 abbrev pub render_rules : List Rule
 render_rules = context_option ∷ definition_option ∷ fuel_option ∷ limit_option ∷ undefined_option ∷ builtins_option
-    ∷ main_option ∷ output_option ∷ files_argument ∷ []
+    ∷ main_option ∷ output_option ∷ templates_option ∷ files_argument ∷ []
 
 -- the words on values
 abbrev pub value_rules : List Rule
 value_rules = data_option ∷ json_option ∷ floats_option ∷ autoescape_option ∷ []
 
 abbrev pub names_rules : List Rule
-names_rules = builtins_option ∷ main_option ∷ output_option ∷ names_json_option ∷ files_argument ∷ []
+names_rules =
+    builtins_option ∷ main_option ∷ output_option ∷ names_json_option ∷ templates_option ∷ files_argument ∷ []
 
 -- an app that takes the words of the syntax too
 abbrev pub with_syntax : App → App

@@ -53,6 +53,7 @@ fn render_words<'a>(alloc: Global, matches: &ArgMatches<'a>) -> Result<Words<'a>
         syntax: syntax_words(matches),
         main: text(matches, "main"),
         output: text(matches, "output"),
+        templates: text(matches, "templates"),
         files: values(alloc, matches, "files")?,
     }))
 }
@@ -67,6 +68,7 @@ fn names_words<'a>(alloc: Global, matches: &ArgMatches<'a>) -> Result<Words<'a>,
         main: text(matches, "main"),
         output: text(matches, "output"),
         json: is_flagged(matches, "json"),
+        templates: text(matches, "templates"),
         files: values(alloc, matches, "files")?,
     }))
 }

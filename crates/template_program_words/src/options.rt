@@ -43,7 +43,7 @@ fn bare_program<'a>(alloc: Global) -> Result<Command<'a>, AllocError>
 }
 
 /// `render [--context FILE] [-D NAME=TEXT]... [--fuel N] [--limit N] [--undefined MODE] [--builtins] [--main NAME] [-o FILE]
-/// [--data FILE]... [--json NAME=JSON]... [--floats FORM] [--autoescape FORMAT] [SYNTAX] [FILE...]`
+/// [--templates FOLDER] [--data FILE]... [--json NAME=JSON]... [--floats FORM] [--autoescape FORMAT] [SYNTAX] [FILE...]`
 fn render<'a>(alloc: Global) -> Result<Command<'a>, AllocError>
     ensures app { IfOk result (λ command. app_of command ≡ line.render_command) }
     ensures local { IfOk result (λ command. (out-Command command).has_globals ≡ false) }
@@ -69,11 +69,12 @@ fn render_arguments<'a>(alloc: Global) -> Result<Vec<Arg<'a>>, AllocError>
         builtins(alloc),
         main(alloc),
         output(alloc),
+        templates(alloc),
         files(alloc),
     ]?)
 }
 
-/// `names [--builtins] [--main NAME] [-o FILE] [--json] [SYNTAX] [FILE...]`
+/// `names [--builtins] [--main NAME] [-o FILE] [--json] [--templates FOLDER] [SYNTAX] [FILE...]`
 fn names<'a>(alloc: Global) -> Result<Command<'a>, AllocError>
     ensures app { IfOk result (λ command. app_of command ≡ line.names_command) }
     ensures local { IfOk result (λ command. (out-Command command).has_globals ≡ false) }
@@ -94,6 +95,7 @@ fn names_arguments<'a>(alloc: Global) -> Result<Vec<Arg<'a>>, AllocError>
         main(alloc),
         output(alloc),
         names_json(alloc),
+        templates(alloc),
         files(alloc),
     ]?)
 }
@@ -213,6 +215,14 @@ fn names_json<'a>(alloc: Global) -> Arg<'a>
         "json",
         "Prints the names as a JSON list, on one line",
     )
+}
+
+fn templates<'a>(alloc: Global) -> Arg<'a>
+    ensures rule { rule_of result ≡ line.templates_option }
+    ensures local { result.global ≡ false }
+{
+    let help = "A folder: each file below it is a template, under its path from there";
+    text_option(alloc, "templates", "FOLDER", help)
 }
 
 fn files<'a>(alloc: Global) -> Arg<'a>

@@ -42,6 +42,8 @@ pub struct RenderWords<'a> {
     pub main: Option<&'a str>,
     /// The path of the file that is written in place of standard output.
     pub output: Option<&'a str>,
+    /// The folder whose files are templates.
+    pub templates: Option<&'a str>,
     /// The paths of the templates, in the order of the words.
     pub files: Vec<&'a str>,
 }
@@ -59,6 +61,8 @@ pub struct NamesWords<'a> {
     pub output: Option<&'a str>,
     /// Whether the names are printed as a JSON list.
     pub json: bool,
+    /// The folder whose files are templates.
+    pub templates: Option<&'a str>,
     /// The paths of the templates, in the order of the words.
     pub files: Vec<&'a str>,
 }

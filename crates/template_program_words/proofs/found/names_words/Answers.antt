@@ -12,6 +12,7 @@ returns-clause-reads c = (
     main = c.text.ensures;
     output = c.text-2.ensures;
     json = c.is_flagged-2.ensures;
+    templates = c.text-3.ensures;
     files = c.in_ok-values.ensures;
   },
 )

@@ -37,6 +37,7 @@ returns-clause-reads c =
         syntax = c.syntax_words.ensures;
         main = c.text-2.ensures;
         output = c.text-3.ensures;
+        templates = c.text-4.ensures;
         files = c.in_ok-values-2.ensures;
       },
     )
