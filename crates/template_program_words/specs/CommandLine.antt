@@ -1,6 +1,7 @@
 -- The command line, in the words in which `clap` describes one: `names [--builtins] [--main NAME] [-o FILE] [--json] [--templates FOLDER] [SYNTAX] [FILE...]`
 -- and `render [--context FILE] [-D NAME=TEXT]... [--fuel N] [--limit N] [--undefined MODE] [--builtins] [--main NAME] [-o FILE]
--- [--templates FOLDER] [--data FILE]... [--json NAME=JSON]... [--floats FORM] [--autoescape FORMAT] [SYNTAX] [FILE...]`.
+-- [--templates FOLDER] [--data FILE]... [--json NAME=JSON]... [--floats FORM] [--autoescape FORMAT]
+-- [--expression TEXT] [--as-json] [SYNTAX] [FILE...]`.
 use Rattle.std.specs.Prelude.{ℕ, List, [], ◌∷◌, Some, codes, map, pos, true}
 use Rattle.clap.specs.Lexer.{usize_max}
 use Rattle.clap.specs.Words.{App, Rule, new_app, new_rule, with_rule, with_subcommand}
@@ -76,6 +77,14 @@ json_option = texts_option (codes "json")
 abbrev pub floats_option : Rule
 floats_option = text_option (codes "floats")
 
+-- `--expression TEXT`, once at most
+abbrev pub expression_option : Rule
+expression_option = text_option (codes "expression")
+
+-- `--as-json`, once at most, without a value
+abbrev pub as_json_option : Rule
+as_json_option = flag_option (codes "as-json")
+
 -- `--autoescape FORMAT`, once at most
 abbrev pub autoescape_option : Rule
 autoescape_option = text_option (codes "autoescape")
@@ -116,7 +125,7 @@ render_rules = context_option ∷ definition_option ∷ fuel_option ∷ limit_op
 
 -- the words on values
 abbrev pub value_rules : List Rule
-value_rules = data_option ∷ json_option ∷ floats_option ∷ autoescape_option ∷ []
+value_rules = data_option ∷ json_option ∷ floats_option ∷ autoescape_option ∷ expression_option ∷ as_json_option ∷ []
 
 abbrev pub names_rules : List Rule
 names_rules =

@@ -80,6 +80,8 @@ pub record ReadsRender (rows : List Row) (read : RenderWords) : Type 0 where
   pub values : Defines (values_of (codes "json") rows) read.values.items
   pub data_files : map (λ path. path.now) read.data_files.items ≡ values_of (codes "data") rows
   pub float_texts : floats_of (first_of (codes "floats") rows) ≡ Some read.float_texts
+  pub expression : ReadsText (codes "expression") rows read.expression
+  pub as_json : read.as_json ≡ has_flag (codes "as-json") rows
   pub fuel : ReadsNumber 64 (one_of (codes "fuel") rows) read.fuel
   pub limit : ReadsLimit (one_of (codes "limit") rows) read.limit
   pub undefined : mode_of (first_of (codes "undefined") rows) ≡ Some read.undefined

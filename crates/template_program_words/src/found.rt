@@ -45,6 +45,8 @@ fn render_words<'a>(alloc: Global, matches: &ArgMatches<'a>) -> Result<Words<'a>
         values: definitions(alloc, matches, "json")?,
         data_files: values(alloc, matches, "data")?,
         float_texts,
+        expression: text(matches, "expression"),
+        as_json: is_flagged(matches, "as-json"),
         fuel: matches.get_one::<u64>("fuel"),
         limit: matches.get_one::<u16>("limit").unwrap_or(DEFAULT_LIMIT),
         undefined,

@@ -43,7 +43,8 @@ fn bare_program<'a>(alloc: Global) -> Result<Command<'a>, AllocError>
 }
 
 /// `render [--context FILE] [-D NAME=TEXT]... [--fuel N] [--limit N] [--undefined MODE] [--builtins] [--main NAME] [-o FILE]
-/// [--templates FOLDER] [--data FILE]... [--json NAME=JSON]... [--floats FORM] [--autoescape FORMAT] [SYNTAX] [FILE...]`
+/// [--templates FOLDER] [--data FILE]... [--json NAME=JSON]... [--floats FORM] [--autoescape FORMAT]
+/// [--expression TEXT] [--as-json] [SYNTAX] [FILE...]`
 fn render<'a>(alloc: Global) -> Result<Command<'a>, AllocError>
     ensures app { IfOk result (λ command. app_of command ≡ line.render_command) }
     ensures local { IfOk result (λ command. (out-Command command).has_globals ≡ false) }

@@ -3,11 +3,11 @@ ghost use Rattle.std.specs.Prelude.{◌≡◌, IfOk, All, false, map};
 ghost use Rattle.clap.specs.Words.{rule_of};
 ghost use Rattle.template_program_words.specs.CommandLine as line;
 
-use crate::options::text_option;
+use crate::options::{flag_option, text_option};
 use clap::{Arg, ArgAction};
 use std::alloc::{AllocError, Global};
 
-/// `[--data FILE]... [--json NAME=JSON]... [--floats FORM] [--autoescape FORMAT]`
+/// `[--data FILE]... [--json NAME=JSON]... [--floats FORM] [--autoescape FORMAT] [--expression TEXT] [--as-json]`
 pub(crate) fn value_arguments<'a>(alloc: Global) -> Result<Vec<Arg<'a>>, AllocError>
     ensures rules { IfOk result (λ arguments. map rule_of arguments.items ≡ line.value_rules) }
     ensures local { IfOk result (λ arguments. All (λ a. a.global ≡ false) arguments.items) }
@@ -17,6 +17,8 @@ pub(crate) fn value_arguments<'a>(alloc: Global) -> Result<Vec<Arg<'a>>, AllocEr
         json(alloc),
         floats(alloc),
         autoescape(alloc),
+        expression(alloc),
+        as_json(alloc),
     ]?)
 }
 
@@ -62,4 +64,23 @@ fn autoescape<'a>(alloc: Global) -> Arg<'a>
     let help =
         "How values are escaped: none, html, json, or name (if not given), as the template's name says";
     text_option(alloc, "autoescape", "FORMAT", help)
+}
+
+fn expression<'a>(alloc: Global) -> Arg<'a>
+    ensures rule { rule_of result ≡ line.expression_option }
+    ensures local { result.global ≡ false }
+{
+    let help = "An expression whose value is printed, in place of a template";
+    text_option(alloc, "expression", "TEXT", help)
+}
+
+fn as_json<'a>(alloc: Global) -> Arg<'a>
+    ensures rule { rule_of result ≡ line.as_json_option }
+    ensures local { result.global ≡ false }
+{
+    flag_option(
+        alloc,
+        "as-json",
+        "Prints the value of the expression as JSON",
+    )
 }

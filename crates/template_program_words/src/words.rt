@@ -26,6 +26,10 @@ pub struct RenderWords<'a> {
     pub data_files: Vec<&'a str>,
     /// Whether a float of the context is a text, as it is spelled.
     pub float_texts: bool,
+    /// The expression whose value is printed in place of a template.
+    pub expression: Option<&'a str>,
+    /// Whether the expression's value is printed as JSON.
+    pub as_json: bool,
     /// The fuel.
     pub fuel: Option<u64>,
     /// How deep the render may be: 500 where no word says it.

@@ -17,6 +17,8 @@ returns-clause-reads c =
         values = c.in_ok-definitions-2.ensures.defines;
         data_files = c.in_ok-values.ensures;
         float_texts = c.in_ok-float_texts.ensures.reads;
+        expression = c.text-2.ensures;
+        as_json = c.is_flagged.ensures;
         fuel = ReadsNumber-cases 64 (one_of (codes "fuel") (rows_of found)) c.get_one.result
             (λ e. c.get_one.ensures.none (one_text-rows found (codes "fuel") ∙ e))
             (λ t e. ReadsNumber-parsed 64
@@ -33,11 +35,11 @@ returns-clause-reads c =
             (c.get_one-2.result, number, c.unwrap_or.ensures);
         undefined = c.in_ok-undefined.ensures.reads;
         autoescape = c.in_ok-autoescape.ensures.reads;
-        builtins = c.is_flagged.ensures;
+        builtins = c.is_flagged-2.ensures;
         syntax = c.syntax_words.ensures;
-        main = c.text-2.ensures;
-        output = c.text-3.ensures;
-        templates = c.text-4.ensures;
+        main = c.text-3.ensures;
+        output = c.text-4.ensures;
+        templates = c.text-5.ensures;
         files = c.in_ok-values-2.ensures;
       },
     )
