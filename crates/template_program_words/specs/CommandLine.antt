@@ -1,6 +1,7 @@
--- The command line, in the words in which `clap` describes one: `names [--builtins] [--main NAME] [-o FILE] [--json] [--templates FOLDER] [SYNTAX] [FILE...]`
+-- The command line, in the words in which `clap` describes one: `names [--builtins] [--main NAME] [-o FILE] [--where] [--json]
+-- [--templates FOLDER] [SYNTAX] [FILE...]`
 -- and `render [--context FILE] [-D NAME=TEXT]... [--fuel N] [--limit N] [--undefined MODE] [--builtins] [--main NAME] [-o FILE]
--- [--templates FOLDER] [--data FILE]... [--json NAME=JSON]... [--floats FORM] [--autoescape FORMAT]
+-- [--where] [--templates FOLDER] [--data FILE]... [--json NAME=JSON]... [--floats FORM] [--autoescape FORMAT]
 -- [--expression TEXT] [--as-json] [SYNTAX] [FILE...]`.
 use Rattle.std.specs.Prelude.{ℕ, List, [], ◌∷◌, Some, codes, map, pos, true}
 use Rattle.clap.specs.Lexer.{usize_max}
@@ -106,6 +107,10 @@ output_option = record (text_option (codes "output")) { short = Some 111 }
 abbrev pub templates_option : Rule
 templates_option = text_option (codes "templates")
 
+-- `--where`, once at most, without a value
+abbrev pub where_option : Rule
+where_option = flag_option (codes "where")
+
 -- `FILE...`, none or more
 abbrev pub files_argument : Rule
 files_argument = record (new_rule (codes "files")) {
@@ -121,7 +126,7 @@ with_rules app (rule ∷ rules) = with_rules (with_rule app rule) rules
 
 abbrev pub render_rules : List Rule
 render_rules = context_option ∷ definition_option ∷ fuel_option ∷ limit_option ∷ undefined_option ∷ builtins_option
-    ∷ main_option ∷ output_option ∷ templates_option ∷ files_argument ∷ []
+    ∷ main_option ∷ output_option ∷ where_option ∷ templates_option ∷ files_argument ∷ []
 
 -- the words on values
 abbrev pub value_rules : List Rule
@@ -129,7 +134,7 @@ value_rules = data_option ∷ json_option ∷ floats_option ∷ autoescape_optio
 
 abbrev pub names_rules : List Rule
 names_rules =
-    builtins_option ∷ main_option ∷ output_option ∷ names_json_option ∷ templates_option ∷ files_argument ∷ []
+    builtins_option ∷ main_option ∷ output_option ∷ where_option ∷ names_json_option ∷ templates_option ∷ files_argument ∷ []
 
 -- an app that takes the words of the syntax too
 abbrev pub with_syntax : App → App

@@ -90,6 +90,7 @@ pub record ReadsRender (rows : List Row) (read : RenderWords) : Type 0 where
   pub syntax : ReadsSyntax rows read.syntax
   pub main : ReadsText (codes "main") rows read.main
   pub output : ReadsText (codes "output") rows read.output
+  pub tells_where : read.tells_where ≡ has_flag (codes "where") rows
   pub templates : ReadsText (codes "templates") rows read.templates
   pub files : map (λ path. path.now) read.files.items ≡ values_of (codes "files") rows
 
@@ -99,6 +100,7 @@ pub record ReadsNames (rows : List Row) (read : NamesWords) : Type 0 where
   pub syntax : ReadsSyntax rows read.syntax
   pub main : ReadsText (codes "main") rows read.main
   pub output : ReadsText (codes "output") rows read.output
+  pub tells_where : read.tells_where ≡ has_flag (codes "where") rows
   pub json : read.json ≡ has_flag (codes "json") rows
   pub templates : ReadsText (codes "templates") rows read.templates
   pub files : map (λ path. path.now) read.files.items ≡ values_of (codes "files") rows

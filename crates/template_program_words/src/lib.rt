@@ -10,6 +10,7 @@ mod found;
 mod modes;
 mod options;
 mod reading;
+mod shared_options;
 mod syntax;
 mod syntax_options;
 mod value_options;

@@ -4,6 +4,7 @@ ghost use Rattle.clap.specs.Words.{app_of, rule_of};
 ghost use Rattle.clap.specs.declared.builder.command.Command.TheViews.{out-Command};
 ghost use Rattle.template_program_words.specs.CommandLine as line;
 
+use crate::shared_options::{builtins, files, main, output, tells_where, templates};
 use crate::syntax_options::{syntax_flags, syntax_texts};
 use crate::value_options::value_arguments;
 use clap::{Arg, ArgAction, Command, value_parser};
@@ -43,7 +44,7 @@ fn bare_program<'a>(alloc: Global) -> Result<Command<'a>, AllocError>
 }
 
 /// `render [--context FILE] [-D NAME=TEXT]... [--fuel N] [--limit N] [--undefined MODE] [--builtins] [--main NAME] [-o FILE]
-/// [--templates FOLDER] [--data FILE]... [--json NAME=JSON]... [--floats FORM] [--autoescape FORMAT]
+/// [--where] [--templates FOLDER] [--data FILE]... [--json NAME=JSON]... [--floats FORM] [--autoescape FORMAT]
 /// [--expression TEXT] [--as-json] [SYNTAX] [FILE...]`
 fn render<'a>(alloc: Global) -> Result<Command<'a>, AllocError>
     ensures app { IfOk result (λ command. app_of command ≡ line.render_command) }
@@ -70,12 +71,13 @@ fn render_arguments<'a>(alloc: Global) -> Result<Vec<Arg<'a>>, AllocError>
         builtins(alloc),
         main(alloc),
         output(alloc),
+        tells_where(alloc),
         templates(alloc),
         files(alloc),
     ]?)
 }
 
-/// `names [--builtins] [--main NAME] [-o FILE] [--json] [--templates FOLDER] [SYNTAX] [FILE...]`
+/// `names [--builtins] [--main NAME] [-o FILE] [--where] [--json] [--templates FOLDER] [SYNTAX] [FILE...]`
 fn names<'a>(alloc: Global) -> Result<Command<'a>, AllocError>
     ensures app { IfOk result (λ command. app_of command ≡ line.names_command) }
     ensures local { IfOk result (λ command. (out-Command command).has_globals ≡ false) }
@@ -95,14 +97,15 @@ fn names_arguments<'a>(alloc: Global) -> Result<Vec<Arg<'a>>, AllocError>
         builtins(alloc),
         main(alloc),
         output(alloc),
+        tells_where(alloc),
         names_json(alloc),
         templates(alloc),
         files(alloc),
     ]?)
 }
 
-// An argument with a value, of this name in help.
-fn taking<'a>(alloc: Global, id: &'a str, value: &'a str, help: &'a str) -> Arg<'a>
+/// An argument with a value, of this name in help.
+pub(crate) fn taking<'a>(alloc: Global, id: &'a str, value: &'a str, help: &'a str) -> Arg<'a>
     ensures rule { rule_of result ≡ line.taking_value id.entry.now }
     ensures local { result.global ≡ false }
 {
@@ -182,31 +185,6 @@ fn undefined<'a>(alloc: Global) -> Arg<'a>
     text_option(alloc, "undefined", "MODE", help)
 }
 
-fn builtins<'a>(alloc: Global) -> Arg<'a>
-    ensures rule { rule_of result ≡ line.builtins_option }
-    ensures local { result.global ≡ false }
-{
-    let help = "Templates have the builtin filters and tests; none if not given";
-    flag_option(alloc, "builtins", help)
-}
-
-fn main<'a>(alloc: Global) -> Arg<'a>
-    ensures rule { rule_of result ≡ line.main_option }
-    ensures local { result.global ≡ false }
-{
-    let help = "The name of the main template, in place of the first";
-    text_option(alloc, "main", "NAME", help)
-}
-
-fn output<'a>(alloc: Global) -> Arg<'a>
-    ensures rule { rule_of result ≡ line.output_option }
-    ensures local { result.global ≡ false }
-{
-    let help =
-        "The file that is written, in place of standard output; a fault leaves what stood there";
-    text_option(alloc, "output", "FILE", help).short('o')
-}
-
 fn names_json<'a>(alloc: Global) -> Arg<'a>
     ensures rule { rule_of result ≡ line.names_json_option }
     ensures local { result.global ≡ false }
@@ -216,23 +194,4 @@ fn names_json<'a>(alloc: Global) -> Arg<'a>
         "json",
         "Prints the names as a JSON list, on one line",
     )
-}
-
-fn templates<'a>(alloc: Global) -> Arg<'a>
-    ensures rule { rule_of result ≡ line.templates_option }
-    ensures local { result.global ≡ false }
-{
-    let help = "A folder: each file below it is a template, under its path from there";
-    text_option(alloc, "templates", "FOLDER", help)
-}
-
-fn files<'a>(alloc: Global) -> Arg<'a>
-    ensures rule { rule_of result ≡ line.files_argument }
-    ensures local { result.global ≡ false }
-{
-    let help =
-        "The templates; a later one of the same path replaces; standard input, as <stdin>, where none is given";
-    taking(alloc, "files", "FILE", help)
-        .num_args(0..)
-        .action(ArgAction::Append)
 }

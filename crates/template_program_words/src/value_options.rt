@@ -45,7 +45,8 @@ fn json<'a>(alloc: Global) -> Arg<'a>
     ensures local { result.global ≡ false }
 {
     let help =
-        "Sets a value over the context, split at the first `=`; may be repeated, the last of a name wins";
+        "Sets a value over the context and over each -D of the same name, split at the first `=`; may be repeated, the \
+         last of a name wins";
     texts_option(alloc, "json", "NAME=JSON", help)
 }
 
@@ -70,7 +71,9 @@ fn expression<'a>(alloc: Global) -> Arg<'a>
     ensures rule { rule_of result ≡ line.expression_option }
     ensures local { result.global ≡ false }
 {
-    let help = "An expression whose value is printed, in place of a template";
+    let help =
+        "An expression whose value is printed, in place of a template: standard input is no template, --main means \
+         nothing, and a FILE is read, where it is refused if it is none";
     text_option(alloc, "expression", "TEXT", help)
 }
 

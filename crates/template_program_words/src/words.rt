@@ -46,6 +46,8 @@ pub struct RenderWords<'a> {
     pub main: Option<&'a str>,
     /// The path of the file that is written in place of standard output.
     pub output: Option<&'a str>,
+    /// Whether the places of a fault are told.
+    pub tells_where: bool,
     /// The folder whose files are templates.
     pub templates: Option<&'a str>,
     /// The paths of the templates, in the order of the words.
@@ -63,6 +65,8 @@ pub struct NamesWords<'a> {
     pub main: Option<&'a str>,
     /// The path of the file that is written in place of standard output.
     pub output: Option<&'a str>,
+    /// Whether the places of a fault are told.
+    pub tells_where: bool,
     /// Whether the names are printed as a JSON list.
     pub json: bool,
     /// The folder whose files are templates.

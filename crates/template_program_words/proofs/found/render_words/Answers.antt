@@ -39,6 +39,7 @@ returns-clause-reads c =
         syntax = c.syntax_words.ensures;
         main = c.text-3.ensures;
         output = c.text-4.ensures;
+        tells_where = c.is_flagged-3.ensures;
         templates = c.text-5.ensures;
         files = c.in_ok-values-2.ensures;
       },
