@@ -92,7 +92,8 @@ autoescape_option = text_option (codes "autoescape")
 
 -- the flags of the syntax
 abbrev pub syntax_flags : List Rule
-syntax_flags = map flag_option (codes "trim-blocks" ∷ codes "lstrip-blocks" ∷ codes "keep-trailing-newline" ∷ [])
+syntax_flags = map flag_option (codes "trim-blocks" ∷ codes "lstrip-blocks" ∷ codes "keep-trailing-newline"
+    ∷ codes "scoped-blocks" ∷ [])
 
 -- the prefixes and the delimiters of the syntax
 abbrev pub syntax_texts : List Rule

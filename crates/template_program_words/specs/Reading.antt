@@ -64,6 +64,7 @@ pub record ReadsSyntax (rows : List Row) (read : SyntaxWords) : Type 0 where
   pub trim_blocks : read.trim_blocks ≡ has_flag (codes "trim-blocks") rows
   pub lstrip_blocks : read.lstrip_blocks ≡ has_flag (codes "lstrip-blocks") rows
   pub keep_trailing_newline : read.keep_trailing_newline ≡ has_flag (codes "keep-trailing-newline") rows
+  pub scoped_blocks : read.scoped_blocks ≡ has_flag (codes "scoped-blocks") rows
   pub line_statement : ReadsText (codes "line-statement") rows read.line_statement
   pub line_comment : ReadsText (codes "line-comment") rows read.line_comment
   pub block_start : ReadsText (codes "block-start") rows read.block_start
