@@ -7,4 +7,5 @@ pub mod Naming
 pub mod Counting
 pub mod Flushing
 pub mod Refusing
+pub mod Halving
 pub mod Listing

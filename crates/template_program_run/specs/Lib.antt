@@ -9,4 +9,9 @@ pub mod Lines
 pub mod Answers
 pub mod Plain
 pub mod Status
+pub mod Templates
+pub mod Told
+pub mod Naming
+pub mod Folders
+pub mod Inputs
 pub mod Starts

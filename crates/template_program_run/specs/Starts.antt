@@ -30,6 +30,8 @@ use Rattle.template_program_parts.specs.Flushes.{flushed}
 use Rattle.template_program_parts.specs.Reading.{LacksFile, LacksText}
 use Rattle.template_program_parts.specs.Status.{IsStatusOf}
 use Rattle.template_program_run.specs.Status.{file_status, syntax_status}
+use Rattle.template_program_run.specs.Inputs.{AreRead, IsAsked, RefusesInputs}
+use Rattle.template_program_run.specs.Told.{Told}
 use Rattle.template_program_files.specs.Written.{IsRefused, IsWritten}
 use Rattle.template_program_output.specs.Answer.{Answer, failures_among}
 use Rattle.template_program_output.specs.Lines.{error_line, fault_line}
@@ -42,99 +44,6 @@ words_status (Help text) = 0
 words_status (Version text) = 0
 words_status (Usage text) = 2
 words_status Definition = 2
-
--- the names of the templates: the paths of the files, or the one of the input where none is given
-abbrev pub template_names : List (List ℕ) → List (List ℕ)
-template_names [] = codes "<stdin>" ∷ []
-template_names (path ∷ paths) = path ∷ paths
-
--- the names of templates
-abbrev pub addition_names : List (List ℕ × List ℕ) → List (List ℕ)
-addition_names additions = map (λ a. a.0) additions
-
--- the first of the names
-abbrev pub first_name : List (List ℕ) → List ℕ
-first_name [] = []
-first_name (name ∷ names) = name
-
--- the templates have the names that the words give, and the main one is the one named, else the first
-abbrev pub IsNamed : Option (List ℕ) → List (List ℕ) → Request → List (List ℕ × List ℕ) → Type 0
-IsNamed main paths request additions =
-    (addition_names additions ≡ template_names paths)
-    × (string_bytes request.main ≡ unwrap_or main (first_name (addition_names additions)))
-
--- the fuel, the limit, and what may be done with undefined values
-abbrev pub HasLimits : Request → Option ℕ → ℕ → UndefinedBehavior → Type 0
-HasLimits request fuel limit undefined =
-    (request.fuel ≡ fuel) × (request.limit ≡ limit) × (request.undefined ≡ undefined)
-
--- The request is what the words ask for. Names are told in an environment set as one begins.
-abbrev pub IsAsked : Words → Request → List (List ℕ × List ℕ) → Type 0
-IsAsked (asks.Render read) request additions = (request.command ≡ asked.Render) × HasLimits request read.fuel read.limit read.undefined
-    × (definitions_of request ≡ map parts_of read.definitions.items)
-    × IsNamed (option_map (λ name. name.now) read.main) (map (λ path. path.now) read.files.items) request additions
-IsAsked (asks.Names read) request additions = (request.command ≡ asked.Names) × HasLimits request None default_limit Lenient
-    × IsNamed (option_map (λ name. name.now) read.main) (map (λ path. path.now) read.files.items) request additions
-
--- a template holds what stands under its name, where that is told
-abbrev pub IsReadFrom : (List ℕ → Option (List ℕ)) → List ℕ × List ℕ → Type 0
-IsReadFrom content template = IfSome (content template.0) (λ all. template.1 ≡ all)
-
--- the input is the one template, where its bytes are told
-abbrev pub IsInput : Option (List ℕ) → List (List ℕ × List ℕ) → Type 0
-IsInput input additions = IfSome input (λ all. additions ≡ (codes "<stdin>", all) ∷ [])
-
--- the templates are the files of these paths, or the input where there are none
-abbrev pub AreTemplates : (List ℕ → Option (List ℕ)) → Option (List ℕ) → List (List ℕ) → List (List ℕ × List ℕ) → Type 0
-AreTemplates content input [] additions = IsInput input additions
-AreTemplates content input (path ∷ paths) additions = All (IsReadFrom content) additions
-
--- the context is the file of this path, if one is given
-abbrev pub IsContextFile : (List ℕ → Option (List ℕ)) → Option (List ℕ) → Option (List ℕ) → Type 0
-IsContextFile content None json = json ≡ None
-IsContextFile content (Some path) json = IsSomeAnd json (λ bytes. IfSome (content path) (λ all. bytes ≡ all))
-
--- the templates and the context are those of the files that the words name; names are told without a context
-abbrev pub AreRead : (List ℕ → Option (List ℕ)) → Option (List ℕ) → Words → List (List ℕ × List ℕ) → Option (List ℕ) → Type 0
-AreRead content input (asks.Render read) additions json =
-    AreTemplates content input (map (λ path. path.now) read.files.items) additions
-    × IsContextFile content (option_map (λ path. path.now) read.context) json
-AreRead content input (asks.Names read) additions json =
-    AreTemplates content input (map (λ path. path.now) read.files.items) additions × (json ≡ None)
-
--- an input of so many bytes or more is refused
-abbrev pub input_limit : ℕ
-input_limit = 2 ^ 32
-
--- an input of which no read may fail is too long, or no text, where its bytes are told
-abbrev pub LacksInput : Bool → Option (List ℕ) → Type 0
-LacksInput may_fail input = may_fail ≡ false → LacksText input input_limit
-
--- one of these files cannot be had
-abbrev pub LacksFiles : (List ℕ → Option (List ℕ)) → List (List ℕ) → Type 0
-LacksFiles content paths = (path : List ℕ) × Contains paths path × LacksText (content path) input_limit
-
--- a template cannot be had: one of the files, or the input where there are none
-abbrev pub LacksTemplate : (List ℕ → Option (List ℕ)) → Bool → Option (List ℕ) → List (List ℕ) → Type 0
-LacksTemplate content may_fail input [] = LacksInput may_fail input
-LacksTemplate content may_fail input (path ∷ paths) = LacksFiles content (path ∷ paths)
-
--- the file of the context cannot be had
-abbrev pub LacksContext : (List ℕ → Option (List ℕ)) → Option (List ℕ) → Type 0
-LacksContext content path = IsSomeAnd path (λ lacking. LacksFile (content lacking) input_limit)
-
--- a file that the words name, or the input, cannot be had
-abbrev pub LacksOne : (List ℕ → Option (List ℕ)) → Bool → Option (List ℕ) → Words → Type 0
-LacksOne content may_fail input (asks.Render read) =
-    LacksTemplate content may_fail input (map (λ path. path.now) read.files.items)
-    ⊎ LacksContext content (option_map (λ path. path.now) read.context)
-LacksOne content may_fail input (asks.Names read) =
-    LacksTemplate content may_fail input (map (λ path. path.now) read.files.items)
-
--- a file or an input is refused: want of memory may be seen at any time
-abbrev pub RefusesInputs : (List ℕ → Option (List ℕ)) → Bool → Option (List ℕ) → Words → FileFault → Type 0
-RefusesInputs content may_fail input words refusal.File = LacksOne content may_fail input words
-RefusesInputs content may_fail input words refusal.Memory = Unit {0}
 
 -- how often an output has failed, where it tells
 abbrev pub HasFailed : Option (List Answer) → ℕ → Type 0
@@ -224,28 +133,26 @@ RefusesSyntax syntax kinds = ((kinds ≡ InvalidDelimiter ∷ []) × ¬ IsUsable
 
 -- The files that the words name are read, or one is refused with the status and the line of its fault, and what the words ask
 -- for is done with them.
-abbrev pub DoesWords : Words → (List ℕ → Option (List ℕ)) → Bool → Option (List ℕ) → (List ℕ → Option Shown)
-    → (List ℕ → Shown → Type 0) → Shown → Shown → Shown → Shown → ℕ → Type 0
-DoesWords words content may_fail input fresh Placed out out_after fault fault_after result =
-    ((refused : FileFault) × RefusesInputs content may_fail input words refused × (result ≡ file_status refused)
+abbrev pub DoesWords : Words → Told → (List ℕ → Option Shown) → (List ℕ → Shown → Type 0) → Shown → Shown → Shown → Shown → ℕ → Type 0
+DoesWords words told fresh Placed out out_after fault fault_after result =
+    ((refused : FileFault) × RefusesInputs told words refused × (result ≡ file_status refused)
     × (out_after ≡ out) × Puts fault fault_after (file_line refused))
     ⊎ ((request : Request) × (additions : List (List ℕ × List ℕ)) × (json : Option (List ℕ))
-    × IsAsked words request additions × AreRead content input words additions json
+    × IsAsked words request additions × AreRead told words (served_by words).syntax additions json
     × PerformsTo (output_word words) fresh Placed request (served_by words) additions json out out_after fault fault_after result)
 
 -- The syntax that the words set is refused, before any file is read, and that is told. Else they are done.
-abbrev pub FollowsWords : Words → (List ℕ → Option (List ℕ)) → Bool → Option (List ℕ) → (List ℕ → Option Shown)
-    → (List ℕ → Shown → Type 0) → Shown → Shown → Shown → Shown → ℕ → Type 0
-FollowsWords words content may_fail input fresh Placed out out_after fault fault_after result =
+abbrev pub FollowsWords : Words → Told → (List ℕ → Option Shown) → (List ℕ → Shown → Type 0) → Shown → Shown → Shown → Shown → ℕ → Type 0
+FollowsWords words told fresh Placed out out_after fault fault_after result =
     ((kinds : List ErrorKind) × RefusesSyntax (syntax_set (syntax_words words)) kinds × (result ≡ syntax_status kinds)
     × (out_after ≡ out) × Puts fault fault_after (error_line kinds))
-    ⊎ (IsUsable (syntax_set (syntax_words words)) × DoesWords words content may_fail input fresh Placed out out_after fault fault_after result)
+    ⊎ (IsUsable (syntax_set (syntax_words words)) × DoesWords words told fresh Placed out out_after fault fault_after result)
 
 -- Words that are refused have their status, and are told. Else they are followed.
-abbrev pub Starts : Kinds → Option (List ℕ × List Row) → (List ℕ → Option (List ℕ)) → Bool → Option (List ℕ)
-    → (List ℕ → Option Shown) → (List ℕ → Shown → Type 0) → Shown → Shown → Shown → Shown → ℕ → Type 0
-Starts kinds found content may_fail input fresh Placed out out_after fault fault_after result =
+abbrev pub Starts : Kinds → Option (List ℕ × List Row) → Told → (List ℕ → Option Shown) → (List ℕ → Shown → Type 0)
+    → Shown → Shown → Shown → Shown → ℕ → Type 0
+Starts kinds found told fresh Placed out out_after fault fault_after result =
     ((refused : WordsFault) × RefusesWords kinds found refused × (result ≡ words_status refused)
     × TellsWords refused out out_after fault fault_after)
     ⊎ ((words : Words) × ReadsWords found words × (kinds ≡ [])
-    × FollowsWords words content may_fail input fresh Placed out out_after fault fault_after result)
+    × FollowsWords words told fresh Placed out out_after fault fault_after result)

@@ -1,11 +1,19 @@
 //! The templates, the context and the request, by the words.
-ghost use Rattle.std.specs.Prelude.{◌≡◌, [], All, map, IfErr, IfOk, IsErrOf, unwrap_or, option_map, string_bytes};
+ghost use Rattle.std.specs.Prelude.{◌≡◌, [], All, map, IfErr, IfOk, IsErrOf, option_map, string_bytes};
 ghost use Rattle.template_program_parts.specs.Context.{text_pairs};
 ghost use Rattle.template_program_words.specs.Reading.{parts_of};
-ghost use Rattle.template_program_run.specs.Starts.{AreRead, AreTemplates, IsAsked, IsContextFile, IsInput, IsReadFrom, LacksContext, LacksFiles, LacksInput, LacksOne, LacksTemplate, first_name, addition_names, template_names};
+ghost use Rattle.template_program_run.specs.Inputs.{AreNamed, AreRead, AreTemplatesOf, IsAsked, IsContextFile, LacksContext, LacksOne, LacksTemplateOf};
+ghost use Rattle.template_program_run.specs.Naming.{main_of, naming_in};
+ghost use Rattle.template_program_run.specs.Served.{syntax_under};
+ghost use Rattle.template_program_run.specs.Templates.{AreTemplates, IsInput, IsReadFrom, LacksFiles, LacksInput, LacksTemplate, addition_names, template_names};
+ghost use Rattle.template_program_run.specs.Told.{told_by};
 
+use crate::folder::read_sifted;
+use crate::naming::{Naming, named_main, names_naming, render_naming};
+use crate::options::Options;
 use crate::{Command, Request};
 use std::alloc::Global;
+use template_program_folder::Folders;
 use template_program_parts::{
     FileFault, FileSystem, ReadWrapper, Reader, read_file, read_text, read_text_file,
 };
@@ -13,7 +21,7 @@ use template_program_words::{Definition, NamesWords, RenderWords, Words};
 use template_values_errors::UndefinedBehavior;
 
 /// An input of so many bytes or more is refused.
-const INPUT_LIMIT: usize = 1 << 32;
+pub(crate) const INPUT_LIMIT: usize = 1 << 32;
 
 // How deep a render may be in an environment as it begins.
 const DEFAULT_LIMIT: usize = 500;
@@ -27,37 +35,39 @@ pub(crate) struct Inputs {
 }
 
 /// What the words ask for, with the files read: the templates in order, and then the context's.
-pub(crate) fn read_inputs<R: FileSystem + AllocGlobal, I: Reader>(
+pub(crate) fn read_inputs<R: FileSystem + Folders + AllocGlobal, I: Reader>(
     rt: &R,
     words: &Words<'_>,
+    options: Options<'_>,
     input: &mut I,
 ) -> Result<Inputs, FileFault>
     ensures asked { IfOk result (λ inputs. IsAsked words.now inputs.request (text_pairs inputs.templates.items)) }
-    ensures read { IfOk result (λ inputs. AreRead (R.content rt.now) (I.remaining input.old) words.now
-        (text_pairs inputs.templates.items) (option_map (λ bytes. bytes.items) inputs.context)) }
-    ensures refused { IsErrOf result FileFault.File → LacksOne (R.content rt.now) (I.may_fail input.old) (I.remaining input.old) words.now }
+    ensures read { IfOk result (λ inputs. AreRead (told_by (R.entries rt.now) (R.content rt.now) (I.may_fail input.old) (I.remaining input.old))
+        words.now (syntax_under options.entry) (text_pairs inputs.templates.items) (option_map (λ bytes. bytes.items) inputs.context)) }
+    ensures refused { IsErrOf result FileFault.File → LacksOne (told_by (R.entries rt.now) (R.content rt.now) (I.may_fail input.old) (I.remaining input.old)) words.now }
 {
     match words {
-        Words::Render(words) => read_render(rt, words, input),
-        Words::Names(words) => read_names(rt, words, input),
+        Words::Render(words) => read_render(rt, words, options, input),
+        Words::Names(words) => read_names(rt, words, options, input),
     }
 }
 
-fn read_render<R: FileSystem + AllocGlobal, I: Reader>(
+fn read_render<R: FileSystem + Folders + AllocGlobal, I: Reader>(
     rt: &R,
     words: &RenderWords<'_>,
+    options: Options<'_>,
     input: &mut I,
 ) -> Result<Inputs, FileFault>
-    ensures asked { IfOk result (λ inputs. IsAsked (Words.Render words.now) inputs.request
-        (text_pairs inputs.templates.items)) }
-    ensures read { IfOk result (λ inputs. AreRead (R.content rt.now) (I.remaining input.old) (Words.Render words.now)
-        (text_pairs inputs.templates.items) (option_map (λ bytes. bytes.items) inputs.context)) }
-    ensures refused { IsErrOf result FileFault.File → LacksOne (R.content rt.now) (I.may_fail input.old) (I.remaining input.old) (Words.Render words.now) }
+    ensures asked { IfOk result (λ inputs. IsAsked (Words.Render words.now) inputs.request (text_pairs inputs.templates.items)) }
+    ensures read { IfOk result (λ inputs. AreRead (told_by (R.entries rt.now) (R.content rt.now) (I.may_fail input.old) (I.remaining input.old))
+        (Words.Render words.now) (syntax_under options.entry) (text_pairs inputs.templates.items) (option_map (λ bytes. bytes.items) inputs.context)) }
+    ensures refused { IsErrOf result FileFault.File → LacksOne (told_by (R.entries rt.now) (R.content rt.now) (I.may_fail input.old) (I.remaining input.old)) (Words.Render words.now) }
 {
-    let templates = read_templates(rt, words.files.as_slice(), input)?;
+    let naming = render_naming(words);
+    let templates = read_templates_of(rt, naming, options, input)?;
     let context = read_context_file(rt, words.context)?;
     let request = Request {
-        main: main_name(rt.alloc(), words.main, templates.as_slice())?,
+        main: main_name(rt.alloc(), naming)?,
         texts: owned_definitions(rt.alloc(), words.definitions.as_slice())?,
         fuel: words.fuel,
         limit: usize::from(words.limit),
@@ -71,20 +81,21 @@ fn read_render<R: FileSystem + AllocGlobal, I: Reader>(
     })
 }
 
-fn read_names<R: FileSystem + AllocGlobal, I: Reader>(
+fn read_names<R: FileSystem + Folders + AllocGlobal, I: Reader>(
     rt: &R,
     words: &NamesWords<'_>,
+    options: Options<'_>,
     input: &mut I,
 ) -> Result<Inputs, FileFault>
-    ensures asked { IfOk result (λ inputs. IsAsked (Words.Names words.now) inputs.request
-        (text_pairs inputs.templates.items)) }
-    ensures read { IfOk result (λ inputs. AreRead (R.content rt.now) (I.remaining input.old) (Words.Names words.now)
-        (text_pairs inputs.templates.items) (option_map (λ bytes. bytes.items) inputs.context)) }
-    ensures refused { IsErrOf result FileFault.File → LacksOne (R.content rt.now) (I.may_fail input.old) (I.remaining input.old) (Words.Names words.now) }
+    ensures asked { IfOk result (λ inputs. IsAsked (Words.Names words.now) inputs.request (text_pairs inputs.templates.items)) }
+    ensures read { IfOk result (λ inputs. AreRead (told_by (R.entries rt.now) (R.content rt.now) (I.may_fail input.old) (I.remaining input.old))
+        (Words.Names words.now) (syntax_under options.entry) (text_pairs inputs.templates.items) (option_map (λ bytes. bytes.items) inputs.context)) }
+    ensures refused { IsErrOf result FileFault.File → LacksOne (told_by (R.entries rt.now) (R.content rt.now) (I.may_fail input.old) (I.remaining input.old)) (Words.Names words.now) }
 {
-    let templates = read_templates(rt, words.files.as_slice(), input)?;
+    let naming = names_naming(words);
+    let templates = read_templates_of(rt, naming, options, input)?;
     let request = Request {
-        main: main_name(rt.alloc(), words.main, templates.as_slice())?,
+        main: main_name(rt.alloc(), naming)?,
         texts: Vec::new(rt.alloc()),
         fuel: None,
         limit: DEFAULT_LIMIT,
@@ -96,6 +107,25 @@ fn read_names<R: FileSystem + AllocGlobal, I: Reader>(
         templates,
         context: None,
     })
+}
+
+/// The templates: of the folder, if one is given.
+fn read_templates_of<R: FileSystem + Folders + AllocGlobal, I: Reader>(
+    rt: &R,
+    naming: Naming<'_>,
+    options: Options<'_>,
+    input: &mut I,
+) -> Result<Vec<(String, String)>, FileFault>
+    ensures named { IfOk result (λ templates. AreNamed (naming_in naming.entry).folder (naming_in naming.entry).paths (text_pairs templates.items)) }
+    ensures read { IfOk result (λ templates. AreTemplatesOf (told_by (R.entries rt.now) (R.content rt.now) (I.may_fail input.old) (I.remaining input.old))
+        (naming_in naming.entry).folder (naming_in naming.entry) (syntax_under options.entry) (text_pairs templates.items)) }
+    ensures refused { IsErrOf result FileFault.File → LacksTemplateOf (told_by (R.entries rt.now) (R.content rt.now) (I.may_fail input.old) (I.remaining input.old))
+        (naming_in naming.entry).folder (naming_in naming.entry) }
+{
+    match naming.folder {
+        Some(folder) => read_sifted(rt, folder, naming, options, input),
+        None => read_templates(rt, naming.paths, input),
+    }
 }
 
 /// The templates by name: the files by their paths, or the input as `<stdin>` where none is named.
@@ -118,7 +148,10 @@ fn read_templates<R: FileSystem + AllocGlobal, I: Reader>(
 }
 
 /// The input, as a template named `<stdin>`.
-fn read_input<I: Reader>(alloc: Global, input: &mut I) -> Result<Vec<(String, String)>, FileFault>
+pub(crate) fn read_input<I: Reader>(
+    alloc: Global,
+    input: &mut I,
+) -> Result<Vec<(String, String)>, FileFault>
     ensures named { IfOk result (λ templates. addition_names (text_pairs templates.items) ≡ template_names []) }
     ensures read { IfOk result (λ templates. IsInput (I.remaining input.old) (text_pairs templates.items)) }
     ensures refused { IsErrOf result FileFault.File → LacksInput (I.may_fail input.old) (I.remaining input.old) }
@@ -131,7 +164,7 @@ fn read_input<I: Reader>(alloc: Global, input: &mut I) -> Result<Vec<(String, St
 }
 
 /// The files, in order, as templates named by their paths.
-fn read_files<R: FileSystem + AllocGlobal>(
+pub(crate) fn read_files<R: FileSystem + AllocGlobal>(
     rt: &R,
     paths: &[&str],
 ) -> Result<Vec<(String, String)>, FileFault>
@@ -164,21 +197,12 @@ fn read_context_file<R: FileSystem + AllocGlobal>(
     }
 }
 
-/// The name of the main template: the one that is named, else the first.
-fn main_name(
-    alloc: Global,
-    main: Option<&str>,
-    templates: &[(String, String)],
-) -> Result<String, FileFault>
+/// The name of the main template as an owned text.
+fn main_name(alloc: Global, naming: Naming<'_>) -> Result<String, FileFault>
     ensures memory { IfErr result (λ fault. fault ≡ FileFault.Memory) }
-    ensures name { IfOk result (λ name. string_bytes name
-        ≡ unwrap_or (option_map (λ main. main.now) main.entry) (first_name (addition_names (text_pairs templates.now)))) }
+    ensures name { IfOk result (λ name. string_bytes name ≡ main_of (naming_in naming.entry)) }
 {
-    match (main, templates.first()) {
-        (Some(main), _) => Ok(String::from_str(alloc, main)?),
-        (None, Some(first)) => Ok(first.0.clone()?),
-        (None, None) => Ok(String::new(alloc)),
-    }
+    Ok(String::from_str(alloc, named_main(naming))?)
 }
 
 /// The definitions as owned texts.

@@ -4,8 +4,11 @@
 
 mod additions;
 mod extension;
+mod folder;
 mod inputs;
+mod named;
 mod names;
+mod naming;
 mod options;
 mod performing;
 mod placing;

@@ -8,6 +8,7 @@ ghost use Rattle.template_program_output.specs.Shown.{Puts};
 ghost use Rattle.template_program_run.specs.Asked.{served_by};
 ghost use Rattle.template_program_run.specs.Served.{served_under};
 ghost use Rattle.template_program_run.specs.Starts.{DoesWords, FollowsWords, Starts, TellsWords, arguments_line, file_line, words_status};
+ghost use Rattle.template_program_run.specs.Told.{told_by};
 ghost use Rattle.template_program_run.specs.Status.{arguments_status, file_status, syntax_status};
 
 use crate::inputs::read_inputs;
@@ -18,15 +19,22 @@ use crate::syntax::syntax_of;
 use crate::telling::{tell_error, tell_memory, tell_text, tell_word};
 use std::io;
 use template_program_files::Placing;
+use template_program_folder::Folders;
 use template_program_output::{Output, write_flushed};
 use template_program_parts::{DONE, FILE, FileFault, FileSystem, MEMORY, Reader, WORDS};
 use template_program_words::{Words, WordsFault, read_words};
 use template_values_errors::{Error, ErrorKind};
 
-/// Runs the program: reads the words, and puts together the syntax that they set; then reads the templates' files (or the
-/// input, where no file is named), then the context's file, and writes what is asked to `out` through a buffer, or to the
-/// file that the words name in its place, and a fault to `fault` where something is refused: the text of refused words as it
-/// is, any other as one line. What cannot be written there changes nothing.
+/// Runs the program: reads the words, and puts together the syntax that they set; then reads the templates' files (of the
+/// folder, where one is named, or else the input, where no file is named), then the context's file, and writes what is asked
+/// to `out` through a buffer, or to the file that the words name in its place, and a fault to `fault` where something is
+/// refused: the text of refused words as it is, any other as one line. What cannot be written there changes nothing.
+///
+/// In a folder each regular file below it is a template under its path from there, and files and a main template that are
+/// named by no absolute path are among them: a named file that is not there or no UTF-8 is refused, as is a main template
+/// that is no UTF-8. Other files that are no UTF-8, and sources that are refused and that the main template does not reach by
+/// literal names, count as absent. Files named by absolute paths are read beside the folder's, and so is the input where
+/// neither a file nor a main template is named: it is the main one then.
 ///
 /// The status is 0 where all is written, or help or the version was asked for, 1 for a fault of the
 /// render, 2 for words or a syntax that are refused, 3 for a file, 4 for the context, 5 for a template that is refused
@@ -34,16 +42,16 @@ use template_values_errors::{Error, ErrorKind};
 ///
 /// Gives the output back behind the status. Holds all templates, the context and the output's buffer of 8 KiB in
 /// memory.
-pub fn start<R: FileSystem + Placing + AllocGlobal, I: Reader, O: Output, F: Output>(
+pub fn start<R: FileSystem + Folders + Placing + AllocGlobal, I: Reader, O: Output, F: Output>(
     rt: &R,
     words: &[&str],
     input: &mut I,
     out: O,
     fault: &mut F,
 ) -> (u8, O)
-    ensures { Starts (fault_of program (map (λ word. word.now) words.now))
-        (subcommand_of program (map (λ word. word.now) words.now))
-        (R.content rt.now) (I.may_fail input.old) (I.remaining input.old) (R.fresh rt.now) (R.placed rt.now)
+    ensures { Starts (fault_of program (map (λ word. word.now) words.now)) (subcommand_of program (map (λ word. word.now) words.now))
+        (told_by (R.entries rt.now) (R.content rt.now) (I.may_fail input.old) (I.remaining input.old))
+        (R.fresh rt.now) (R.placed rt.now)
         (O.shown out) (O.shown result.1) (F.shown fault.old) (F.shown fault.new) result.0 }
 {
     match read_words(rt.alloc(), words) {
@@ -53,14 +61,15 @@ pub fn start<R: FileSystem + Placing + AllocGlobal, I: Reader, O: Output, F: Out
 }
 
 // Does what the words ask for, once the syntax that they set is put together.
-fn follow_words<R: FileSystem + Placing + AllocGlobal, I: Reader, O: Output, F: Output>(
+fn follow_words<R: FileSystem + Folders + Placing + AllocGlobal, I: Reader, O: Output, F: Output>(
     rt: &R,
     words: &Words<'_>,
     input: &mut I,
     out: O,
     fault: &mut F,
 ) -> (u8, O)
-    ensures { FollowsWords words.now (R.content rt.now) (I.may_fail input.old) (I.remaining input.old) (R.fresh rt.now) (R.placed rt.now)
+    ensures { FollowsWords words.now (told_by (R.entries rt.now) (R.content rt.now) (I.may_fail input.old) (I.remaining input.old))
+        (R.fresh rt.now) (R.placed rt.now)
         (O.shown out) (O.shown result.1) (F.shown fault.old) (F.shown fault.new) result.0 }
 {
     match syntax_of(rt.alloc(), syntax_words(words)) {
@@ -73,7 +82,7 @@ fn follow_words<R: FileSystem + Placing + AllocGlobal, I: Reader, O: Output, F: 
 }
 
 // Reads the files that the words name, and does with them what the words ask for.
-fn do_words<R: FileSystem + Placing + AllocGlobal, I: Reader, O: Output, F: Output>(
+fn do_words<R: FileSystem + Folders + Placing + AllocGlobal, I: Reader, O: Output, F: Output>(
     rt: &R,
     words: &Words<'_>,
     options: Options<'_>,
@@ -82,10 +91,11 @@ fn do_words<R: FileSystem + Placing + AllocGlobal, I: Reader, O: Output, F: Outp
     fault: &mut F,
 ) -> (u8, O)
     requires { served_under options ≡ served_by words.now }
-    ensures { DoesWords words.now (R.content rt.now) (I.may_fail input.old) (I.remaining input.old) (R.fresh rt.now) (R.placed rt.now)
+    ensures { DoesWords words.now (told_by (R.entries rt.now) (R.content rt.now) (I.may_fail input.old) (I.remaining input.old))
+        (R.fresh rt.now) (R.placed rt.now)
         (O.shown out) (O.shown result.1) (F.shown fault.old) (F.shown fault.new) result.0 }
 {
-    match read_inputs(rt, words, input) {
+    match read_inputs(rt, words, options, input) {
         Ok(inputs) => perform_to(rt, output_of(words), options, &inputs, out, fault),
         Err(refused) => (refuse_file(refused, fault), out),
     }

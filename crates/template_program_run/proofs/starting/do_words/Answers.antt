@@ -2,12 +2,16 @@ use Rattle.std.proofs.Common.{Err, List, Option, ℕ, ap, inl, inr, option_map, 
 use Rattle.template_program_parts.specs.Context.{text_pairs}
 use Rattle.template_program_run.specs.Asked.{served_by}
 use Rattle.template_program_run.specs.Served.{Served}
+use Rattle.template_program_run.specs.Inputs.{AreRead}
 use Rattle.template_program_run.specs.Starts.{PerformsTo}
+use Rattle.template_program_run.specs.Told.{told_by}
 use Rattle.template_program_run.proofs.Refusing.{refuses_inputs}
 use Rattle.template_program_run.proofs.starting.do_words.Goals as goal
 
 pub returns-in-Ok : goal.returns-in-Ok
 returns-in-Ok g c =
+    let told = told_by (g.R.Folders.entries c.args.rt.now) (g.R.FileSystem.content c.args.rt.now) (g.I.Reader.may_fail c.args.input.now)
+    (g.I.Reader.remaining c.args.input.now) in
     let inputs = c.in-Ok.inputs in
     let additions = text_pairs inputs.templates.items in
     let json = option_map (λ bytes. bytes.items) inputs.context in
@@ -21,15 +25,17 @@ returns-in-Ok g c =
     out out_after fault fault_after c.perform_to.result.0) c.requires c.perform_to.ensures in
     let performs = subst (λ (path : Option (List ℕ)). PerformsTo path fresh placed inputs.request (served_by c.args.words.now) additions json
     out out_after fault fault_after c.perform_to.result.0) c.output_of.ensures served in
-    inr (inputs.request, additions, json, c.in-Ok.ensures.asked, c.in-Ok.ensures.read, performs)
+    let read = subst (λ (s : Served). AreRead told c.args.words.now s.syntax additions json) c.requires c.in-Ok.ensures.read in
+    inr (inputs.request, additions, json, c.in-Ok.ensures.asked, read, performs)
 
 pub returns-in-Err : goal.returns-in-Err
 returns-in-Err g c =
+    let told = told_by (g.R.Folders.entries c.args.rt.now) (g.R.FileSystem.content c.args.rt.now) (g.I.Reader.may_fail c.args.input.now)
+    (g.I.Reader.remaining c.args.input.now) in
     let refused = c.in-Err.refused in
     inl (
       refused,
-      refuses_inputs (g.R.FileSystem.content c.args.rt.now) (g.I.Reader.may_fail c.args.input.now) (g.I.Reader.remaining c.args.input.now)
-          c.args.words.now refused (λ is. c.in-Err.ensures.refused (ap Err is)),
+      refuses_inputs told c.args.words.now refused (λ is. c.in-Err.ensures.refused (ap Err is)),
       c.refuse_file.ensures.status,
       refl,
       c.refuse_file.ensures.told,
