@@ -8,4 +8,6 @@ pub mod Counting
 pub mod Flushing
 pub mod Refusing
 pub mod Halving
+pub mod Piping
+pub mod Giving
 pub mod Listing

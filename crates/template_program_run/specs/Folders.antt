@@ -11,8 +11,8 @@ use Rattle.template_program_folder.specs.Refused.{IsRefused}
 use Rattle.template_program_folder.specs.Views.{SaysText, file_names}
 use Rattle.template_program_folder.specs.declared.files.FolderFile.{FolderFile}
 use Rattle.template_program_reached.specs.Sifted.{Sifts}
-use Rattle.template_program_run.specs.Templates.{IsInput, IsReadFrom, LacksFiles, LacksInput, addition_names, input_limit, template_names}
-use Rattle.template_program_run.specs.Naming.{Naming, main_of}
+use Rattle.template_program_run.specs.Templates.{AreTemplates, LacksTemplate, input_limit}
+use Rattle.template_program_run.specs.Naming.{Naming, main_of, reads_input_beside}
 use Rattle.template_program_run.specs.Told.{Told}
 
 -- the files below a folder, in the order of their names, each with its text, unless it is none
@@ -80,43 +80,23 @@ MayBeMain files name = ¬ Contains (file_names files) name ⊎ IsText files name
 abbrev pub RefusesMain : List FolderFile → Option (List ℕ) → Type 0
 RefusesMain files main = IsSomeAnd main (IsNoText files)
 
--- the input is read where no path is given and no main template named
-abbrev pub is_alone : Option (List ℕ) → List (List ℕ) → Bool
-is_alone None [] = true
-is_alone None (path ∷ paths) = false
-is_alone (Some main) paths = false
-
-abbrev pub reads_input : Naming → Bool
-reads_input naming = is_alone naming.main naming.paths
-
--- what comes behind the folder's templates: the input, if it is read, or the files of the absolute paths
-abbrev pub AreBehind : (List ℕ → Option (List ℕ)) → Option (List ℕ) → List (List ℕ) → List (List ℕ × List ℕ) → Bool → Type 0
-AreBehind content input paths behind true = (addition_names behind ≡ template_names []) × IsInput input behind
-AreBehind content input paths behind false =
-    (addition_names behind ≡ filter is_absolute paths) × All (IsReadFrom content) behind
-
 -- Each path that is no absolute one names a text in the folder, and so does the main template's name, if it stands there.
--- The folder's templates, and those behind them, are sifted by what the main one reaches.
+-- The folder's templates, and behind them the files of the absolute paths, or the input, if it is read, are sifted by what the main one reaches.
 pub record AreSifted (told : Told) (folder : List ℕ) (naming : Naming) (syntax : Syntax) (additions : List (List ℕ × List ℕ)) : Type 0 where
   pub files : List FolderFile
   pub behind : List (List ℕ × List ℕ)
   pub stands : IsFolder told folder files
   pub named : All (IsPathIn files) naming.paths
   pub main_named : IfSome naming.main (MayBeMain files)
-  pub read : AreBehind told.content told.input naming.paths behind (reads_input naming)
+  pub read : AreTemplates told.content told.input (filter is_absolute naming.paths) behind (reads_input_beside naming)
   pub sifted :
       let all = folder_templates files ++ behind in
       Sifts syntax all (main_of naming) all additions
 
--- what comes behind the folder's templates cannot be had
-abbrev pub LacksBehind : (List ℕ → Option (List ℕ)) → Bool → Option (List ℕ) → List (List ℕ) → Bool → Type 0
-LacksBehind content may_fail input paths true = LacksInput may_fail input
-LacksBehind content may_fail input paths false = LacksFiles content (filter is_absolute paths)
-
 -- the folder cannot be read, or a path that is given names no text in it, or the main template's name a file that is no text, or
--- what comes behind cannot be had
+-- a file of an absolute path or the input cannot be had
 pub data LacksSifted (told : Told) (folder : List ℕ) (naming : Naming) : Type 0 where
   no_folder : IsRefused told.entries told.content folder input_limit → LacksSifted told folder naming
   no_path : {files : List FolderFile} → IsFolder told folder files → RefusesPaths files naming.paths → LacksSifted told folder naming
   no_main : {files : List FolderFile} → IsFolder told folder files → RefusesMain files naming.main → LacksSifted told folder naming
-  no_more : LacksBehind told.content told.may_fail told.input naming.paths (reads_input naming) → LacksSifted told folder naming
+  no_more : LacksTemplate told.content told.may_fail told.input (filter is_absolute naming.paths) (reads_input_beside naming) → LacksSifted told folder naming

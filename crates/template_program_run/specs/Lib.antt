@@ -6,12 +6,16 @@ pub mod History
 pub mod Additions
 pub mod Environments
 pub mod Lines
+pub mod Given
 pub mod Answers
 pub mod Plain
 pub mod Status
 pub mod Templates
 pub mod Told
+pub mod Origins
+pub mod Held
 pub mod Naming
 pub mod Folders
 pub mod Inputs
+pub mod Values
 pub mod Starts

@@ -30,8 +30,12 @@ use Rattle.template_program_parts.specs.Flushes.{flushed}
 use Rattle.template_program_parts.specs.Reading.{LacksFile, LacksText}
 use Rattle.template_program_parts.specs.Status.{IsStatusOf}
 use Rattle.template_program_run.specs.Status.{file_status, syntax_status}
-use Rattle.template_program_run.specs.Inputs.{AreRead, IsAsked, RefusesInputs}
+use Rattle.template_program_run.specs.Inputs.{AreTemplatesOf, IsAsked, IsGiven, RefusesInputs}
+use Rattle.template_program_run.specs.Given.{Given}
+use Rattle.template_program_run.specs.Naming.{naming_of}
+use Rattle.template_program_run.specs.Origins.{shown_as}
 use Rattle.template_program_run.specs.Told.{Told}
+use Rattle.template_program_run.specs.Values.{AreJsonTexts, RefusesValues, value_texts}
 use Rattle.template_program_files.specs.Written.{IsRefused, IsWritten}
 use Rattle.template_program_output.specs.Answer.{Answer, failures_among}
 use Rattle.template_program_output.specs.Lines.{error_line, fault_line}
@@ -52,7 +56,7 @@ HasFailed answers fails = IfSome answers (λ told. fails ≡ failures_among told
 -- The request is run over an output, and what it wrote is flushed. Where that goes well the output holds all of it, and
 -- its last answer was to a flush. Else it holds a beginning, the rest was not written, and the output failed, if not for
 -- want of memory.
-pub record RunsFlushed (request : Request) (served : Served) (additions : List (List ℕ × List ℕ)) (json : Option (List ℕ))
+pub record RunsFlushed (request : Request) (served : Served) (additions : List (List ℕ × List ℕ)) (given : Given)
     (before after : Shown) (outcome : Outcome) : Type 0 where
   pub ran : Outcome
   pub flush : Result (Unit {0}) Error
@@ -61,7 +65,7 @@ pub record RunsFlushed (request : Request) (served : Served) (additions : List (
   pub answers : Option (List Answer)
   pub failed : ℕ
   pub fails : ℕ
-  pub runs : AnswersWith served request additions json 0 ran before.bytes written failed fails
+  pub runs : AnswersWith served request additions given 0 ran before.bytes written failed fails
   pub becomes : outcome ≡ flushed flush ran
   pub holds : Keeps written (append_known after.bytes rest)
   pub all : OnOk flush (rest ≡ [])
@@ -83,10 +87,10 @@ TellsOutcome (Template kinds) before after = Puts before after (error_line kinds
 
 -- The status is that of the outcome, and its fault is told. Where there is no memory for the output's buffer, nothing is
 -- written, and that is told.
-abbrev pub PerformsRequest : Request → Served → List (List ℕ × List ℕ) → Option (List ℕ) → Shown → Shown → Shown → Shown → ℕ → Type 0
-PerformsRequest request served additions json out out_after fault fault_after result =
+abbrev pub PerformsRequest : Request → Served → List (List ℕ × List ℕ) → Given → Shown → Shown → Shown → Shown → ℕ → Type 0
+PerformsRequest request served additions given out out_after fault fault_after result =
     ((result ≡ 6) × (out_after ≡ out) × Puts fault fault_after memory_line)
-    ⊎ ((outcome : Outcome) × RunsFlushed request served additions json out out_after outcome × IsStatusOf outcome result
+    ⊎ ((outcome : Outcome) × RunsFlushed request served additions given out out_after outcome × IsStatusOf outcome result
     × TellsOutcome outcome fault fault_after)
 
 -- the line of a file or an input that is refused
@@ -96,21 +100,21 @@ file_line refusal.Memory = memory_line
 
 -- The request is run over a file, which shows what is told of it when it is opened, and takes its place where the status is 0.
 -- Or the file cannot be opened, or cannot take its place when all is written, and that is told.
-abbrev pub PerformsInto : Option Shown → (Shown → Type 0) → Request → Served → List (List ℕ × List ℕ) → Option (List ℕ)
+abbrev pub PerformsInto : Option Shown → (Shown → Type 0) → Request → Served → List (List ℕ × List ℕ) → Given
     → Shown → Shown → ℕ → Type 0
-PerformsInto fresh Placed request served additions json fault fault_after result =
-    IsWritten fresh Placed (λ before after. PerformsRequest request served additions json before after fault fault_after result) result
+PerformsInto fresh Placed request served additions given fault fault_after result =
+    IsWritten fresh Placed (λ before after. PerformsRequest request served additions given before after fault fault_after result) result
     ⊎ ((refused : FileFault) × (told : Shown)
-    × IsRefused fresh fault told (λ before after. PerformsRequest request served additions json before after fault told 0)
+    × IsRefused fresh fault told (λ before after. PerformsRequest request served additions given before after fault told 0)
     × (refused ≡ refusal.File → fresh ≡ None) × (result ≡ file_status refused) × Puts told fault_after (file_line refused))
 
 -- It is run over the output; or over the file of a path, if one is given, and then the output stays as it is.
 abbrev pub PerformsTo : Option (List ℕ) → (List ℕ → Option Shown) → (List ℕ → Shown → Type 0) → Request → Served
-    → List (List ℕ × List ℕ) → Option (List ℕ) → Shown → Shown → Shown → Shown → ℕ → Type 0
-PerformsTo None fresh Placed request served additions json out out_after fault fault_after result =
-    PerformsRequest request served additions json out out_after fault fault_after result
-PerformsTo (Some path) fresh Placed request served additions json out out_after fault fault_after result =
-    (out_after ≡ out) × PerformsInto (fresh path) (Placed path) request served additions json fault fault_after result
+    → List (List ℕ × List ℕ) → Given → Shown → Shown → Shown → Shown → ℕ → Type 0
+PerformsTo None fresh Placed request served additions given out out_after fault fault_after result =
+    PerformsRequest request served additions given out out_after fault fault_after result
+PerformsTo (Some path) fresh Placed request served additions given out out_after fault fault_after result =
+    (out_after ≡ out) × PerformsInto (fresh path) (Placed path) request served additions given fault fault_after result
 
 -- what is written to the output, and told, of words that are refused
 abbrev pub TellsWords : WordsFault → Shown → Shown → Shown → Shown → Type 0
@@ -137,16 +141,25 @@ abbrev pub DoesWords : Words → Told → (List ℕ → Option Shown) → (List 
 DoesWords words told fresh Placed out out_after fault fault_after result =
     ((refused : FileFault) × RefusesInputs told words refused × (result ≡ file_status refused)
     × (out_after ≡ out) × Puts fault fault_after (file_line refused))
-    ⊎ ((request : Request) × (additions : List (List ℕ × List ℕ)) × (json : Option (List ℕ))
-    × IsAsked words request additions × AreRead told words (served_by words).syntax additions json
-    × PerformsTo (output_word words) fresh Placed request (served_by words) additions json out out_after fault fault_after result)
+    ⊎ ((request : Request) × (additions : List (List ℕ × List ℕ)) × (given : Given) × IsAsked words request
+    × AreTemplatesOf told (naming_of words).folder (naming_of words) (served_by words).syntax additions
+    × IsGiven told words (map shown_as given.documents) given.values given.floats
+    × PerformsTo (output_word words) fresh Placed request (served_by words) additions given out out_after fault fault_after result)
 
 -- The syntax that the words set is refused, before any file is read, and that is told. Else they are done.
-abbrev pub FollowsWords : Words → Told → (List ℕ → Option Shown) → (List ℕ → Shown → Type 0) → Shown → Shown → Shown → Shown → ℕ → Type 0
-FollowsWords words told fresh Placed out out_after fault fault_after result =
+abbrev pub DoesUnderSyntax : Words → Told → (List ℕ → Option Shown) → (List ℕ → Shown → Type 0) → Shown → Shown → Shown → Shown → ℕ → Type 0
+DoesUnderSyntax words told fresh Placed out out_after fault fault_after result =
     ((kinds : List ErrorKind) × RefusesSyntax (syntax_set (syntax_words words)) kinds × (result ≡ syntax_status kinds)
     × (out_after ≡ out) × Puts fault fault_after (error_line kinds))
     ⊎ (IsUsable (syntax_set (syntax_words words)) × DoesWords words told fresh Placed out out_after fault fault_after result)
+
+-- A value that is given as JSON is none, and that is told as the fault of a definition is. Else the words are done under the
+-- syntax that they set.
+abbrev pub FollowsWords : Words → Told → (List ℕ → Option Shown) → (List ℕ → Shown → Type 0) → Shown → Shown → Shown → Shown → ℕ → Type 0
+FollowsWords words told fresh Placed out out_after fault fault_after result =
+    ((refused : WordsFault) × RefusesValues (value_texts words) refused × (result ≡ words_status refused)
+    × TellsWords refused out out_after fault fault_after)
+    ⊎ (AreJsonTexts (value_texts words) × DoesUnderSyntax words told fresh Placed out out_after fault fault_after result)
 
 -- Words that are refused have their status, and are told. Else they are followed.
 abbrev pub Starts : Kinds → Option (List ℕ × List Row) → Told → (List ℕ → Option Shown) → (List ℕ → Shown → Type 0)

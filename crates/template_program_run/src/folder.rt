@@ -1,16 +1,17 @@
 //! The templates of a folder that the words name.
-ghost use Rattle.std.specs.Prelude.{◌≡◌, ◌++◌, map, IfErr, IfOk, IsErrOf};
+ghost use Rattle.std.specs.Prelude.{◌≡◌, ◌++◌, map, true, IfErr, IfOk, IsErrOf};
 ghost use Rattle.std.specs.List.{filter};
 ghost use Rattle.template_program_parts.specs.Context.{text_pairs};
 ghost use Rattle.template_program_reached.specs.Sifted.{Sifts};
-ghost use Rattle.template_program_run.specs.Folders.{AreBehind, AreSifted, LacksBehind, LacksSifted, folder_templates, is_absolute as begins_absolute, reads_input as is_read};
-ghost use Rattle.template_program_run.specs.Naming.{naming_in};
+ghost use Rattle.template_program_run.specs.Folders.{AreSifted, LacksSifted, folder_templates, is_absolute as begins_absolute};
+ghost use Rattle.template_program_run.specs.Naming.{naming_in, reads_input_beside as is_read_beside};
 ghost use Rattle.template_program_run.specs.Served.{syntax_under};
+ghost use Rattle.template_program_run.specs.Templates.{AreTemplates, IsSameInput, LacksTemplate};
 ghost use Rattle.template_program_run.specs.Told.{told_by};
 
-use crate::inputs::{INPUT_LIMIT, read_files, read_input};
+use crate::inputs::{INPUT_LIMIT, read_templates};
 use crate::named::{check_main, check_paths, is_absolute};
-use crate::naming::{Naming, named_main};
+use crate::naming::{Naming, named_main, reads_input_beside};
 use crate::options::Options;
 use std::alloc::{AllocError, Global};
 use template_compiler_syntax::SyntaxConfig;
@@ -31,6 +32,7 @@ pub(crate) fn read_sifted<R: FileSystem + Folders + AllocGlobal, I: Reader>(
         folder.now (naming_in naming.entry) (syntax_under options.entry) (text_pairs templates.items)) }
     ensures refused { IsErrOf result FileFault.File → LacksSifted (told_by (R.entries rt.now) (R.content rt.now) (I.may_fail input.old) (I.remaining input.old))
         folder.now (naming_in naming.entry) }
+    ensures kept { naming.entry.input_is_taken ≡ true → IsSameInput (I.may_fail input.old) (I.remaining input.old) (I.may_fail input.new) (I.remaining input.new) }
 {
     let files = read_folder(rt, folder, INPUT_LIMIT)?;
     check_paths(files.as_slice(), naming.paths)?;
@@ -46,23 +48,14 @@ fn read_behind<R: FileSystem + AllocGlobal, I: Reader>(
     naming: Naming<'_>,
     input: &mut I,
 ) -> Result<Vec<(String, String)>, FileFault>
-    ensures read { IfOk result (λ templates. AreBehind (R.content rt.now) (I.remaining input.old) (naming_in naming.entry).paths
-        (text_pairs templates.items) (is_read (naming_in naming.entry))) }
-    ensures refused { IsErrOf result FileFault.File → LacksBehind (R.content rt.now) (I.may_fail input.old) (I.remaining input.old)
-        (naming_in naming.entry).paths (is_read (naming_in naming.entry)) }
+    ensures read { IfOk result (λ templates. AreTemplates (R.content rt.now) (I.remaining input.old)
+        (filter begins_absolute (naming_in naming.entry).paths) (text_pairs templates.items) (is_read_beside (naming_in naming.entry))) }
+    ensures refused { IsErrOf result FileFault.File → LacksTemplate (R.content rt.now) (I.may_fail input.old) (I.remaining input.old)
+        (filter begins_absolute (naming_in naming.entry).paths) (is_read_beside (naming_in naming.entry)) }
+    ensures kept { naming.entry.input_is_taken ≡ true → IsSameInput (I.may_fail input.old) (I.remaining input.old) (I.may_fail input.new) (I.remaining input.new) }
 {
-    if reads_input(naming) {
-        return read_input(rt.alloc(), input);
-    }
     let absolute = absolute_paths(rt.alloc(), naming.paths)?;
-    read_files(rt, absolute.as_slice())
-}
-
-// Whether the input is read: no path is given, and no main template named.
-fn reads_input(naming: Naming<'_>) -> bool
-    ensures { result ≡ is_read (naming_in naming.entry) }
-{
-    naming.main.is_none() && naming.paths.is_empty()
+    read_templates(rt, absolute.as_slice(), reads_input_beside(naming), input)
 }
 
 // The absolute ones of the paths.

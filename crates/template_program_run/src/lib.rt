@@ -3,6 +3,7 @@
 #![tactic(auto)]
 
 mod additions;
+mod documents;
 mod extension;
 mod folder;
 mod inputs;
@@ -10,6 +11,8 @@ mod named;
 mod names;
 mod naming;
 mod options;
+mod origins;
+mod parts;
 mod performing;
 mod placing;
 mod request;
@@ -18,8 +21,10 @@ mod serving;
 mod starting;
 mod syntax;
 mod telling;
+mod values;
 
 pub use options::Options;
+pub use parts::ContextParts;
 pub use request::Request;
 pub use running::{run, run_with};
 pub use starting::{refuse_arguments, start};

@@ -1,6 +1,7 @@
 //! The words on templates.
 ghost use Rattle.std.specs.Prelude.{◌≡◌};
-ghost use Rattle.template_program_run.specs.Naming.{main_of, naming_in, naming_of};
+ghost use Rattle.template_program_run.specs.Naming.{main_of, naming_in, naming_of, reads_input as is_input_read, reads_input_beside as is_read_beside};
+ghost use Rattle.template_program_run.specs.Origins.{hold_input, origins_of};
 
 use template_program_words::{NamesWords, RenderWords, Words};
 
@@ -13,16 +14,20 @@ pub(crate) struct Naming<'a> {
     pub(crate) main: Option<&'a str>,
     /// The paths of the templates.
     pub(crate) paths: &'a [&'a str],
+    /// Whether the input is read for the context, and so is no template.
+    pub(crate) input_is_taken: bool,
 }
 
 /// What the words behind `render` say.
-pub(crate) fn render_naming<'a>(words: &'a RenderWords<'a>) -> Naming<'a>
+pub(crate) fn render_naming<'a>(words: &'a RenderWords<'a>, input_is_taken: bool) -> Naming<'a>
+    requires { input_is_taken ≡ hold_input (origins_of (Words.Render words.now)) }
     ensures { naming_in result ≡ naming_of (Words.Render words.now) }
 {
     Naming {
         folder: words.templates,
         main: words.main,
         paths: words.files.as_slice(),
+        input_is_taken,
     }
 }
 
@@ -34,6 +39,7 @@ pub(crate) fn names_naming<'a>(words: &'a NamesWords<'a>) -> Naming<'a>
         folder: words.templates,
         main: words.main,
         paths: words.files.as_slice(),
+        input_is_taken: false,
     }
 }
 
@@ -46,4 +52,18 @@ pub(crate) fn named_main<'a>(naming: Naming<'a>) -> &'a str
         (None, Some(first)) => first,
         (None, None) => "<stdin>",
     }
+}
+
+/// Whether the input is read as a template: no path is given, and it is not read for the context.
+pub(crate) fn reads_input(naming: Naming<'_>) -> bool
+    ensures { result ≡ is_input_read (naming_in naming.entry) }
+{
+    !naming.input_is_taken && naming.paths.is_empty()
+}
+
+/// Whether it is read beside a folder's templates: no main template is named.
+pub(crate) fn reads_input_beside(naming: Naming<'_>) -> bool
+    ensures { result ≡ is_read_beside (naming_in naming.entry) }
+{
+    naming.main.is_none() && reads_input(naming)
 }

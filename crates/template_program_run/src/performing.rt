@@ -1,11 +1,13 @@
 //! The run of a request over a buffered output.
-ghost use Rattle.std.specs.Prelude.{◌≡◌, [], option_copied, option_map};
+ghost use Rattle.std.specs.Prelude.{◌≡◌, []};
 ghost use Rattle.template_program_parts.specs.Context.{text_pairs};
+ghost use Rattle.template_program_run.specs.Given.{given_in};
 ghost use Rattle.template_program_run.specs.Served.{served_under};
 ghost use Rattle.template_program_run.specs.Starts.{PerformsRequest, RunsFlushed, TellsOutcome};
 
 use crate::inputs::Inputs;
 use crate::options::Options;
+use crate::parts::ContextParts;
 use crate::running::run_with;
 use crate::telling::{tell_error, tell_memory};
 use std::alloc::Global;
@@ -21,18 +23,19 @@ pub(crate) fn perform<O: Output, F: Output>(
     alloc: Global,
     options: Options<'_>,
     inputs: &Inputs,
+    context: ContextParts<'_>,
     out: O,
     fault: &mut F,
 ) -> (u8, O)
     ensures { PerformsRequest inputs.now.request (served_under options.entry) (text_pairs inputs.now.templates.items)
-        (option_map (λ bytes. bytes.items) inputs.now.context) (O.shown out) (O.shown result.1)
+        (given_in context.entry) (O.shown out) (O.shown result.1)
         (F.shown fault.old) (F.shown fault.new) result.0 }
 {
     let Ok(buffer) = Vec::with_capacity(alloc, BUFFER) else {
         tell_memory(fault);
         return (MEMORY, out);
     };
-    let (outcome, out) = run_flushed(alloc, options, inputs, out, buffer);
+    let (outcome, out) = run_flushed(alloc, options, inputs, context, out, buffer);
     tell_outcome(&outcome, fault);
     (status_of(&outcome), out)
 }
@@ -42,12 +45,13 @@ fn run_flushed<O: Output>(
     alloc: Global,
     options: Options<'_>,
     inputs: &Inputs,
+    context: ContextParts<'_>,
     out: O,
     buffer: Vec<u8>,
 ) -> (Outcome, O)
     requires { buffer.items ≡ [] }
     ensures { RunsFlushed inputs.now.request (served_under options.entry) (text_pairs inputs.now.templates.items)
-        (option_map (λ bytes. bytes.items) inputs.now.context) (O.shown out) (O.shown result.1) result.0 }
+        (given_in context.entry) (O.shown out) (O.shown result.1) result.0 }
 {
     let mut ids = StateIds::new(0);
     let mut sink = Buffered::new(out, buffer);
@@ -56,7 +60,7 @@ fn run_flushed<O: Output>(
         &inputs.request,
         options,
         inputs.templates.as_slice(),
-        context_bytes(&inputs.context),
+        context,
         &mut ids,
         &mut sink,
     );
@@ -73,14 +77,5 @@ fn tell_outcome<F: Output>(outcome: &Outcome, fault: &mut F)
         Outcome::Render(error) | Outcome::Context(error) | Outcome::Template(error) => {
             tell_error(fault, error);
         }
-    }
-}
-
-fn context_bytes(context: &Option<Vec<u8>>) -> Option<&[u8]>
-    ensures { option_copied result ≡ option_map (λ bytes. bytes.items) context.now }
-{
-    match context {
-        Some(bytes) => Some(bytes.as_slice()),
-        None => None,
     }
 }

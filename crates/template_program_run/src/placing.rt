@@ -1,11 +1,13 @@
 //! The run of a request over the output, or over a file in its place.
 ghost use Rattle.std.specs.Prelude.{option_map};
 ghost use Rattle.template_program_parts.specs.Context.{text_pairs};
+ghost use Rattle.template_program_run.specs.Given.{given_in};
 ghost use Rattle.template_program_run.specs.Served.{served_under};
 ghost use Rattle.template_program_run.specs.Starts.{PerformsInto, PerformsTo};
 
 use crate::inputs::Inputs;
 use crate::options::Options;
+use crate::parts::ContextParts;
 use crate::performing::perform;
 use crate::starting::refuse_file;
 use std::alloc::Global;
@@ -19,16 +21,17 @@ pub(crate) fn perform_to<R: Placing + AllocGlobal, O: Output, F: Output>(
     path: Option<&str>,
     options: Options<'_>,
     inputs: &Inputs,
+    context: ContextParts<'_>,
     out: O,
     fault: &mut F,
 ) -> (u8, O)
     ensures { PerformsTo (option_map (λ path. path.now) path.entry) (R.fresh rt.now) (R.placed rt.now) inputs.now.request
-        (served_under options.entry) (text_pairs inputs.now.templates.items) (option_map (λ bytes. bytes.items) inputs.now.context)
+        (served_under options.entry) (text_pairs inputs.now.templates.items) (given_in context.entry)
         (O.shown out) (O.shown result.1) (F.shown fault.old) (F.shown fault.new) result.0 }
 {
     match path {
-        Some(path) => (perform_into(rt, path, options, inputs, fault), out),
-        None => perform(rt.alloc(), options, inputs, out, fault),
+        Some(path) => (perform_into(rt, path, options, inputs, context, fault), out),
+        None => perform(rt.alloc(), options, inputs, context, out, fault),
     }
 }
 
@@ -38,16 +41,18 @@ fn perform_into<R: Placing + AllocGlobal, F: Output>(
     path: &str,
     options: Options<'_>,
     inputs: &Inputs,
+    context: ContextParts<'_>,
     fault: &mut F,
 ) -> u8
     ensures { PerformsInto (R.fresh rt.now path.now) (R.placed rt.now path.now) inputs.now.request (served_under options.entry)
-        (text_pairs inputs.now.templates.items) (option_map (λ bytes. bytes.items) inputs.now.context)
+        (text_pairs inputs.now.templates.items) (given_in context.entry)
         (F.shown fault.old) (F.shown fault.new) result }
 {
     let performer = Performer {
         alloc: rt.alloc(),
         options,
         inputs,
+        context,
     };
     match write_file(rt, path, &performer, fault) {
         Ok(status) => status,
@@ -61,19 +66,27 @@ struct Performer<'a> {
     alloc: Global,
     options: Options<'a>,
     inputs: &'a Inputs,
+    context: ContextParts<'a>,
 }
 
 impl Writer for Performer<'_> {
-    ghost use Rattle.std.specs.Prelude.{option_map};
     ghost use Rattle.template_program_parts.specs.Context.{text_pairs};
+    ghost use Rattle.template_program_run.specs.Given.{given_in};
     ghost use Rattle.template_program_run.specs.Served.{served_under};
     ghost use Rattle.template_program_run.specs.Starts.{PerformsRequest};
 
     ghost writes = { λ performer out out_after fault fault_after status. PerformsRequest performer.inputs.now.request
         (served_under performer.options) (text_pairs performer.inputs.now.templates.items)
-        (option_map (λ bytes. bytes.items) performer.inputs.now.context) out out_after fault fault_after status };
+        (given_in performer.context) out out_after fault fault_after status };
 
     fn write_to<O: Output, F: Output>(&self, out: O, fault: &mut F) -> (u8, O) {
-        perform(self.alloc, self.options, self.inputs, out, fault)
+        perform(
+            self.alloc,
+            self.options,
+            self.inputs,
+            self.context,
+            out,
+            fault,
+        )
     }
 }

@@ -1,13 +1,14 @@
 //! What requests are served with, by the words.
-ghost use Rattle.std.specs.Prelude.{◌≡◌, option_map, unwrap_or};
+ghost use Rattle.std.specs.Prelude.{◌≡◌, map, option_map, unwrap_or};
 ghost use Rattle.template_compiler_syntax.specs.Syntax.{default_syntax};
 ghost use Rattle.template_program_run.specs.Asked.{output_word, rule_named as rule_of, served_by, syntax_set, syntax_words as syntax_in};
 ghost use Rattle.template_program_run.specs.Served.{served_under};
+ghost use Rattle.template_program_run.specs.Values.{value_texts};
 
 use crate::options::Options;
 use template_compiler_syntax::SyntaxConfig;
 use template_machine_surroundings::EscapeRule;
-use template_program_words::{EscapeWord, SyntaxWords, Words};
+use template_program_words::{Definition, EscapeWord, SyntaxWords, Words};
 use template_values_errors::AutoEscape;
 
 /// The options that the words ask for, with the syntax that they set.
@@ -59,5 +60,15 @@ pub(crate) fn syntax_words<'a, 'b>(words: &'b Words<'a>) -> &'b SyntaxWords<'a>
     match words {
         Words::Render(words) => &words.syntax,
         Words::Names(words) => &words.syntax,
+    }
+}
+
+/// The values that are given as JSON.
+pub(crate) fn values_of<'a, 'b>(words: &'b Words<'a>) -> &'b [Definition<'a>]
+    ensures { map (λ value. value.text.now) result.now ≡ value_texts words.now }
+{
+    match words {
+        Words::Render(words) => words.values.as_slice(),
+        Words::Names(_) => &[],
     }
 }

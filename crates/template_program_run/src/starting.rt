@@ -2,22 +2,27 @@
 ghost use Rattle.std.specs.Prelude.{◌≡◌, map};
 ghost use Rattle.std.specs.IoError.{error_kind};
 ghost use Rattle.clap.specs.Words.{fault_of, subcommand_of};
+ghost use Rattle.template_program_parts.specs.Context.{text_pairs};
 ghost use Rattle.template_program_words.specs.CommandLine.{program};
 ghost use Rattle.template_program_output.specs.Lines.{error_line};
 ghost use Rattle.template_program_output.specs.Shown.{Puts};
 ghost use Rattle.template_program_run.specs.Asked.{served_by};
 ghost use Rattle.template_program_run.specs.Served.{served_under};
-ghost use Rattle.template_program_run.specs.Starts.{DoesWords, FollowsWords, Starts, TellsWords, arguments_line, file_line, words_status};
+ghost use Rattle.template_program_run.specs.Starts.{DoesUnderSyntax, DoesWords, FollowsWords, Starts, TellsWords, arguments_line, file_line, words_status};
 ghost use Rattle.template_program_run.specs.Told.{told_by};
 ghost use Rattle.template_program_run.specs.Status.{arguments_status, file_status, syntax_status};
 
-use crate::inputs::read_inputs;
+use crate::documents::documents_of;
+use crate::inputs::{ReadContext, read_inputs};
 use crate::options::Options;
+use crate::parts::ContextParts;
 use crate::placing::perform_to;
-use crate::serving::{options_of, output_of, syntax_words};
+use crate::serving::{options_of, output_of, syntax_words, values_of};
 use crate::syntax::syntax_of;
 use crate::telling::{tell_error, tell_memory, tell_text, tell_word};
+use crate::values::check_values;
 use std::io;
+use template_program_contexts::Document;
 use template_program_files::Placing;
 use template_program_folder::Folders;
 use template_program_output::{Output, write_flushed};
@@ -26,15 +31,20 @@ use template_program_words::{Words, WordsFault, read_words};
 use template_values_errors::{Error, ErrorKind};
 
 /// Runs the program: reads the words, and puts together the syntax that they set; then reads the templates' files (of the
-/// folder, where one is named, or else the input, where no file is named), then the context's file, and writes what is asked
-/// to `out` through a buffer, or to the file that the words name in its place, and a fault to `fault` where something is
-/// refused: the text of refused words as it is, any other as one line. What cannot be written there changes nothing.
+/// folder, where one is named, or else the input, where no file is named), then the files of the context and of its data, and
+/// writes what is asked to `out` through a buffer, or to the file that the words name in its place, and a fault to `fault` where
+/// something is refused: the text of refused words as it is, any other as one line. What cannot be written there changes nothing.
 ///
 /// In a folder each regular file below it is a template under its path from there, and files and a main template that are
 /// named by no absolute path are among them: a named file that is not there or no UTF-8 is refused, as is a main template
 /// that is no UTF-8. Other files that are no UTF-8, and sources that are refused and that the main template does not reach by
 /// literal names, count as absent. Files named by absolute paths are read beside the folder's, and so is the input where
 /// neither a file nor a main template is named: it is the main one then.
+///
+/// The context is the file of `--context`, which is JSON, and over it, in order, those of `--data`, TOML where the name ends in
+/// `.toml` and else JSON; `-` there is the input, which then is no template: where no file is named the main template is one that
+/// `--main` names in a folder, or it does not stand. Over these go the texts of `-D`, and over both the values of `--json`, which
+/// are JSON: one that is none is refused as a definition without `=` is, before any file is read.
 ///
 /// The status is 0 where all is written, or help or the version was asked for, 1 for a fault of the
 /// render, 2 for words or a syntax that are refused, 3 for a file, 4 for the context, 5 for a template that is refused
@@ -60,7 +70,7 @@ pub fn start<R: FileSystem + Folders + Placing + AllocGlobal, I: Reader, O: Outp
     }
 }
 
-// Does what the words ask for, once the syntax that they set is put together.
+// Does what the words ask for, once the values that they give are JSON.
 fn follow_words<R: FileSystem + Folders + Placing + AllocGlobal, I: Reader, O: Output, F: Output>(
     rt: &R,
     words: &Words<'_>,
@@ -69,6 +79,23 @@ fn follow_words<R: FileSystem + Folders + Placing + AllocGlobal, I: Reader, O: O
     fault: &mut F,
 ) -> (u8, O)
     ensures { FollowsWords words.now (told_by (R.entries rt.now) (R.content rt.now) (I.may_fail input.old) (I.remaining input.old))
+        (R.fresh rt.now) (R.placed rt.now)
+        (O.shown out) (O.shown result.1) (F.shown fault.old) (F.shown fault.new) result.0 }
+{
+    match check_values(rt.alloc(), values_of(words)) {
+        Ok(()) => do_under_syntax(rt, words, input, out, fault),
+        Err(refused) => refuse_words(&refused, out, fault),
+    }
+}
+
+// Does what the words ask for, once the syntax that they set is put together.
+fn do_under_syntax<
+    R: FileSystem + Folders + Placing + AllocGlobal,
+    I: Reader,
+    O: Output,
+    F: Output,
+>(rt: &R, words: &Words<'_>, input: &mut I, out: O, fault: &mut F) -> (u8, O)
+    ensures { DoesUnderSyntax words.now (told_by (R.entries rt.now) (R.content rt.now) (I.may_fail input.old) (I.remaining input.old))
         (R.fresh rt.now) (R.placed rt.now)
         (O.shown out) (O.shown result.1) (F.shown fault.old) (F.shown fault.new) result.0 }
 {
@@ -95,9 +122,27 @@ fn do_words<R: FileSystem + Folders + Placing + AllocGlobal, I: Reader, O: Outpu
         (R.fresh rt.now) (R.placed rt.now)
         (O.shown out) (O.shown result.1) (F.shown fault.old) (F.shown fault.new) result.0 }
 {
-    match read_inputs(rt, words, options, input) {
-        Ok(inputs) => perform_to(rt, output_of(words), options, &inputs, out, fault),
-        Err(refused) => (refuse_file(refused, fault), out),
+    let inputs = match read_inputs(rt, words, options, input) {
+        Ok(inputs) => inputs,
+        Err(refused) => return (refuse_file(refused, fault), out),
+    };
+    let Ok(documents) = documents_of(rt.alloc(), &inputs.context.documents) else {
+        return (refuse_file(FileFault::Memory, fault), out);
+    };
+    let context = parts_of(&inputs.context, documents.as_slice());
+    perform_to(rt, output_of(words), options, &inputs, context, out, fault)
+}
+
+// What the context is made of, where these are its documents.
+fn parts_of<'a>(context: &'a ReadContext, documents: &'a [Document<'a>]) -> ContextParts<'a>
+    ensures documents { result.documents.now ≡ documents.entry.now }
+    ensures values { text_pairs result.values.now ≡ text_pairs context.entry.now.values.items }
+    ensures floats { result.floats ≡ context.entry.now.floats }
+{
+    ContextParts {
+        documents,
+        values: context.values.as_slice(),
+        floats: context.floats,
     }
 }
 

@@ -1,32 +1,40 @@
-use Rattle.std.proofs.Common.{Err, List, Option, ℕ, ap, inl, inr, option_map, refl, subst}
+use Rattle.std.proofs.Common.{◌∙◌, Err, List, Option, ℕ, ap, inl, inr, map, option_map, refl, subst}
 use Rattle.template_program_parts.specs.Context.{text_pairs}
 use Rattle.template_program_run.specs.Asked.{served_by}
+use Rattle.template_program_run.specs.Given.{given_in}
+use Rattle.template_program_run.specs.Inputs.{AreTemplatesOf}
+use Rattle.template_program_run.specs.Naming.{naming_of}
+use Rattle.template_program_run.specs.Origins.{shown_as}
 use Rattle.template_program_run.specs.Served.{Served}
-use Rattle.template_program_run.specs.Inputs.{AreRead}
 use Rattle.template_program_run.specs.Starts.{PerformsTo}
 use Rattle.template_program_run.specs.Told.{told_by}
+use Rattle.template_program_run.proofs.Giving.{given_as_read}
 use Rattle.template_program_run.proofs.Refusing.{refuses_inputs}
 use Rattle.template_program_run.proofs.starting.do_words.Goals as goal
 
-pub returns-in-Ok : goal.returns-in-Ok
-returns-in-Ok g c =
+pub returns : goal.returns
+returns g c =
     let told = told_by (g.R.Folders.entries c.args.rt.now) (g.R.FileSystem.content c.args.rt.now) (g.I.Reader.may_fail c.args.input.now)
     (g.I.Reader.remaining c.args.input.now) in
     let inputs = c.in-Ok.inputs in
+    let words = c.args.words.now in
     let additions = text_pairs inputs.templates.items in
-    let json = option_map (λ bytes. bytes.items) inputs.context in
+    let given = given_in c.parts_of-context.result in
     let fresh = g.R.Placing.fresh c.args.rt.now in
     let placed = g.R.Placing.placed c.args.rt.now in
     let out = g.O.Output.shown c.args.out in
     let out_after = g.O.Output.shown c.perform_to.result.1 in
     let fault = g.F.Output.shown c.args.fault.now in
     let fault_after = g.F.Output.shown c.perform_to.new.fault in
-    let served = subst (λ (s : Served). PerformsTo (option_map (λ path. path.now) c.output_of.result) fresh placed inputs.request s additions json
+    let served = subst (λ (s : Served). PerformsTo (option_map (λ path. path.now) c.output_of.result) fresh placed inputs.request s additions given
     out out_after fault fault_after c.perform_to.result.0) c.requires c.perform_to.ensures in
-    let performs = subst (λ (path : Option (List ℕ)). PerformsTo path fresh placed inputs.request (served_by c.args.words.now) additions json
+    let performs = subst (λ (path : Option (List ℕ)). PerformsTo path fresh placed inputs.request (served_by words) additions given
     out out_after fault fault_after c.perform_to.result.0) c.output_of.ensures served in
-    let read = subst (λ (s : Served). AreRead told c.args.words.now s.syntax additions json) c.requires c.in-Ok.ensures.read in
-    inr (inputs.request, additions, json, c.in-Ok.ensures.asked, read, performs)
+    let templates = subst (λ (s : Served). AreTemplatesOf told (naming_of words).folder (naming_of words) s.syntax additions) c.requires
+    c.in-Ok.ensures.templates in
+    let same = ap (map shown_as) (c.parts_of-context.ensures.documents ∙ c.as_slice.ensures.value) ∙ c.in-Ok-documents_of.ensures in
+    let read = given_as_read told words given _ _ _ c.in-Ok.ensures.given same c.parts_of-context.ensures.values c.parts_of-context.ensures.floats in
+    inr (inputs.request, additions, given, c.in-Ok.ensures.asked, templates, read, performs)
 
 pub returns-in-Err : goal.returns-in-Err
 returns-in-Err g c =
