@@ -2,19 +2,53 @@
 use crate::report::Report;
 use serde_json::{Map, Value as Json};
 use std::fs;
+use std::os::unix::fs::symlink;
 use template_values_errors::ErrorKind;
 
-/// Writes each file to its path.
+/// Writes each file to its path, in folders that are made where they do not stand.
 pub(crate) fn write_files(rt: &HostRuntime, files: &Map<String, Json>, out: &mut Report) {
     for (path, bytes) in files {
         let bytes = out.bytes_of(bytes);
+        make_folders(rt, path.as_str(), out);
         if fs::write(rt, path.as_str(), bytes.as_slice()).is_err() {
             out.refuse(ErrorKind::WriteFailure);
         }
     }
 }
 
-/// Removes them again.
+// Makes the folders that a path is in.
+fn make_folders(rt: &HostRuntime, path: &str, out: &mut Report) {
+    if let Some((folder, _)) = path.rsplit_once('/') {
+        if fs::create_dir_all(rt, folder).is_err() {
+            out.refuse(ErrorKind::WriteFailure);
+        }
+    }
+}
+
+/// Makes links, an object of paths with what they lead to, if there are any.
+pub(crate) fn make_links(rt: &HostRuntime, links: Option<&Json>, out: &mut Report) {
+    let Some(Json::Object(links)) = links else {
+        return;
+    };
+    for (path, original) in links {
+        if let Json::String(original) = original {
+            if symlink(rt, original.as_str(), path.as_str()).is_err() {
+                out.refuse(ErrorKind::WriteFailure);
+            }
+        }
+    }
+}
+
+/// Removes a folder with what is in it, if one is named.
+pub(crate) fn remove_folder(rt: &HostRuntime, folder: Option<&Json>, out: &mut Report) {
+    if let Some(Json::String(folder)) = folder {
+        if fs::remove_dir_all(rt, folder.as_str()).is_err() {
+            out.refuse(ErrorKind::WriteFailure);
+        }
+    }
+}
+
+/// Removes the files again.
 pub(crate) fn remove_files(rt: &HostRuntime, files: &Map<String, Json>, out: &mut Report) {
     for (path, _) in files {
         if fs::remove_file(rt, path.as_str()).is_err() {

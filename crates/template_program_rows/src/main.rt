@@ -4,6 +4,8 @@
 //! - `words`: the words behind the program's name, an array of texts;
 //! - `files`: the files that stand meanwhile, an object of paths with what they have: a text, a number for a byte of
 //!   that value, or an array of both;
+//! - `links`: links that stand meanwhile, an object of paths with what they lead to;
+//! - `folder`: the folder that some of these are in, which does not stand before;
 //! - `input`: what the input has, told as that of a file;
 //! - `input_fails`: how the input fails once at its end, `Other`, `Interrupted` or `OutOfMemory`;
 //! - `output_room`: how many bytes the output takes; all, if left out;
@@ -40,7 +42,7 @@ mod starts;
 mod works;
 
 use crate::answers::about_request;
-use crate::files::{remove_files, write_files};
+use crate::files::{make_links, remove_files, remove_folder, write_files};
 use crate::report::Report;
 use crate::sizes::about_size;
 use crate::starts::about_start;
@@ -87,8 +89,10 @@ fn about_entries(rt: &HostRuntime, entries: &Map<String, Json>, out: &mut Report
         None => about_kind(rt, entries, out),
         Some(Json::Object(files)) => {
             write_files(rt, files, out);
+            make_links(rt, entries.get("links"), out);
             about_kind(rt, entries, out);
-            remove_files(rt, files, out)
+            remove_files(rt, files, out);
+            remove_folder(rt, entries.get("folder"), out)
         }
         Some(_) => out.refuse(ErrorKind::SyntaxError),
     }
