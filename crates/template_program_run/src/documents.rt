@@ -116,12 +116,22 @@ pub(crate) fn documents_of<'a>(
     alloc: Global,
     held: &'a Held,
 ) -> Result<Vec<Document<'a>>, AllocError>
-    ensures { IfOk result (λ documents. map shown_as documents.items ≡ all_held held.now) }
+    ensures { IfOk result (λ documents. map shown_as documents.items ≡ all_held held.entry.now) }
+{
+    lent(alloc, held.documents.as_slice(), held.input.as_slice())
+}
+
+fn lent<'a>(
+    alloc: Global,
+    held: &'a [HeldDocument],
+    input: &'a [u8],
+) -> Result<Vec<Document<'a>>, AllocError>
+    ensures { IfOk result (λ documents. map shown_as documents.items ≡ map (held_as input.entry.now) held.entry.now) }
 {
     let mut documents = Vec::new(alloc);
-    for document in held.documents.as_slice() {
+    for document in held {
         documents.push(Document {
-            bytes: bytes_of(document, held.input.as_slice()),
+            bytes: bytes_of(document, input),
             form: document.form,
         })?;
     }
