@@ -1,5 +1,5 @@
 -- How the program's body ends, by its words.
-use Rattle.std.specs.Prelude.{◌≡◌, ◌^◌, ◌⊎◌, ℕ, Bool, false, List, [], ◌∷◌, map, codes, All, Contains, IfSome, IsSomeAnd, OnOk, Option, None, Some, Result, option_map, unwrap_or, string_bytes}
+use Rattle.std.specs.Prelude.{◌≡◌, ◌⊎◌, ℕ, List, [], ◌∷◌, map, codes, IfSome, OnOk, Option, None, Some, Result, string_bytes}
 use Rattle.std.specs.Io.KnownBytes.{Keeps, append_known}
 use Rattle.std.specs.declared.io.Error.{Error}
 use Rattle.std.specs.declared.io.ErrorKind.{ErrorKind as IoKind}
@@ -8,26 +8,21 @@ use Rattle.clap.specs.Words.{Kinds, Row}
 use Rattle.template_values_errors.specs.declared.ErrorKind.TheVariants.{InvalidDelimiter, OutOfMemory}
 use Rattle.template_values_errors.specs.Memory.{NoMemory}
 use Rattle.template_values_errors.specs.declared.ErrorKind.{ErrorKind}
-use Rattle.template_values_errors.specs.declared.modes.UndefinedBehavior.{UndefinedBehavior}
-use Rattle.template_values_errors.specs.declared.modes.UndefinedBehavior.TheVariants.{Lenient}
 use Rattle.template_compiler_syntax.specs.Syntax.{IsUsable, Syntax}
 use Rattle.template_program_parts.specs.declared.faults.FileFault.{FileFault}
 use Rattle.template_program_parts.specs.declared.faults.FileFault.TheVariants as refusal
-use Rattle.template_program_words.specs.Reading.{ReadsWords, default_limit, parts_of}
+use Rattle.template_program_words.specs.Reading.{ReadsWords}
 use Rattle.template_program_words.specs.Refusals.{RefusesWords}
 use Rattle.template_program_words.specs.declared.faults.WordsFault.{WordsFault}
 use Rattle.template_program_words.specs.declared.faults.WordsFault.TheVariants.{Memory, Help, Version, Usage, Definition}
 use Rattle.template_program_words.specs.declared.words.Words.{Words}
-use Rattle.template_program_words.specs.declared.words.Words.TheVariants as asks
-use Rattle.template_program_run.specs.Answers.{AnswersWith, definitions_of}
+use Rattle.template_program_run.specs.Answers.{AnswersWith}
 use Rattle.template_program_run.specs.Asked.{output_word, served_by, syntax_set, syntax_words}
 use Rattle.template_program_run.specs.Served.{Served}
 use Rattle.template_program_parts.specs.declared.outcome.Outcome.{Outcome}
 use Rattle.template_program_parts.specs.declared.outcome.Outcome.TheVariants.{Done, Render, Context, Template}
-use Rattle.template_program_parts.specs.declared.command.Command.TheVariants as asked
 use Rattle.template_program_run.specs.declared.request.Request.{Request}
 use Rattle.template_program_parts.specs.Flushes.{flushed}
-use Rattle.template_program_parts.specs.Reading.{LacksFile, LacksText}
 use Rattle.template_program_parts.specs.Status.{IsStatusOf}
 use Rattle.template_program_run.specs.Status.{file_status, syntax_status}
 use Rattle.template_program_run.specs.Inputs.{AreTemplatesOf, IsAsked, IsGiven, RefusesInputs}

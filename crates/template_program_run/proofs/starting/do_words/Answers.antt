@@ -1,5 +1,6 @@
 use Rattle.std.proofs.Common.{◌∙◌, Err, List, Option, ℕ, ap, inl, inr, map, option_map, refl, subst}
 use Rattle.template_program_parts.specs.Context.{text_pairs}
+use Rattle.template_program_parts.specs.declared.faults.FileFault.TheVariants.{Memory}
 use Rattle.template_program_run.specs.Asked.{served_by}
 use Rattle.template_program_run.specs.Given.{given_in}
 use Rattle.template_program_run.specs.Inputs.{AreTemplatesOf}
@@ -35,6 +36,10 @@ returns g c =
     let same = ap (map shown_as) (c.parts_of-context.ensures.documents ∙ c.as_slice.ensures.value) ∙ c.in-Ok-documents_of.ensures in
     let read = given_as_read told words given _ _ _ c.in-Ok.ensures.given same c.parts_of-context.ensures.values c.parts_of-context.ensures.floats in
     inr (inputs.request, additions, given, c.in-Ok.ensures.asked, templates, read, performs)
+
+-- no memory for the documents' list
+pub returns-in_default : goal.returns-in_default
+returns-in_default g c = inl (Memory, tt, c.refuse_file-in_default.ensures.status, refl, c.refuse_file-in_default.ensures.told)
 
 pub returns-in-Err : goal.returns-in-Err
 returns-in-Err g c =
