@@ -17,7 +17,7 @@ returns-clause-answers g c =
     let answers = subst (λ (served : Served). AnswersWith served c.args.request.now (text_pairs c.args.templates.now) given c.args.ids.now
     c.run_with.result (g.S.Sink.taken c.args.sink.now) (g.S.Sink.taken c.run_with.new.sink) (g.S.Sink.failures c.args.sink.now)
     (g.S.Sink.failures c.run_with.new.sink)) plain c.run_with.ensures.answers in
-    let alone = alone_as_slice (option_copied c.args.context) c.json_document.result c.as_slice.result.now c.json_document.ensures c.as_slice.ensures in
+    let alone = alone_as_slice (option_copied c.args.context) c.json_document-document.result c.as_slice.result.now c.json_document-document.ensures c.as_slice.ensures in
     let documents = subst (AreJson (option_copied c.args.context)) (sym c.of_documents.ensures.documents) alone in (
       given,
       record {
