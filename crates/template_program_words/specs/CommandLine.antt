@@ -1,5 +1,5 @@
 -- The command line, in the words in which `clap` describes one: `names [--builtins] [--main NAME] [-o FILE] [--where] [--json]
--- [--templates FOLDER] [SYNTAX] [FILE...]`
+-- [--templates FOLDER] [SYNTAX] [FILE...]`, `check [--builtins] [--templates FOLDER] [SYNTAX] [FILE...]`
 -- and `render [--context FILE] [-D NAME=TEXT]... [--fuel N] [--limit N] [--undefined MODE] [--builtins] [--main NAME] [-o FILE]
 -- [--where] [--templates FOLDER] [--data FILE]... [--json NAME=JSON]... [--floats FORM] [--autoescape FORMAT]
 -- [--expression TEXT] [--as-json] [SYNTAX] [FILE...]`.
@@ -137,6 +137,9 @@ abbrev pub names_rules : List Rule
 names_rules =
     builtins_option ∷ main_option ∷ output_option ∷ where_option ∷ names_json_option ∷ templates_option ∷ files_argument ∷ []
 
+abbrev pub check_rules : List Rule
+check_rules = builtins_option ∷ templates_option ∷ files_argument ∷ []
+
 -- an app that takes the words of the syntax too
 abbrev pub with_syntax : App → App
 with_syntax app = with_rules (with_rules app syntax_flags) syntax_texts
@@ -147,6 +150,9 @@ render_command = with_syntax (with_rules (with_rules (new_app (codes "render")) 
 abbrev pub names_command : App
 names_command = with_syntax (with_rules (new_app (codes "names")) names_rules)
 
+abbrev pub check_command : App
+check_command = with_syntax (with_rules (new_app (codes "check")) check_rules)
+
 -- the program's own name is not among the words, one of the commands has to be, and the version is told
 abbrev pub bare_program : App
 bare_program = record (new_app (codes "template")) {
@@ -154,4 +160,4 @@ bare_program = record (new_app (codes "template")) {
 }
 
 abbrev pub program : App
-program = with_subcommand (with_subcommand bare_program render_command.top) names_command.top
+program = with_subcommand (with_subcommand (with_subcommand bare_program render_command.top) names_command.top) check_command.top

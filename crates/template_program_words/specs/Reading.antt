@@ -10,10 +10,11 @@ use Rattle.template_program_words.specs.Floats.{floats_of}
 use Rattle.template_program_words.specs.Modes.{mode_of}
 use Rattle.template_program_words.specs.declared.definitions.Definition.{Definition}
 use Rattle.template_program_words.specs.declared.syntax.SyntaxWords.{SyntaxWords}
+use Rattle.template_program_words.specs.declared.words.CheckWords.{CheckWords}
 use Rattle.template_program_words.specs.declared.words.NamesWords.{NamesWords}
 use Rattle.template_program_words.specs.declared.words.RenderWords.{RenderWords}
 use Rattle.template_program_words.specs.declared.words.Words.{Words}
-use Rattle.template_program_words.specs.declared.words.Words.TheVariants.{Render, Names}
+use Rattle.template_program_words.specs.declared.words.Words.TheVariants.{Render, Names, Check}
 
 -- all values of an option or of the files
 abbrev pub values_of : List ℕ → List Row → List (List ℕ)
@@ -106,9 +107,18 @@ pub record ReadsNames (rows : List Row) (read : NamesWords) : Type 0 where
   pub templates : ReadsText (codes "templates") rows read.templates
   pub files : map (λ path. path.now) read.files.items ≡ values_of (codes "files") rows
 
+-- the words behind `check`
+pub record ReadsCheck (rows : List Row) (read : CheckWords) : Type 0 where
+  pub builtins : read.builtins ≡ has_flag (codes "builtins") rows
+  pub syntax : ReadsSyntax rows read.syntax
+  pub templates : ReadsText (codes "templates") rows read.templates
+  pub files : map (λ path. path.now) read.files.items ≡ values_of (codes "files") rows
+
 -- the command that was found, and the words behind it
 abbrev pub ReadsWords : Option (List ℕ × List Row) → Words → Type 0
 ReadsWords found (Render read) =
     (rows : List Row) × (found ≡ Some (codes "render", rows)) × ReadsRender rows read
 ReadsWords found (Names read) =
     (rows : List Row) × (found ≡ Some (codes "names", rows)) × ReadsNames rows read
+ReadsWords found (Check read) =
+    (rows : List Row) × (found ≡ Some (codes "check", rows)) × ReadsCheck rows read

@@ -34,10 +34,11 @@ IsUsage fault = ⊥
 abbrev pub LacksSign : List (List ℕ) → Type 0
 LacksSign words = (text : List ℕ) × Contains words text × ¬ (Contains text equals_sign)
 
--- neither command was found
+-- none of the commands was found
 abbrev pub FindsNone : Option (List ℕ × List Row) → Type 0
 FindsNone found = (option_map (λ f. f.0) found ≢ Some (codes "render"))
     × (option_map (λ f. f.0) found ≢ Some (codes "names"))
+    × (option_map (λ f. f.0) found ≢ Some (codes "check"))
 
 -- no mode has this name
 abbrev pub NamesNoMode : List Row → Type 0

@@ -9,7 +9,7 @@ use crate::choices::{escape_in, floats_in, undefined_in};
 use crate::definitions::{Definition, split_definition};
 use crate::faults::WordsFault;
 use crate::syntax::syntax_words;
-use crate::words::{NamesWords, RenderWords, Words};
+use crate::words::{CheckWords, NamesWords, RenderWords, Words};
 use clap::ArgMatches;
 use std::alloc::{AllocError, Global};
 
@@ -27,8 +27,11 @@ pub(crate) fn words_in<'a>(alloc: Global, matches: &ArgMatches<'a>) -> Result<Wo
     if let Some(names) = matches.subcommand_matches("names") {
         return names_words(alloc, names);
     }
+    if let Some(check) = matches.subcommand_matches("check") {
+        return check_words(alloc, check);
+    }
 
-    // `clap` requires a command and knows these two.
+    // `clap` requires a command and knows these three.
     Err(WordsFault::Usage(String::new(alloc)))
 }
 
@@ -72,6 +75,18 @@ fn names_words<'a>(alloc: Global, matches: &ArgMatches<'a>) -> Result<Words<'a>,
         output: text(matches, "output"),
         tells_where: is_flagged(matches, "where"),
         json: is_flagged(matches, "json"),
+        templates: text(matches, "templates"),
+        files: values(alloc, matches, "files")?,
+    }))
+}
+
+fn check_words<'a>(alloc: Global, matches: &ArgMatches<'a>) -> Result<Words<'a>, WordsFault>
+    ensures reads { IfOk result (ReadsWords (Some (codes "check", rows_of (found_of matches.now)))) }
+    ensures refuses { IfErr result (λ fault. fault ≡ Memory) }
+{
+    Ok(Words::Check(CheckWords {
+        builtins: is_flagged(matches, "builtins"),
+        syntax: syntax_words(matches),
         templates: text(matches, "templates"),
         files: values(alloc, matches, "files")?,
     }))

@@ -21,4 +21,4 @@ pub use escapes::EscapeWord;
 pub use faults::WordsFault;
 pub use reading::read_words;
 pub use syntax::SyntaxWords;
-pub use words::{NamesWords, RenderWords, Words};
+pub use words::{CheckWords, NamesWords, RenderWords, Words};

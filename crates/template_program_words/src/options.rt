@@ -21,13 +21,14 @@ Status:
   5  a template was refused, or the main one is not there
   6  memory was refused";
 
-/// The program, with its two commands.
+/// The program, with its three commands.
 pub(crate) fn program<'a>(alloc: Global) -> Result<Command<'a>, AllocError>
     ensures { IfOk result (λ command. app_of command ≡ line.program) }
 {
     bare_program(alloc)?
         .subcommand(render(alloc)?)?
-        .subcommand(names(alloc)?)
+        .subcommand(names(alloc)?)?
+        .subcommand(check(alloc)?)
 }
 
 // The program without its commands.
@@ -102,6 +103,25 @@ fn names_arguments<'a>(alloc: Global) -> Result<Vec<Arg<'a>>, AllocError>
         templates(alloc),
         files(alloc),
     ]?)
+}
+
+/// `check [--builtins] [--templates FOLDER] [SYNTAX] [FILE...]`
+fn check<'a>(alloc: Global) -> Result<Command<'a>, AllocError>
+    ensures app { IfOk result (λ command. app_of command ≡ line.check_command) }
+    ensures local { IfOk result (λ command. (out-Command command).has_globals ≡ false) }
+{
+    Command::new(alloc, "check")
+        .about("Prints each refusal of the templates, as page.html:12:7: SyntaxError, one a line")
+        .args(check_arguments(alloc)?)?
+        .args(syntax_flags(alloc)?)?
+        .args(syntax_texts(alloc)?)
+}
+
+fn check_arguments<'a>(alloc: Global) -> Result<Vec<Arg<'a>>, AllocError>
+    ensures rules { IfOk result (λ arguments. map rule_of arguments.items ≡ line.check_rules) }
+    ensures local { IfOk result (λ arguments. All (λ a. a.global ≡ false) arguments.items) }
+{
+    Ok(vec![in alloc; checked_builtins(alloc), templates(alloc), files(alloc)]?)
 }
 
 /// An argument with a value, of this name in help.
@@ -194,4 +214,14 @@ fn names_json<'a>(alloc: Global) -> Arg<'a>
         "json",
         "Prints the names as a JSON list, on one line",
     )
+}
+
+fn checked_builtins<'a>(alloc: Global) -> Arg<'a>
+    ensures rule { rule_of result ≡ line.builtins_option }
+    ensures local { result.global ≡ false }
+{
+    let help =
+        "Templates have the builtin filters and tests: each name of a filter, test or function that nothing has is \
+         printed too";
+    flag_option(alloc, "builtins", help)
 }

@@ -11,6 +11,8 @@ pub enum Words<'a> {
     Render(RenderWords<'a>),
     /// `names`: the names that the templates may ask for are wanted.
     Names(NamesWords<'a>),
+    /// `check`: the refusals of the templates are wanted.
+    Check(CheckWords<'a>),
 }
 
 /// The words behind `render`.
@@ -69,6 +71,19 @@ pub struct NamesWords<'a> {
     pub tells_where: bool,
     /// Whether the names are printed as a JSON list.
     pub json: bool,
+    /// The folder whose files are templates.
+    pub templates: Option<&'a str>,
+    /// The paths of the templates, in the order of the words.
+    pub files: Vec<&'a str>,
+}
+
+/// The words behind `check`.
+#[derive(Debug, Drop)]
+pub struct CheckWords<'a> {
+    /// Whether templates have the builtins: each name of a filter, test or function that nothing has is wanted too.
+    pub builtins: bool,
+    /// The syntax of the templates.
+    pub syntax: SyntaxWords<'a>,
     /// The folder whose files are templates.
     pub templates: Option<&'a str>,
     /// The paths of the templates, in the order of the words.
