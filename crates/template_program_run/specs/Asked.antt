@@ -67,10 +67,12 @@ served_by (asks.Render read) = record {
   syntax = syntax_set read.syntax;
   escapes = rule_under (rule_named read.autoescape);
   names_as_json = false;
+  tells_where = read.tells_where;
 }
 served_by (asks.Names read) = record {
   brought = brought_if read.builtins;
   syntax = syntax_set read.syntax;
   escapes = ByName;
   names_as_json = read.json;
+  tells_where = read.tells_where;
 }

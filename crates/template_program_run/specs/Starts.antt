@@ -1,5 +1,5 @@
 -- How the program's body ends, by its words.
-use Rattle.std.specs.Prelude.{◌≡◌, ◌⊎◌, ℕ, List, [], ◌∷◌, map, codes, IfSome, OnOk, Option, None, Some, Result, string_bytes}
+use Rattle.std.specs.Prelude.{◌≡◌, ◌⊎◌, ℕ, Bool, true, false, List, [], ◌∷◌, map, codes, IfSome, OnOk, Option, None, Some, Result, string_bytes}
 use Rattle.std.specs.Io.KnownBytes.{Keeps, append_known}
 use Rattle.std.specs.declared.io.Error.{Error}
 use Rattle.std.specs.declared.io.ErrorKind.{ErrorKind as IoKind}
@@ -35,6 +35,7 @@ use Rattle.template_program_files.specs.Written.{IsRefused, IsWritten}
 use Rattle.template_program_output.specs.Answer.{Answer, failures_among}
 use Rattle.template_program_output.specs.Lines.{error_line, fault_line}
 use Rattle.template_program_output.specs.Shown.{IsFlushed, Puts, PutsFlushed, Shown, TellsResult}
+use Rattle.template_program_places.specs.Told.{PutsBefore}
 
 -- the status of words that are refused, or that ask for help
 abbrev pub words_status : WordsFault → ℕ
@@ -73,12 +74,17 @@ pub record RunsFlushed (request : Request) (served : Served) (additions : List (
 abbrev pub memory_line : List ℕ
 memory_line = error_line (OutOfMemory ∷ [])
 
--- the fault line of an outcome is written, or a beginning of it where that fails; none is where all is done
-abbrev pub TellsOutcome : Outcome → Shown → Shown → Type 0
-TellsOutcome Done before after = after ≡ before
-TellsOutcome (Render kinds) before after = Puts before after (error_line kinds)
-TellsOutcome (Context kinds) before after = Puts before after (error_line kinds)
-TellsOutcome (Template kinds) before after = Puts before after (error_line kinds)
+-- the fault line of an error is written, and behind it some text where places are asked for, or a beginning where that fails
+abbrev pub TellsError : Bool → List ErrorKind → Shown → Shown → Type 0
+TellsError false kinds before after = Puts before after (error_line kinds)
+TellsError true kinds before after = PutsBefore before after (error_line kinds)
+
+-- the error of an outcome is told, with its places or without; nothing is where all is done
+abbrev pub TellsOutcome : Bool → Outcome → Shown → Shown → Type 0
+TellsOutcome tells_where Done before after = after ≡ before
+TellsOutcome tells_where (Render kinds) before after = TellsError tells_where kinds before after
+TellsOutcome tells_where (Context kinds) before after = TellsError tells_where kinds before after
+TellsOutcome tells_where (Template kinds) before after = TellsError tells_where kinds before after
 
 -- The status is that of the outcome, and its fault is told. Where there is no memory for the output's buffer, nothing is
 -- written, and that is told.
@@ -86,7 +92,7 @@ abbrev pub PerformsRequest : Request → Served → List (List ℕ × List ℕ) 
 PerformsRequest request served additions given out out_after fault fault_after result =
     ((result ≡ 6) × (out_after ≡ out) × Puts fault fault_after memory_line)
     ⊎ ((outcome : Outcome) × RunsFlushed request served additions given out out_after outcome × IsStatusOf outcome result
-    × TellsOutcome outcome fault fault_after)
+    × TellsOutcome served.tells_where outcome fault fault_after)
 
 -- the line of a file or an input that is refused
 abbrev pub file_line : FileFault → List ℕ

@@ -15,21 +15,25 @@ pub struct Options<'a> {
     pub syntax: Option<&'a SyntaxConfig>,
     /// Whether names are told as a JSON list of texts on one line, and not one a line.
     pub names_as_json: bool,
+    /// Whether the places of a fault are told behind its line.
+    pub tells_where: bool,
 }
 
 impl Options<'_> {
-    /// No builtins, escapes by name, the default syntax, and names one a line.
+    /// No builtins, escapes by name, the default syntax, names one a line, and faults without places.
     pub fn new() -> Options<'static>
         ensures builtins { result.builtins ≡ false }
         ensures escapes { result.escapes ≡ EscapeRule.ByName }
         ensures syntax { result.syntax ≡ None }
         ensures names { result.names_as_json ≡ false }
+        ensures places { result.tells_where ≡ false }
     {
         Options {
             builtins: false,
             escapes: EscapeRule::ByName,
             syntax: None,
             names_as_json: false,
+            tells_where: false,
         }
     }
 }

@@ -3,7 +3,7 @@ ghost use Rattle.std.specs.Prelude.{◌≡◌, []};
 ghost use Rattle.template_program_parts.specs.Context.{text_pairs};
 ghost use Rattle.template_program_run.specs.Given.{given_in};
 ghost use Rattle.template_program_run.specs.Served.{served_under};
-ghost use Rattle.template_program_run.specs.Starts.{PerformsRequest, RunsFlushed, TellsOutcome};
+ghost use Rattle.template_program_run.specs.Starts.{PerformsRequest, RunsFlushed, TellsError, TellsOutcome};
 
 use crate::inputs::Inputs;
 use crate::options::Options;
@@ -14,11 +14,14 @@ use std::alloc::Global;
 use template_machine_surroundings::StateIds;
 use template_program_output::{Buffered, Output};
 use template_program_parts::{MEMORY, Outcome, after_flush, status_of};
+use template_program_places::write_placed;
+use template_values_errors::Error;
 
 /// How many bytes are held back before they are written to the output.
 const BUFFER: usize = 8192;
 
-/// Runs the request over a buffer, which is flushed after a fault too, and tells a fault on one line.
+/// Runs the request over a buffer, which is flushed after a fault too, and tells a fault on one line, with its places behind it
+/// where they are asked for.
 pub(crate) fn perform<O: Output, F: Output>(
     alloc: Global,
     options: Options<'_>,
@@ -36,7 +39,7 @@ pub(crate) fn perform<O: Output, F: Output>(
         return (MEMORY, out);
     };
     let (outcome, out) = run_flushed(alloc, options, inputs, context, out, buffer);
-    tell_outcome(&outcome, fault);
+    tell_outcome(alloc, options.tells_where, inputs, &outcome, fault);
     (status_of(&outcome), out)
 }
 
@@ -68,14 +71,36 @@ fn run_flushed<O: Output>(
     (outcome, sink.into_output())
 }
 
-// Writes the fault line of an outcome, if it has one.
-fn tell_outcome<F: Output>(outcome: &Outcome, fault: &mut F)
-    ensures { TellsOutcome outcome.now (F.shown fault.old) (F.shown fault.new) }
+// Writes the fault line of an outcome, if it has one, and the places behind it where they are asked for.
+fn tell_outcome<F: Output>(
+    alloc: Global,
+    tells_where: bool,
+    inputs: &Inputs,
+    outcome: &Outcome,
+    fault: &mut F,
+)
+    ensures { TellsOutcome tells_where outcome.now (F.shown fault.old) (F.shown fault.new) }
 {
     match outcome {
         Outcome::Done => {}
         Outcome::Render(error) | Outcome::Context(error) | Outcome::Template(error) => {
-            tell_error(fault, error);
+            tell_outcome_error(alloc, tells_where, inputs, error, fault);
         }
+    }
+}
+
+fn tell_outcome_error<F: Output>(
+    alloc: Global,
+    tells_where: bool,
+    inputs: &Inputs,
+    error: &Error,
+    fault: &mut F,
+)
+    ensures { TellsError tells_where error.now (F.shown fault.old) (F.shown fault.new) }
+{
+    if tells_where {
+        write_placed(alloc, fault, error, inputs.templates.as_slice());
+    } else {
+        tell_error(fault, error);
     }
 }

@@ -22,12 +22,14 @@ pub(crate) fn options_of<'a>(words: &Words<'_>, syntax: Option<&'a SyntaxConfig>
             escapes: rule_named(words.autoescape),
             syntax,
             names_as_json: false,
+            tells_where: words.tells_where,
         },
         Words::Names(words) => Options {
             builtins: words.builtins,
             escapes: EscapeRule::ByName,
             syntax,
             names_as_json: words.json,
+            tells_where: words.tells_where,
         },
     }
 }

@@ -12,7 +12,7 @@ use Rattle.template_program_run.proofs.running.run.Goals as goal
 
 pub returns-clause-answers : goal.returns-clause-answers
 returns-clause-answers g c =
-    let plain = none_served c.new.result c.new.ensures.builtins c.new.ensures.escapes c.new.ensures.syntax c.new.ensures.names in
+    let plain = none_served c.new.result c.new.ensures.builtins c.new.ensures.escapes c.new.ensures.syntax c.new.ensures.names c.new.ensures.places in
     let given = given_in c.of_documents.result in
     let answers = subst (λ (served : Served). AnswersWith served c.args.request.now (text_pairs c.args.templates.now) given c.args.ids.now
     c.run_with.result (g.S.Sink.taken c.args.sink.now) (g.S.Sink.taken c.run_with.new.sink) (g.S.Sink.failures c.args.sink.now)
@@ -30,7 +30,7 @@ returns-clause-answers g c =
 
 pub returns-clause-plain : goal.returns-clause-plain
 returns-clause-plain g c =
-    let plain = none_served c.new.result c.new.ensures.builtins c.new.ensures.escapes c.new.ensures.syntax c.new.ensures.names in
+    let plain = none_served c.new.result c.new.ensures.builtins c.new.ensures.escapes c.new.ensures.syntax c.new.ensures.names c.new.ensures.places in
     let writes : Served → Type 0 = λ served. (text : List ℕ)
     → standing (text_pairs c.args.templates.now) (string_bytes c.args.request.now.main) ≡ Some text → IsPlain (source_under served text)
     → WritesOnRender c.args.request.now.command (g.S.Sink.taken c.args.sink.now) (g.S.Sink.taken c.run_with.new.sink)
