@@ -25,12 +25,18 @@ abbrev pub HasLimits : Request → Option ℕ → ℕ → UndefinedBehavior → 
 HasLimits request fuel limit undefined =
     (request.fuel ≡ fuel) × (request.limit ≡ limit) × (request.undefined ≡ undefined)
 
--- The request is what the words ask for. Names are told in an environment set as one begins.
+-- The request is what the words ask for, unless that is a check. Names are told in an environment set as one begins.
 abbrev pub IsAsked : Words → Request → Type 0
 IsAsked (asks.Render read) request = (request.command ≡ asked.Render) × HasLimits request read.fuel read.limit read.undefined
     × (definitions_of request ≡ map parts_of read.definitions.items) × (string_bytes request.main ≡ main_of (naming_of (asks.Render read)))
 IsAsked (asks.Names read) request = (request.command ≡ asked.Names) × HasLimits request None default_limit Lenient
     × (string_bytes request.main ≡ main_of (naming_of (asks.Names read)))
+IsAsked (asks.Check read) request = ⊥
+
+-- the words ask for a run, and not for a check
+abbrev pub AskForRun : Words → Type 0
+AskForRun (asks.Check read) = ⊥
+AskForRun _ = Unit {0}
 
 -- the templates are those that the words name: of a folder, if one is given
 abbrev pub AreTemplatesOf : Told → Option (List ℕ) → Naming → Syntax → List (List ℕ × List ℕ) → Type 0
@@ -41,11 +47,13 @@ AreTemplatesOf told (Some folder) naming syntax additions = AreSifted told folde
 abbrev pub values_of : Words → List (List ℕ × List ℕ)
 values_of (asks.Render read) = map parts_of read.values.items
 values_of (asks.Names read) = []
+values_of (asks.Check read) = []
 
 -- what becomes of floats, by the words
 abbrev pub floats_of : Words → Floats
 floats_of (asks.Render read) = if read.float_texts then AsSpelled else Refused
 floats_of (asks.Names read) = Refused
+floats_of (asks.Check read) = Refused
 
 -- the context is made of this: the documents of the files that the words name, the values, and what they say of floats
 pub record IsGiven (told : Told) (words : Words) (documents : List (Form × List ℕ)) (values : List (List ℕ × List ℕ)) (floats : Floats) : Type 0 where

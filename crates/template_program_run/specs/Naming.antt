@@ -1,5 +1,5 @@
 -- How the words name templates.
-use Rattle.std.specs.Prelude.{ℕ, ◌&&◌, not, Bool, true, false, List, [], ◌∷◌, Option, is_none, map, option_map, unwrap_or}
+use Rattle.std.specs.Prelude.{ℕ, ◌&&◌, not, Bool, true, false, List, [], ◌∷◌, Option, None, is_none, map, option_map, unwrap_or}
 use Rattle.template_program_words.specs.declared.words.Words.{Words}
 use Rattle.template_program_words.specs.declared.words.Words.TheVariants as asks
 use Rattle.template_program_run.specs.Origins.{hold_input, origins_of}
@@ -32,6 +32,12 @@ naming_of (asks.Render read) = record {
 naming_of (asks.Names read) = record {
   folder = option_map (λ path. path.now) read.templates;
   main = option_map (λ name. name.now) read.main;
+  paths = map (λ path. path.now) read.files.items;
+  input_is_taken = false;
+}
+naming_of (asks.Check read) = record {
+  folder = option_map (λ path. path.now) read.templates;
+  main = None;
   paths = map (λ path. path.now) read.files.items;
   input_is_taken = false;
 }

@@ -32,6 +32,7 @@ abbrev pub origins_of : Words → List Origin
 origins_of (asks.Render read) =
     context_origins (option_map (λ path. path.now) read.context) ++ map data_origin (map (λ path. path.now) read.data_files.items)
 origins_of (asks.Names read) = []
+origins_of (asks.Check read) = []
 
 abbrev pub is_input : Origin → Bool
 is_input (file path form) = false

@@ -36,6 +36,7 @@ use Rattle.template_program_output.specs.Answer.{Answer, failures_among}
 use Rattle.template_program_output.specs.Lines.{error_line, fault_line}
 use Rattle.template_program_output.specs.Shown.{IsFlushed, Puts, PutsFlushed, Shown, TellsResult}
 use Rattle.template_program_places.specs.Told.{PutsBefore}
+use Rattle.template_program_check.specs.Ends.{EndsCheck}
 
 -- the status of words that are refused, or that ask for help
 abbrev pub words_status : WordsFault → ℕ
@@ -136,16 +137,35 @@ arguments_line _ = fault_line (codes "Arguments")
 abbrev pub RefusesSyntax : Syntax → List ErrorKind → Type 0
 RefusesSyntax syntax kinds = ((kinds ≡ InvalidDelimiter ∷ []) × ¬ IsUsable syntax) ⊎ NoMemory kinds
 
--- The files that the words name are read, or one is refused with the status and the line of its fault, and what the words ask
--- for is done with them.
-abbrev pub DoesWords : Words → Told → (List ℕ → Option Shown) → (List ℕ → Shown → Type 0) → Shown → Shown → Shown → Shown → ℕ → Type 0
-DoesWords words told fresh Placed out out_after fault fault_after result =
-    ((refused : FileFault) × RefusesInputs told words refused × (result ≡ file_status refused)
-    × (out_after ≡ out) × Puts fault fault_after (file_line refused))
+-- a file that the words name is refused, with the status and the line of its fault
+abbrev pub RefusesFile : Words → Told → Shown → Shown → Shown → Shown → ℕ → Type 0
+RefusesFile words told out out_after fault fault_after result = (refused : FileFault) × RefusesInputs told words refused
+    × (result ≡ file_status refused) × (out_after ≡ out) × Puts fault fault_after (file_line refused)
+
+-- The files that the words name are read, or one is refused, and what the words ask for is run with them.
+abbrev pub RunsWords : Words → Told → (List ℕ → Option Shown) → (List ℕ → Shown → Type 0) → Shown → Shown → Shown → Shown → ℕ → Type 0
+RunsWords words told fresh Placed out out_after fault fault_after result =
+    RefusesFile words told out out_after fault fault_after result
     ⊎ ((request : Request) × (additions : List (List ℕ × List ℕ)) × (given : Given) × IsAsked words request
     × AreTemplatesOf told (naming_of words).folder (naming_of words) (served_by words).syntax additions
     × IsGiven told words (map shown_as given.documents) given.values given.floats
     × PerformsTo (output_word words) fresh Placed request (served_by words) additions given out out_after fault fault_after result)
+
+-- the templates are read, or one of their files is refused, and they are checked
+abbrev pub ChecksWords : Words → Bool → Told → Shown → Shown → Shown → Shown → ℕ → Type 0
+ChecksWords words builtins told out out_after fault fault_after result =
+    RefusesFile words told out out_after fault fault_after result
+    ⊎ ((additions : List (List ℕ × List ℕ)) × AreTemplatesOf told (naming_of words).folder (naming_of words) (served_by words).syntax additions
+    × EndsCheck (served_by words).syntax builtins additions out out_after fault fault_after result)
+
+-- what the words ask for
+abbrev pub DoesWords : Words → Told → (List ℕ → Option Shown) → (List ℕ → Shown → Type 0) → Shown → Shown → Shown → Shown → ℕ → Type 0
+DoesWords (asks.Check read) told fresh Placed out out_after fault fault_after result =
+    ChecksWords (asks.Check read) read.builtins told out out_after fault fault_after result
+DoesWords (asks.Render read) told fresh Placed out out_after fault fault_after result =
+    RunsWords (asks.Render read) told fresh Placed out out_after fault fault_after result
+DoesWords (asks.Names read) told fresh Placed out out_after fault fault_after result =
+    RunsWords (asks.Names read) told fresh Placed out out_after fault fault_after result
 
 -- The syntax that the words set is refused, before any file is read, and that is told. Else they are done.
 abbrev pub DoesUnderSyntax : Words → Told → (List ℕ → Option Shown) → (List ℕ → Shown → Type 0) → Shown → Shown → Shown → Shown → ℕ → Type 0

@@ -10,6 +10,7 @@ use Rattle.template_program_words.specs.declared.words.Words.TheVariants as asks
 abbrev pub value_texts : Words → List (List ℕ)
 value_texts (asks.Render read) = map (λ value. value.text.now) read.values.items
 value_texts (asks.Names read) = []
+value_texts (asks.Check read) = []
 
 -- each is JSON
 abbrev pub AreJsonTexts : List (List ℕ) → Type 0

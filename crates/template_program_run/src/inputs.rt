@@ -3,7 +3,7 @@ ghost use Rattle.std.specs.Prelude.{◌≡◌, [], All, map, true, false, IfErr,
 ghost use Rattle.template_program_parts.specs.Context.{text_pairs};
 ghost use Rattle.template_program_words.specs.Reading.{parts_of};
 ghost use Rattle.template_program_run.specs.Held.{all_held};
-ghost use Rattle.template_program_run.specs.Inputs.{AreTemplatesOf, IsAsked, IsGiven, LacksOne, LacksTemplateOf};
+ghost use Rattle.template_program_run.specs.Inputs.{AreTemplatesOf, AskForRun, IsAsked, IsGiven, LacksOne, LacksTemplateOf};
 ghost use Rattle.template_program_run.specs.Naming.{main_of, naming_in, naming_of};
 ghost use Rattle.template_program_run.specs.Served.{syntax_under};
 ghost use Rattle.template_program_run.specs.Templates.{AreTemplates, IsInput, IsReadFrom, IsSameInput, LacksFiles, LacksInput, LacksTemplate, addition_names, template_names};
@@ -11,7 +11,7 @@ ghost use Rattle.template_program_run.specs.Told.{told_by};
 
 use crate::documents::{Held, read_documents};
 use crate::folder::read_sifted;
-use crate::naming::{Naming, named_main, names_naming, reads_input, render_naming};
+use crate::naming::{Naming, check_naming, named_main, names_naming, reads_input, render_naming};
 use crate::options::Options;
 use crate::origins::{holds_input, origins_of};
 use crate::{Command, Request};
@@ -20,7 +20,7 @@ use template_program_folder::Folders;
 use template_program_parts::{
     FileFault, FileSystem, ReadWrapper, Reader, read_text, read_text_file,
 };
-use template_program_words::{Definition, NamesWords, RenderWords, Words};
+use template_program_words::{CheckWords, Definition, NamesWords, RenderWords, Words};
 use template_values_contexts::Floats;
 use template_values_errors::UndefinedBehavior;
 
@@ -46,13 +46,14 @@ pub(crate) struct ReadContext {
     pub(crate) floats: Floats,
 }
 
-/// What the words ask for, with the files read: the templates in order, and then the context's.
+/// What is run as the words ask, with the files read: the templates in order, and then the context's.
 pub(crate) fn read_inputs<R: FileSystem + Folders + AllocGlobal, I: Reader>(
     rt: &R,
     words: &Words<'_>,
     options: Options<'_>,
     input: &mut I,
 ) -> Result<Inputs, FileFault>
+    requires { AskForRun words.now }
     ensures asked { IfOk result (λ inputs. IsAsked words.now inputs.request) }
     ensures templates { IfOk result (λ inputs. AreTemplatesOf (told_by (R.entries rt.now) (R.content rt.now) (I.may_fail input.old) (I.remaining input.old))
         (naming_of words.now).folder (naming_of words.now) (syntax_under options.entry) (text_pairs inputs.templates.items)) }
@@ -63,6 +64,7 @@ pub(crate) fn read_inputs<R: FileSystem + Folders + AllocGlobal, I: Reader>(
     match words {
         Words::Render(words) => read_render(rt, words, options, input),
         Words::Names(words) => read_names(rt, words, options, input),
+        Words::Check(_) => unreachable!(),
     }
 }
 
@@ -154,6 +156,20 @@ fn read_names<R: FileSystem + Folders + AllocGlobal, I: Reader>(
         templates,
         context: no_context(rt.alloc()),
     })
+}
+
+/// The templates that are checked, in order.
+pub(crate) fn read_check<R: FileSystem + Folders + AllocGlobal, I: Reader>(
+    rt: &R,
+    words: &CheckWords<'_>,
+    options: Options<'_>,
+    input: &mut I,
+) -> Result<Vec<(String, String)>, FileFault>
+    ensures read { IfOk result (λ templates. AreTemplatesOf (told_by (R.entries rt.now) (R.content rt.now) (I.may_fail input.old) (I.remaining input.old))
+        (naming_of (Words.Check words.now)).folder (naming_of (Words.Check words.now)) (syntax_under options.entry) (text_pairs templates.items)) }
+    ensures refused { IsErrOf result FileFault.File → LacksOne (told_by (R.entries rt.now) (R.content rt.now) (I.may_fail input.old) (I.remaining input.old)) (Words.Check words.now) }
+{
+    read_templates_of(rt, check_naming(words), options, input)
 }
 
 fn no_context(alloc: Global) -> ReadContext

@@ -3,7 +3,7 @@ ghost use Rattle.std.specs.Prelude.{◌≡◌};
 ghost use Rattle.template_program_run.specs.Naming.{main_of, naming_in, naming_of, reads_input as is_input_read, reads_input_beside as is_read_beside};
 ghost use Rattle.template_program_run.specs.Origins.{hold_input, origins_of};
 
-use template_program_words::{NamesWords, RenderWords, Words};
+use template_program_words::{CheckWords, NamesWords, RenderWords, Words};
 
 /// How the words name templates.
 #[derive(Clone, Copy)]
@@ -38,6 +38,18 @@ pub(crate) fn names_naming<'a>(words: &'a NamesWords<'a>) -> Naming<'a>
     Naming {
         folder: words.templates,
         main: words.main,
+        paths: words.files.as_slice(),
+        input_is_taken: false,
+    }
+}
+
+/// What the words behind `check` say.
+pub(crate) fn check_naming<'a>(words: &'a CheckWords<'a>) -> Naming<'a>
+    ensures { naming_in result ≡ naming_of (Words.Check words.now) }
+{
+    Naming {
+        folder: words.templates,
+        main: None,
         paths: words.files.as_slice(),
         input_is_taken: false,
     }

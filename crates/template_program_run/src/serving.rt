@@ -31,6 +31,13 @@ pub(crate) fn options_of<'a>(words: &Words<'_>, syntax: Option<&'a SyntaxConfig>
             names_as_json: words.json,
             tells_where: words.tells_where,
         },
+        Words::Check(words) => Options {
+            builtins: words.builtins,
+            escapes: EscapeRule::ByName,
+            syntax,
+            names_as_json: false,
+            tells_where: false,
+        },
     }
 }
 
@@ -52,6 +59,7 @@ pub(crate) fn output_of<'a>(words: &Words<'a>) -> Option<&'a str>
     match words {
         Words::Render(words) => words.output,
         Words::Names(words) => words.output,
+        Words::Check(_) => None,
     }
 }
 
@@ -62,6 +70,7 @@ pub(crate) fn syntax_words<'a, 'b>(words: &'b Words<'a>) -> &'b SyntaxWords<'a>
     match words {
         Words::Render(words) => &words.syntax,
         Words::Names(words) => &words.syntax,
+        Words::Check(words) => &words.syntax,
     }
 }
 
@@ -71,6 +80,6 @@ pub(crate) fn values_of<'a, 'b>(words: &'b Words<'a>) -> &'b [Definition<'a>]
 {
     match words {
         Words::Render(words) => words.values.as_slice(),
-        Words::Names(_) => &[],
+        Words::Names(_) | Words::Check(_) => &[],
     }
 }

@@ -7,13 +7,14 @@ ghost use Rattle.template_program_words.specs.CommandLine.{program};
 ghost use Rattle.template_program_output.specs.Lines.{error_line};
 ghost use Rattle.template_program_output.specs.Shown.{Puts};
 ghost use Rattle.template_program_run.specs.Asked.{served_by};
+ghost use Rattle.template_program_run.specs.Inputs.{AskForRun};
 ghost use Rattle.template_program_run.specs.Served.{served_under};
-ghost use Rattle.template_program_run.specs.Starts.{DoesUnderSyntax, DoesWords, FollowsWords, Starts, TellsWords, arguments_line, file_line, words_status};
+ghost use Rattle.template_program_run.specs.Starts.{ChecksWords, DoesUnderSyntax, DoesWords, FollowsWords, RunsWords, Starts, TellsWords, arguments_line, file_line, words_status};
 ghost use Rattle.template_program_run.specs.Told.{told_by};
 ghost use Rattle.template_program_run.specs.Status.{arguments_status, file_status, syntax_status};
 
 use crate::documents::documents_of;
-use crate::inputs::{ReadContext, read_inputs};
+use crate::inputs::{ReadContext, read_check, read_inputs};
 use crate::options::Options;
 use crate::parts::ContextParts;
 use crate::placing::perform_to;
@@ -22,12 +23,13 @@ use crate::syntax::syntax_of;
 use crate::telling::{tell_error, tell_memory, tell_text, tell_word};
 use crate::values::check_values;
 use std::io;
+use template_program_check::check_to;
 use template_program_contexts::Document;
 use template_program_files::Placing;
 use template_program_folder::Folders;
 use template_program_output::{Output, write_flushed};
 use template_program_parts::{DONE, FILE, FileFault, FileSystem, MEMORY, Reader, WORDS};
-use template_program_words::{Words, WordsFault, read_words};
+use template_program_words::{CheckWords, Words, WordsFault, read_words};
 use template_values_errors::{Error, ErrorKind};
 
 /// Runs the program: reads the words, and puts together the syntax that they set; then reads the templates' files (of the
@@ -45,6 +47,9 @@ use template_values_errors::{Error, ErrorKind};
 /// `.toml` and else JSON; `-` there is the input, which then is no template: where no file is named the main template is one that
 /// `--main` names in a folder, or it does not stand. Over these go the texts of `-D`, and over both the values of `--json`, which
 /// are JSON: one that is none is refused as a definition without `=` is, before any file is read.
+///
+/// A check reads the templates alone, and writes a line to `out` for each that is refused and, with builtins, for each name of a
+/// filter, a test or a function that nothing has; its status is 5 where there is a line.
 ///
 /// The status is 0 where all is written, or help or the version was asked for, 1 for a fault of the
 /// render, 2 for words or a syntax that are refused, 3 for a file, 4 for the context, 5 for a template that is refused
@@ -108,7 +113,7 @@ fn do_under_syntax<
     }
 }
 
-// Reads the files that the words name, and does with them what the words ask for.
+// Does what the words ask for: runs it, or checks the templates.
 fn do_words<R: FileSystem + Folders + Placing + AllocGlobal, I: Reader, O: Output, F: Output>(
     rt: &R,
     words: &Words<'_>,
@@ -119,6 +124,56 @@ fn do_words<R: FileSystem + Folders + Placing + AllocGlobal, I: Reader, O: Outpu
 ) -> (u8, O)
     requires { served_under options ≡ served_by words.now }
     ensures { DoesWords words.now (told_by (R.entries rt.now) (R.content rt.now) (I.may_fail input.old) (I.remaining input.old))
+        (R.fresh rt.now) (R.placed rt.now)
+        (O.shown out) (O.shown result.1) (F.shown fault.old) (F.shown fault.new) result.0 }
+{
+    match words {
+        Words::Render(_) => run_words(rt, words, options, input, out, fault),
+        Words::Names(_) => run_words(rt, words, options, input, out, fault),
+        Words::Check(check) => check_words(rt, check, options, input, out, fault),
+    }
+}
+
+// Reads the templates that the words name, and checks them.
+fn check_words<R: FileSystem + Folders + AllocGlobal, I: Reader, O: Output, F: Output>(
+    rt: &R,
+    words: &CheckWords<'_>,
+    options: Options<'_>,
+    input: &mut I,
+    out: O,
+    fault: &mut F,
+) -> (u8, O)
+    requires { served_under options ≡ served_by (Words.Check words.now) }
+    ensures { ChecksWords (Words.Check words.now) words.now.builtins
+        (told_by (R.entries rt.now) (R.content rt.now) (I.may_fail input.old) (I.remaining input.old))
+        (O.shown out) (O.shown result.1) (F.shown fault.old) (F.shown fault.new) result.0 }
+{
+    let templates = match read_check(rt, words, options, input) {
+        Ok(templates) => templates,
+        Err(refused) => return (refuse_file(refused, fault), out),
+    };
+    check_to(
+        rt.alloc(),
+        templates.as_slice(),
+        options.syntax,
+        words.builtins,
+        out,
+        fault,
+    )
+}
+
+// Reads the files that the words name, and runs with them what the words ask for.
+fn run_words<R: FileSystem + Folders + Placing + AllocGlobal, I: Reader, O: Output, F: Output>(
+    rt: &R,
+    words: &Words<'_>,
+    options: Options<'_>,
+    input: &mut I,
+    out: O,
+    fault: &mut F,
+) -> (u8, O)
+    requires run { AskForRun words.now }
+    requires served { served_under options ≡ served_by words.now }
+    ensures { RunsWords words.now (told_by (R.entries rt.now) (R.content rt.now) (I.may_fail input.old) (I.remaining input.old))
         (R.fresh rt.now) (R.placed rt.now)
         (O.shown out) (O.shown result.1) (F.shown fault.old) (F.shown fault.new) result.0 }
 {

@@ -11,7 +11,7 @@ use Rattle.template_program_run.specs.Starts.{PerformsTo}
 use Rattle.template_program_run.specs.Told.{told_by}
 use Rattle.template_program_run.proofs.Giving.{given_as_read}
 use Rattle.template_program_run.proofs.Refusing.{refuses_inputs}
-use Rattle.template_program_run.proofs.starting.do_words.Goals as goal
+use Rattle.template_program_run.proofs.starting.run_words.Goals as goal
 
 pub returns : goal.returns
 returns g c =
@@ -28,10 +28,10 @@ returns g c =
     let fault = g.F.Output.shown c.args.fault.now in
     let fault_after = g.F.Output.shown c.perform_to.new.fault in
     let served = subst (λ (s : Served). PerformsTo (option_map (λ path. path.now) c.output_of.result) fresh placed inputs.request s additions given
-    out out_after fault fault_after c.perform_to.result.0) c.requires c.perform_to.ensures in
+    out out_after fault fault_after c.perform_to.result.0) c.requires.served c.perform_to.ensures in
     let performs = subst (λ (path : Option (List ℕ)). PerformsTo path fresh placed inputs.request (served_by words) additions given
     out out_after fault fault_after c.perform_to.result.0) c.output_of.ensures served in
-    let templates = subst (λ (s : Served). AreTemplatesOf told (naming_of words).folder (naming_of words) s.syntax additions) c.requires
+    let templates = subst (λ (s : Served). AreTemplatesOf told (naming_of words).folder (naming_of words) s.syntax additions) c.requires.served
     c.in-Ok.ensures.templates in
     let same = ap (map shown_as) (c.parts_of-context.ensures.documents ∙ c.as_slice.ensures.value) ∙ c.in-Ok-documents_of.ensures in
     let read = given_as_read told words given _ _ _ c.in-Ok.ensures.given same c.parts_of-context.ensures.values c.parts_of-context.ensures.floats in
