@@ -39,8 +39,9 @@ pub fn parse<'source>(
     if source.len() > u32::MAX as usize {
         return Err(Error::new(ErrorKind::TooLarge));
     }
+    let scoped = syntax.scoped_blocks();
     let tokenizer = Tokenizer::new(alloc, source, filename, syntax);
-    match read_tokens(alloc, tokenizer) {
+    match read_tokens(alloc, tokenizer, scoped) {
         Ok(mut tokens) => match whole_template(alloc, &mut tokens) {
             Ok(template) => return Ok(Stmt::Template(template)),
             Err(refusal) => return Err(error_of(refusal)),

@@ -31,6 +31,7 @@ syntax_set words = record {
   trim_blocks = words.trim_blocks;
   lstrip_blocks = words.lstrip_blocks;
   keep_trailing_newline = words.keep_trailing_newline;
+  scoped_blocks = false;
 }
 
 -- no delimiter and no prefix is set
