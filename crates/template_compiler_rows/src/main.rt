@@ -9,7 +9,7 @@
 //!   where none stands; `stream`: the same, as a stream shows them before it passes them, behind the name and the text
 //!   of what it reads;
 //! - `syntax`: what the syntax has: the delimiters of blocks, prints and comments, the prefixes of line statements and
-//!   line comments, and the answers to `trim_blocks`, `lstrip_blocks` and `keep_trailing_newline`;
+//!   line comments, and the answers to `trim_blocks`, `lstrip_blocks`, `keep_trailing_newline` and `scoped_blocks`;
 //!
 //! and of the template under the default syntax for
 //!
