@@ -1,7 +1,7 @@
 //! The word `scoped` behind the name of a block.
 ghost use Rattle.std.specs.Prelude.{◌≡◌};
 ghost use Rattle.template_compiler_source_tokens.specs.Scoped as scoped;
-ghost use Rattle.template_compiler_source_tokens.specs.Scoped.{unscoped};
+ghost use Rattle.template_compiler_source_tokens.specs.Scoped.{taken_spans, unscoped};
 ghost use Rattle.template_compiler_tokenizer.specs.Held.{spanned_of};
 ghost use Rattle.template_compiler_tokenizer.specs.Spans.{Spanned};
 ghost use Rattle.template_compiler_tokens.specs.View.{token_of};
@@ -9,21 +9,29 @@ ghost use Rattle.template_compiler_tokens.specs.View.{token_of};
 use template_compiler_tokens::Token;
 use template_tree::Span;
 
-// Where a reader of tokens stands.
+/// Where a reader of tokens stands.
 #[derive(Clone, Copy)]
 pub(crate) enum Head {
-    // Not in the head of a block.
+    /// Not in the head of a block.
     Elsewhere,
-    // Behind the start of a statement.
+    /// Behind the start of a statement.
     Begun,
-    // Behind the word `block` that begins one.
+    /// Behind the word `block` that begins one.
     Worded,
-    // Behind the name of a block.
+    /// Behind the name of a block.
     Named,
 }
 
-// Forgets each word `scoped` that stands behind the name of a block. Linear.
-pub(crate) fn forget_scoped(tokens: &mut Vec<(Token<'_>, Span)>)
+/// Leaves out each word `scoped` that stands behind the name of a block, where blocks may be so. Linear.
+pub(crate) fn leave_scoped_out(scoped_blocks: bool, tokens: &mut Vec<(Token<'_>, Span)>)
+    ensures { spanned_of tokens.new.items ≡ taken_spans scoped_blocks (spanned_of tokens.old.items) }
+{
+    if scoped_blocks {
+        forget_scoped(tokens);
+    }
+}
+
+fn forget_scoped(tokens: &mut Vec<(Token<'_>, Span)>)
     ensures { spanned_of tokens.new.items ≡ unscoped (λ (t : Spanned). t.token) Head.Elsewhere (spanned_of tokens.old.items) }
 {
     let mut head = Head::Elsewhere;
@@ -68,7 +76,13 @@ fn after_word(head: Head, word: &str) -> Head
     ensures { result ≡ scoped.after_word head word.now }
 {
     match head {
-        Head::Begun => if word == "block" { Head::Worded } else { Head::Elsewhere },
+        Head::Begun => {
+            if word == "block" {
+                Head::Worded
+            } else {
+                Head::Elsewhere
+            }
+        }
         Head::Worded => Head::Named,
         Head::Named | Head::Elsewhere => Head::Elsewhere,
     }

@@ -8,7 +8,7 @@ ghost use Rattle.template_compiler_tokenizer.specs.Held.{spanned_of};
 ghost use Rattle.template_compiler_tokenizer.specs.Spans.{Spanned, words_in};
 
 use crate::refusals::fault_of;
-use crate::scoped::forget_scoped;
+use crate::scoped::leave_scoped_out;
 use std::alloc::Global;
 use template_compiler_stream::{Fault, Refusal, TokenStream};
 use template_compiler_tokenizer::Tokenizer;
@@ -49,9 +49,7 @@ fn stream_of<'source>(
     ensures { (rest : List Spanned) → words_in rest ≡ ended fault →
         HoldsTokens (taken_spans scoped_blocks (spanned_of tokens.entry.items ++ rest)) result }
 {
-    if scoped_blocks {
-        forget_scoped(&mut tokens);
-    }
+    leave_scoped_out(scoped_blocks, &mut tokens);
     TokenStream::new(tokens, fault)
 }
 
