@@ -1,4 +1,4 @@
 pub mod Faults
 pub mod Spelling
 mod Held
-pub mod Scoped
+pub mod LeftOut

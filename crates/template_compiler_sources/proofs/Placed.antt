@@ -11,7 +11,7 @@ use Rattle.template_compiler_tokenizer.proofs.AllTokens.{one_spans, some_spans, 
 use Rattle.template_compiler_source_tokens.specs.Scoped.{taken_spans, taken_words}
 use Rattle.template_compiler_source_tokens.specs.Spans.{token_spans}
 use Rattle.template_compiler_source_tokens.specs.Spelled.{IsSpelled, spelled_spans}
-use Rattle.template_compiler_source_tokens.proofs.Scoped.{words_taken}
+use Rattle.template_compiler_source_tokens.proofs.LeftOut.{words_taken}
 use Rattle.template_compiler_source_tokens.proofs.Spelling.{one_spelled, one_spelling}
 use Rattle.template_compiler_grammar.specs.TemplateGrammar.{IsTemplate}
 use Rattle.template_compiler_placed_grammar.specs.Nodes.{placed, Node}

@@ -1,6 +1,6 @@
 use Rattle.std.proofs.Common.{rules}
 use Rattle.template_compiler_source_tokens.specs.contracts.scoped.fn.forget_scoped.retain as closure
-use Rattle.template_compiler_source_tokens.proofs.Scoped.{unscoped_stay}
+use Rattle.template_compiler_source_tokens.proofs.LeftOut.{unscoped_stay}
 use Rattle.template_compiler_source_tokens.proofs.scoped.forget_scoped.Goals as goal
 
 pub returns : goal.returns

@@ -4,7 +4,7 @@ use Rattle.template_compiler_tokenizer.specs.Spans.{Spanned}
 use Rattle.template_compiler_source_tokens.specs.Scoped.{taken_spans, taken_words}
 use Rattle.template_compiler_source_tokens.specs.Spans.{HoldsTokens}
 use Rattle.template_compiler_source_tokens.proofs.Held.{none_before, fault_alone}
-use Rattle.template_compiler_source_tokens.proofs.Scoped.{words_taken}
+use Rattle.template_compiler_source_tokens.proofs.LeftOut.{words_taken}
 use Rattle.template_compiler_source_tokens.proofs.template.read_tokens.Goals as goal
 
 pub returns-in-Ok-clause-placed : goal.returns-in-Ok-clause-placed

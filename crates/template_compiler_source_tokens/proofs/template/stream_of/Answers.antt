@@ -2,7 +2,7 @@ use Rattle.std.proofs.Common.{List, ◌++◌, sym, ap, ◌∙◌}
 use Rattle.template_compiler_tokenizer.specs.Held.{spanned_of}
 use Rattle.template_compiler_tokenizer.specs.Spans.{Spanned}
 use Rattle.template_compiler_source_tokens.proofs.Held.{holds_tokens}
-use Rattle.template_compiler_source_tokens.proofs.Scoped.{append_taken}
+use Rattle.template_compiler_source_tokens.proofs.LeftOut.{append_taken}
 use Rattle.template_compiler_source_tokens.proofs.template.stream_of.Goals as goal
 
 pub returns : goal.returns
