@@ -1,4 +1,4 @@
-use Rattle.std.proofs.Common.{[], ◌++◌, None, Some, refl, sym, subst, ap, ◌∙◌, append-nil, List}
+use Rattle.std.proofs.Common.{[], refl, sym, subst, ap, ◌∙◌, append-nil, List}
 use Rattle.template_compiler_tokenizer.specs.Held.{spanned_of}
 use Rattle.template_compiler_tokenizer.specs.Spans.{Spanned}
 use Rattle.template_compiler_source_tokens.specs.Scoped.{taken_spans, taken_words}
