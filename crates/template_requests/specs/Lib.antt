@@ -1,0 +1,5 @@
+pub mod Members
+pub mod Templates
+pub mod Says
+pub mod Faults
+pub mod Views
