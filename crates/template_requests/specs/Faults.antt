@@ -2,9 +2,8 @@
 use Rattle.std.specs.Prelude.{◌≡◌, ℕ, List, codes, Option, None, IsSomeAnd, option_and_then}
 use Rattle.json.specs.Json.{Json}
 use Rattle.json.specs.Find.{as_object, as_str}
-use Rattle.template_program_words.specs.Escapes.{escape_of}
-use Rattle.template_program_words.specs.Modes.{mode_of}
-use Rattle.template_requests.specs.Members.{LacksNumber, flag_of, floats_of, given, member_name, text_of}
+use Rattle.template_requests.specs.Words.{escape_of, floats_of, mode_of}
+use Rattle.template_requests.specs.Members.{LacksNumber, flag_of, given, member_name, text_of}
 use Rattle.template_requests.specs.Templates.{LacksTexts}
 use Rattle.template_requests.specs.declared.member.Member.{Member}
 use Rattle.template_requests.specs.declared.member.Member.TheVariants as member

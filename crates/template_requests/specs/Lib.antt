@@ -1,3 +1,4 @@
+pub mod Words
 pub mod Members
 pub mod Templates
 pub mod Says

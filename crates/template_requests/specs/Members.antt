@@ -1,10 +1,8 @@
 -- What single members of a request say, by the request's JSON.
-use Rattle.std.specs.Prelude.{◌≡◌, ◌<◌, ◌^◌, ℕ, Bool, false, List, codes, Option, None, Some, IfSome, IsSomeAnd, option_map, option_and_then, if◌then◌else◌, bytes_eq}
+use Rattle.std.specs.Prelude.{◌≡◌, ◌<◌, ◌^◌, ℕ, Bool, false, List, codes, Option, None, Some, IfSome, IsSomeAnd, option_map, option_and_then, if◌then◌else◌}
 use Rattle.std.specs.Str.Parse.{IsNumeral, digits_value, without_leading_plus}
 use Rattle.json.specs.Json.{Json}
 use Rattle.json.specs.Find.{as_bool, as_number, as_str, get, is_null}
-use Rattle.template_values_contexts.specs.declared.contexts.Floats.{Floats}
-use Rattle.template_values_contexts.specs.declared.contexts.Floats.TheVariants.{Refused, AsSpelled}
 use Rattle.template_requests.specs.declared.member.Member.{Member}
 use Rattle.template_requests.specs.declared.member.Member.TheVariants as member
 use Rattle.template_requests.specs.declared.faults.MessageFault.{MessageFault}
@@ -66,18 +64,6 @@ SaysNumber (Some j) number =
 abbrev pub LacksNumber : Option Json → Type 0
 LacksNumber None = ⊥
 LacksNumber (Some j) = IfSome (as_number j) (λ text. ¬ IsWhole text)
-
--- what becomes of numbers that are no whole ones
-abbrev pub floats_named : List ℕ → Option Floats
-floats_named word =
-    if bytes_eq (codes "refused") word then Some Refused
-    else if bytes_eq (codes "text") word then Some AsSpelled
-    else None
-
--- they are refused where there is no word
-abbrev pub floats_of : Option (List ℕ) → Option Floats
-floats_of None = Some Refused
-floats_of (Some word) = floats_named word
 
 -- the fault is that of the member, of which this holds
 abbrev pub IsMalformed : MessageFault → Member → Type 0 → Type 0

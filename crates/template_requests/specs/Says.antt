@@ -5,10 +5,9 @@ use Rattle.json.specs.Json.{Json}
 use Rattle.json.specs.Find.{as_object, as_str}
 use Rattle.json.specs.Print.{print}
 use Rattle.json.specs.Tree.{json_tokens}
-use Rattle.template_program_words.specs.Escapes.{escape_of}
-use Rattle.template_program_words.specs.Modes.{mode_of}
-use Rattle.template_program_words.specs.declared.syntax.SyntaxWords.{SyntaxWords}
-use Rattle.template_requests.specs.Members.{SaysNumber, flag_of, floats_of, given, text_of}
+use Rattle.template_requests.specs.Words.{escape_of, floats_of, mode_of}
+use Rattle.template_requests.specs.declared.syntax.SyntaxParts.{SyntaxParts}
+use Rattle.template_requests.specs.Members.{SaysNumber, flag_of, given, text_of}
 use Rattle.template_requests.specs.Templates.{SaysTexts}
 use Rattle.template_requests.specs.declared.message.Message.{Message}
 use Rattle.template_requests.specs.declared.settings.Settings.{Settings}
@@ -22,24 +21,24 @@ abbrev pub IsObject : Json → Type 0
 IsObject j = IsSomeAnd (as_object j) (λ _. Unit {0})
 
 -- the syntax that an object says
-pub record SaysParts (j : Json) (words : SyntaxWords) : Type 0 where
+pub record SaysParts (j : Json) (parts : SyntaxParts) : Type 0 where
   pub object : IsObject j
-  pub trim_blocks : flag_of (given (codes "trim_blocks") j) ≡ Some words.trim_blocks
-  pub lstrip_blocks : flag_of (given (codes "lstrip_blocks") j) ≡ Some words.lstrip_blocks
-  pub keep_trailing_newline : flag_of (given (codes "keep_trailing_newline") j) ≡ Some words.keep_trailing_newline
-  pub line_statement : SaysText (codes "line_statement_prefix") j words.line_statement
-  pub line_comment : SaysText (codes "line_comment_prefix") j words.line_comment
-  pub block_start : SaysText (codes "block_start") j words.block_start
-  pub block_end : SaysText (codes "block_end") j words.block_end
-  pub variable_start : SaysText (codes "variable_start") j words.variable_start
-  pub variable_end : SaysText (codes "variable_end") j words.variable_end
-  pub comment_start : SaysText (codes "comment_start") j words.comment_start
-  pub comment_end : SaysText (codes "comment_end") j words.comment_end
+  pub trim_blocks : flag_of (given (codes "trim_blocks") j) ≡ Some parts.trim_blocks
+  pub lstrip_blocks : flag_of (given (codes "lstrip_blocks") j) ≡ Some parts.lstrip_blocks
+  pub keep_trailing_newline : flag_of (given (codes "keep_trailing_newline") j) ≡ Some parts.keep_trailing_newline
+  pub line_statement_prefix : SaysText (codes "line_statement_prefix") j parts.line_statement_prefix
+  pub line_comment_prefix : SaysText (codes "line_comment_prefix") j parts.line_comment_prefix
+  pub block_start : SaysText (codes "block_start") j parts.block_start
+  pub block_end : SaysText (codes "block_end") j parts.block_end
+  pub variable_start : SaysText (codes "variable_start") j parts.variable_start
+  pub variable_end : SaysText (codes "variable_end") j parts.variable_end
+  pub comment_start : SaysText (codes "comment_start") j parts.comment_start
+  pub comment_end : SaysText (codes "comment_end") j parts.comment_end
 
 -- the syntax, if one is given
-abbrev pub SaysSyntax : Option Json → Option SyntaxWords → Type 0
-SaysSyntax None words = words ≡ None
-SaysSyntax (Some j) words = IsSomeAnd words (SaysParts j)
+abbrev pub SaysSyntax : Option Json → Option SyntaxParts → Type 0
+SaysSyntax None parts = parts ≡ None
+SaysSyntax (Some j) parts = IsSomeAnd parts (SaysParts j)
 
 -- how deep a render may be where no number says it
 abbrev pub default_limit : ℕ

@@ -1,16 +1,15 @@
 //! Members that are flags, numbers, texts and words.
 ghost use Rattle.std.specs.Prelude.{◌≡◌, IfErr, IfOk, None, Some, option_and_then, option_map};
 ghost use Rattle.json.specs.Value.{value_view};
-ghost use Rattle.template_program_words.specs.Escapes.{escape_named as escape_for, escape_of};
-ghost use Rattle.template_program_words.specs.Modes.{mode_named as mode_for, mode_of};
-ghost use Rattle.template_requests.specs.Members.{IsMalformed, LacksNumber, SaysNumber, flag_of, floats_named as floats_for, floats_of, given as given_in, member_name, text_of};
+ghost use Rattle.template_requests.specs.Words.{escape_named as escape_for, escape_of, floats_named as floats_for, floats_of, mode_named as mode_for, mode_of};
+ghost use Rattle.template_requests.specs.Members.{IsMalformed, LacksNumber, SaysNumber, flag_of, given as given_in, member_name, text_of};
 
 use crate::faults::MessageFault;
 use crate::member::Member;
 use json::Value as Json;
-use template_program_words::EscapeWord;
+use template_machine_surroundings::EscapeRule;
 use template_values_contexts::Floats;
-use template_values_errors::UndefinedBehavior;
+use template_values_errors::{AutoEscape, UndefinedBehavior};
 
 /// The member of the name, where it stands and is not null: of equal names the last one.
 pub(crate) fn given<'tree, 'text>(
@@ -85,14 +84,14 @@ pub(crate) fn undefined(object: &Json<'_>) -> Result<UndefinedBehavior, MessageF
 }
 
 /// How printed values are escaped.
-pub(crate) fn autoescape(object: &Json<'_>) -> Result<EscapeWord, MessageFault>
+pub(crate) fn autoescape(object: &Json<'_>) -> Result<EscapeRule, MessageFault>
     ensures says { IfOk result (λ escape. option_and_then escape_of
         (text_of (given_in (member_name Member.Autoescape) (value_view object.now))) ≡ Some escape) }
     ensures refused { IfErr result (λ fault. IsMalformed fault Member.Autoescape
         (option_and_then escape_of (text_of (given_in (member_name Member.Autoescape) (value_view object.now))) ≡ None)) }
 {
     match text(object, Member::Autoescape)? {
-        None => Ok(EscapeWord::Name),
+        None => Ok(EscapeRule::ByName),
         Some(word) => escape_named(word).ok_or(MessageFault::Malformed(Member::Autoescape)),
     }
 }
@@ -122,14 +121,14 @@ fn mode_named(word: &str) -> Option<UndefinedBehavior>
     }
 }
 
-fn escape_named(word: &str) -> Option<EscapeWord>
+fn escape_named(word: &str) -> Option<EscapeRule>
     ensures { result ≡ escape_for word.now }
 {
     match word {
-        "none" => Some(EscapeWord::None),
-        "html" => Some(EscapeWord::Html),
-        "json" => Some(EscapeWord::Json),
-        "name" => Some(EscapeWord::Name),
+        "none" => Some(EscapeRule::Never),
+        "html" => Some(EscapeRule::Fixed(AutoEscape::Html)),
+        "json" => Some(EscapeRule::Fixed(AutoEscape::Json)),
+        "name" => Some(EscapeRule::ByName),
         _ => None,
     }
 }

@@ -15,4 +15,5 @@ pub use member::Member;
 pub use message::{Message, message_in};
 pub use reading::tree_of;
 pub use settings::{Settings, settings_in};
+pub use syntax::SyntaxParts;
 pub use templates::templates_in;

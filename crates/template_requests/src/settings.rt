@@ -7,9 +7,9 @@ ghost use Rattle.template_requests.specs.Says.{SaysSettings};
 use crate::faults::MessageFault;
 use crate::leaves::{autoescape, flag, floats, number, undefined};
 use crate::member::Member;
-use crate::syntax::syntax_in;
+use crate::syntax::{SyntaxParts, syntax_in};
 use json::Value as Json;
-use template_program_words::{EscapeWord, SyntaxWords};
+use template_machine_surroundings::EscapeRule;
 use template_values_contexts::Floats;
 use template_values_errors::UndefinedBehavior;
 
@@ -30,9 +30,9 @@ pub struct Settings<'text> {
     /// What becomes of numbers of the context that are no whole ones: they are refused where the request does not say it.
     pub floats: Floats,
     /// How printed values are escaped: as the template's name says where the request does not say it.
-    pub autoescape: EscapeWord,
+    pub autoescape: EscapeRule,
     /// What is set of the syntax of the templates, if anything is.
-    pub syntax: Option<SyntaxWords<'text>>,
+    pub syntax: Option<SyntaxParts<'text>>,
 }
 
 /// The settings that a request says.

@@ -1,0 +1,3 @@
+pub mod Syntaxes
+pub mod Failures
+pub mod Replies
