@@ -1,3 +1,1 @@
-pub mod Syntaxes
-pub mod Failures
 pub mod Replies

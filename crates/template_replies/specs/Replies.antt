@@ -22,8 +22,8 @@ use Rattle.template_program_run.specs.Answers.{AnswersWith, definitions_of}
 use Rattle.template_program_run.specs.Brought.{brought_if}
 use Rattle.template_program_run.specs.Served.{Served, rule_under}
 use Rattle.template_program_run.specs.declared.request.Request.{Request}
-use Rattle.template_replies.specs.Failures.{TellsFailure, malformed_data}
-use Rattle.template_replies.specs.Syntaxes.{RefusesSyntax, syntax_of}
+use Rattle.template_requests.specs.Failures.{TellsFailure, malformed_data}
+use Rattle.template_requests.specs.Syntaxes.{RefusesSyntax, syntax_of}
 
 -- there is no memory for any reply
 abbrev pub IsBare : ℕ → List ℕ → Type 0

@@ -4,14 +4,14 @@ ghost use Rattle.json.specs.Tree.{HasNumbers};
 ghost use Rattle.json.specs.Value.{value_view};
 ghost use Rattle.template_replies.specs.Replies.{IsBare, IsTold, RepliesToFault, RepliesToJson, RepliesToMessage, Replies, TellsRefusal};
 
-use crate::failures::{failure_text, malformed_text};
 use crate::running::run_message;
-use crate::syntax::syntax_of;
 use json::{Scratch, Value as Json};
 use std::alloc::{AllocError, Global};
 use template_program_parts::{MEMORY, WORDS};
 use template_program_run::Command;
-use template_requests::{Message, MessageFault, message_in, tree_of};
+use template_requests::{
+    Message, MessageFault, failure_text, malformed_text, message_in, syntax_of, tree_of,
+};
 use template_values_errors::{Error, ErrorKind};
 
 /// The reply to a request.

@@ -2,15 +2,14 @@
 ghost use Rattle.std.specs.Prelude.{◌≡◌, [], option_copied, option_map, string_bytes, unwrap_or};
 ghost use Rattle.template_compiler_syntax.specs.Syntax.{default_syntax};
 ghost use Rattle.template_replies.specs.Replies.{Runs, TellsOutcome};
-ghost use Rattle.template_replies.specs.Syntaxes.{syntax_of as syntax_for};
+ghost use Rattle.template_requests.specs.Syntaxes.{syntax_of as syntax_for};
 
-use crate::failures::failure_text;
 use crate::reply::{Reply, told};
 use std::alloc::Global;
 use template_compiler_syntax::SyntaxConfig;
 use template_machine_surroundings::StateIds;
 use template_program_run::{Command, Options, Outcome, Request, run_with, status_of};
-use template_requests::Message;
+use template_requests::{Message, failure_text};
 
 /// Runs a request under its syntax.
 pub(crate) fn run_message(

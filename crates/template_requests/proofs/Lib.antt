@@ -1,0 +1,5 @@
+mod Floatless
+mod Lacking
+mod NoWord
+mod Numbers
+mod Texts

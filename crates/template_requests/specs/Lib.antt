@@ -4,3 +4,5 @@ pub mod Templates
 pub mod Says
 pub mod Faults
 pub mod Views
+pub mod Failures
+pub mod Syntaxes

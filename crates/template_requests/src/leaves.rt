@@ -18,10 +18,8 @@ pub(crate) fn given<'tree, 'text>(
 ) -> Option<&'tree Json<'text>>
     ensures { option_map (λ found. value_view found.now) result ≡ given_in name.now (value_view object.now) }
 {
-    match object.get(name) {
-        Some(Json::Null) | None => None,
-        Some(found) => Some(found),
-    }
+    let found = object.get(name)?;
+    if found.is_null() { None } else { Some(found) }
 }
 
 /// Whether the flag is set; it is not where it is not given.

@@ -1,6 +1,8 @@
 //! Requests as one JSON object: what its members say, and which of them is refused.
 #![tactic(auto)]
 
+mod configured;
+mod failures;
 mod faults;
 mod leaves;
 mod member;
@@ -10,6 +12,8 @@ mod settings;
 mod syntax;
 mod templates;
 
+pub use configured::syntax_of;
+pub use failures::{failure_text, malformed_text};
 pub use faults::MessageFault;
 pub use member::Member;
 pub use message::{Message, message_in};

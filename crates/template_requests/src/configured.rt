@@ -2,11 +2,11 @@
 ghost use Rattle.std.specs.Prelude.{◌≡◌, ◌∷◌, ◌⊎◌, [], IfErr, IfOk, OnOk, codes, option_map, unwrap_or};
 ghost use Rattle.template_values_errors.specs.Memory.{NoMemory};
 ghost use Rattle.template_compiler_syntax.specs.Syntax.{IsUsable, default_syntax};
-ghost use Rattle.template_replies.specs.Syntaxes.{RefusesSyntax, syntax_of as syntax_for, syntax_with, text_or as given_or};
+ghost use Rattle.template_requests.specs.Syntaxes.{RefusesSyntax, syntax_of as syntax_for, syntax_with, text_or as given_or};
 
+use crate::syntax::SyntaxParts;
 use std::alloc::Global;
 use template_compiler_syntax::{SyntaxConfig, SyntaxConfigBuilder};
-use template_requests::SyntaxParts;
 use template_values_errors::{Error, ErrorKind};
 
 /// The syntax that the parts set, if there are any: else none, which is the default one.
@@ -14,7 +14,7 @@ use template_values_errors::{Error, ErrorKind};
 /// # Errors
 ///
 /// `InvalidDelimiter`, if a delimiter is empty, or two of the starts and prefixes that are set are equal; `OutOfMemory`.
-pub(crate) fn syntax_of(
+pub fn syntax_of(
     alloc: Global,
     parts: Option<SyntaxParts<'_>>,
 ) -> Result<Option<SyntaxConfig>, Error>

@@ -2,24 +2,23 @@
 ghost use Rattle.std.specs.Prelude.{◌≡◌, ◌++◌, List, IfOk, OnOk, map, string_bytes};
 ghost use Rattle.serde_json.specs.View.{view};
 ghost use Rattle.serde_json.specs.Written.{compact_text};
-ghost use Rattle.template_requests.specs.Members.{member_name};
 ghost use Rattle.template_values_errors.specs.declared.places.Place.{Place as SeenPlace};
-ghost use Rattle.template_replies.specs.Failures.{AddsPlaces, TellsFailure, failure_data, failure_with, kind_data, malformed_data, place_data};
+ghost use Rattle.template_requests.specs.Failures.{AddsPlaces, TellsFailure, failure_data, failure_with, kind_data, malformed_data, place_data};
 
+use crate::member::Member;
 use serde_json::{Value as Json, json};
 use std::alloc::{AllocError, Global};
-use template_requests::Member;
 use template_values_errors::{Error, Place};
 
 /// What is told of an error, with the text that was written before it.
-pub(crate) fn failure_text(alloc: Global, error: &Error, text: String) -> Result<String, AllocError>
+pub fn failure_text(alloc: Global, error: &Error, text: String) -> Result<String, AllocError>
     ensures { IfOk result (λ told. TellsFailure error.now (string_bytes text) (string_bytes told)) }
 {
     failure_json(alloc, error, text)?.to_string(alloc)
 }
 
 /// What is told of a member that is malformed.
-pub(crate) fn malformed_text(alloc: Global, member: Member) -> Result<String, AllocError>
+pub fn malformed_text(alloc: Global, member: Member) -> Result<String, AllocError>
     ensures { IfOk result (λ told. string_bytes told ≡ compact_text (malformed_data member)) }
 {
     malformed_json(alloc, member)?.to_string(alloc)
