@@ -29,4 +29,4 @@ def json_of(value: Any, floats: str) -> str:
     """The JSON of a value. Floats are texts as Python writes them where `floats` is "text"."""
     if floats == "text":
         value = _spelled(value)
-    return json.dumps(value, ensure_ascii=False, separators=(",", ":"), default=_other)
+    return json.dumps(value, ensure_ascii=False, separators=(",", ":"), default=_other, allow_nan=False)
