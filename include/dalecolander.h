@@ -13,7 +13,6 @@
  *     "undefined": "lenient",     or "chainable", "semistrict", "strict"
  *     "builtins": true,           whether the builtin filters, tests and functions can be used; false where this is left out
  *     "autoescape": "name",       by the template's name; or "html", "json", "none"
- *     "floats": "refused",        numbers of the context that are no whole ones; or "text": they are kept as they are spelled
  *     "syntax": {                 what marks tags, and how white space beside them goes
  *       "block_start": "{%", "block_end": "%}", "variable_start": "{{", "variable_end": "}}",
  *       "comment_start": "{#", "comment_end": "#}", "line_statement_prefix": "#", "line_comment_prefix": "##",
@@ -21,7 +20,7 @@
  *     }
  *   }
  *
- * "templates" and "main" must stand; a member that is null stands for none, and of equal names the last one counts. Members of
+ * Numbers of the context are whole ones of 64 bits; others are refused. "templates" and "main" must stand; a member that is null stands for none, and of equal names the last one counts. Members of
  * other names are passed over.
  *
  * The status that is given back is 0 where all is written, and then the reply is the text, or the list of names. Else it is

@@ -51,7 +51,7 @@ fn reply_to_json(alloc: Global, command: Command, tree: &Json<'_>) -> Reply
 
 // The reply to a request that is well formed.
 fn reply_to_message(alloc: Global, command: Command, message: Message<'_>) -> Reply
-    ensures { RepliesToMessage command message result.status (string_bytes result.text) }
+    ensures { RepliesToMessage command message.entry result.status (string_bytes result.text) }
 {
     match syntax_of(alloc, message.settings.syntax) {
         Ok(syntax) => run_message(alloc, command, message, syntax.as_ref()),

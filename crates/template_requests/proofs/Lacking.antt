@@ -19,7 +19,6 @@ lacks_in member.Fuel j s e h = absurd h
 lacks_in member.Limit j s e h = absurd h
 lacks_in member.Undefined j s e h = absurd h
 lacks_in member.Builtins j s e h = absurd h
-lacks_in member.Floats j s e h = absurd h
 lacks_in member.Autoescape j s e h = absurd h
 lacks_in member.Syntax j s e h = there member.Syntax j s e h
 lacks_in member.TrimBlocks j s e h = there member.TrimBlocks j s e h

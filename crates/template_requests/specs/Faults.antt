@@ -2,7 +2,7 @@
 use Rattle.std.specs.Prelude.{◌≡◌, ℕ, List, codes, Option, None, IsSomeAnd, option_and_then}
 use Rattle.json.specs.Json.{Json}
 use Rattle.json.specs.Find.{as_object, as_str}
-use Rattle.template_requests.specs.Words.{escape_of, floats_of, mode_of}
+use Rattle.template_requests.specs.Words.{escape_of, mode_of}
 use Rattle.template_requests.specs.Members.{LacksNumber, flag_of, given, member_name, text_of}
 use Rattle.template_requests.specs.Templates.{LacksTexts}
 use Rattle.template_requests.specs.declared.member.Member.{Member}
@@ -43,7 +43,6 @@ Lacks member.Fuel j = LacksNumber (given (codes "fuel") j)
 Lacks member.Limit j = LacksNumber (given (codes "limit") j)
 Lacks member.Undefined j = option_and_then mode_of (text_of (given (codes "undefined") j)) ≡ None
 Lacks member.Builtins j = flag_of (given (codes "builtins") j) ≡ None
-Lacks member.Floats j = option_and_then floats_of (text_of (given (codes "floats") j)) ≡ None
 Lacks member.Autoescape j = option_and_then escape_of (text_of (given (codes "autoescape") j)) ≡ None
 Lacks part j = IsSomeAnd (given (codes "syntax") j) (LacksInSyntax part)
 

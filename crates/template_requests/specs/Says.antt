@@ -5,7 +5,7 @@ use Rattle.json.specs.Json.{Json}
 use Rattle.json.specs.Find.{as_object, as_str}
 use Rattle.json.specs.Print.{print}
 use Rattle.json.specs.Tree.{json_tokens}
-use Rattle.template_requests.specs.Words.{escape_of, floats_of, mode_of}
+use Rattle.template_requests.specs.Words.{escape_of, mode_of}
 use Rattle.template_requests.specs.declared.syntax.SyntaxParts.{SyntaxParts}
 use Rattle.template_requests.specs.Members.{SaysNumber, flag_of, given, text_of}
 use Rattle.template_requests.specs.Templates.{SaysTexts}
@@ -54,7 +54,6 @@ pub record SaysSettings (j : Json) (settings : Settings) : Type 0 where
   pub limit : SaysLimit (given (codes "limit") j) settings.limit
   pub undefined : option_and_then mode_of (text_of (given (codes "undefined") j)) ≡ Some settings.undefined
   pub builtins : flag_of (given (codes "builtins") j) ≡ Some settings.builtins
-  pub floats : option_and_then floats_of (text_of (given (codes "floats") j)) ≡ Some settings.floats
   pub autoescape : option_and_then escape_of (text_of (given (codes "autoescape") j)) ≡ Some settings.autoescape
   pub syntax : SaysSyntax (given (codes "syntax") j) settings.syntax
 

@@ -3,8 +3,6 @@ use Rattle.std.specs.Prelude.{ℕ, List, Option, None, Some, if◌then◌else◌
 use Rattle.template_values_errors.specs.declared.modes.AutoEscape.TheVariants.{Html, Json}
 use Rattle.template_values_errors.specs.declared.modes.UndefinedBehavior.{UndefinedBehavior}
 use Rattle.template_values_errors.specs.declared.modes.UndefinedBehavior.TheVariants.{Lenient, Chainable, SemiStrict, Strict}
-use Rattle.template_values_contexts.specs.declared.contexts.Floats.{Floats}
-use Rattle.template_values_contexts.specs.declared.contexts.Floats.TheVariants.{Refused, AsSpelled}
 use Rattle.template_machine_surroundings.specs.declared.escape.EscapeRule.{EscapeRule}
 use Rattle.template_machine_surroundings.specs.declared.escape.EscapeRule.TheVariants.{ByName, Never, Fixed}
 
@@ -35,15 +33,3 @@ escape_named word =
 abbrev pub escape_of : Option (List ℕ) → Option EscapeRule
 escape_of None = Some ByName
 escape_of (Some word) = escape_named word
-
--- what becomes of numbers that are no whole ones
-abbrev pub floats_named : List ℕ → Option Floats
-floats_named word =
-    if bytes_eq (codes "refused") word then Some Refused
-    else if bytes_eq (codes "text") word then Some AsSpelled
-    else None
-
--- they are refused where there is no word
-abbrev pub floats_of : Option (List ℕ) → Option Floats
-floats_of None = Some Refused
-floats_of (Some word) = floats_named word

@@ -18,8 +18,8 @@ pub fn syntax_of(
     alloc: Global,
     parts: Option<SyntaxParts<'_>>,
 ) -> Result<Option<SyntaxConfig>, Error>
-    ensures syntax { IfOk result (λ syntax. unwrap_or syntax default_syntax ≡ syntax_for parts) }
-    ensures refused { IfErr result (RefusesSyntax (syntax_for parts)) }
+    ensures syntax { IfOk result (λ syntax. unwrap_or syntax default_syntax ≡ syntax_for parts.entry) }
+    ensures refused { IfErr result (RefusesSyntax (syntax_for parts.entry)) }
 {
     match parts {
         None => Ok(None),

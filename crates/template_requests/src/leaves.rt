@@ -1,14 +1,13 @@
 //! Members that are flags, numbers, texts and words.
 ghost use Rattle.std.specs.Prelude.{◌≡◌, IfErr, IfOk, None, Some, option_and_then, option_map};
 ghost use Rattle.json.specs.Value.{value_view};
-ghost use Rattle.template_requests.specs.Words.{escape_named as escape_for, escape_of, floats_named as floats_for, floats_of, mode_named as mode_for, mode_of};
+ghost use Rattle.template_requests.specs.Words.{escape_named as escape_for, escape_of, mode_named as mode_for, mode_of};
 ghost use Rattle.template_requests.specs.Members.{IsMalformed, LacksNumber, SaysNumber, flag_of, given as given_in, member_name, text_of};
 
 use crate::faults::MessageFault;
 use crate::member::Member;
 use json::Value as Json;
 use template_machine_surroundings::EscapeRule;
-use template_values_contexts::Floats;
 use template_values_errors::{AutoEscape, UndefinedBehavior};
 
 /// The member of the name, where it stands and is not null: of equal names the last one.
@@ -94,19 +93,6 @@ pub(crate) fn autoescape(object: &Json<'_>) -> Result<EscapeRule, MessageFault>
     }
 }
 
-/// What becomes of numbers of the context that are no whole ones.
-pub(crate) fn floats(object: &Json<'_>) -> Result<Floats, MessageFault>
-    ensures says { IfOk result (λ floats. option_and_then floats_of
-        (text_of (given_in (member_name Member.Floats) (value_view object.now))) ≡ Some floats) }
-    ensures refused { IfErr result (λ fault. IsMalformed fault Member.Floats
-        (option_and_then floats_of (text_of (given_in (member_name Member.Floats) (value_view object.now))) ≡ None)) }
-{
-    match text(object, Member::Floats)? {
-        None => Ok(Floats::Refused),
-        Some(word) => floats_named(word).ok_or(MessageFault::Malformed(Member::Floats)),
-    }
-}
-
 fn mode_named(word: &str) -> Option<UndefinedBehavior>
     ensures { result ≡ mode_for word.now }
 {
@@ -127,16 +113,6 @@ fn escape_named(word: &str) -> Option<EscapeRule>
         "html" => Some(EscapeRule::Fixed(AutoEscape::Html)),
         "json" => Some(EscapeRule::Fixed(AutoEscape::Json)),
         "name" => Some(EscapeRule::ByName),
-        _ => None,
-    }
-}
-
-fn floats_named(word: &str) -> Option<Floats>
-    ensures { result ≡ floats_for word.now }
-{
-    match word {
-        "refused" => Some(Floats::Refused),
-        "text" => Some(Floats::AsSpelled),
         _ => None,
     }
 }

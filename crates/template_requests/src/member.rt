@@ -19,8 +19,6 @@ pub enum Member {
     Undefined,
     /// Whether the builtins stand in the environment.
     Builtins,
-    /// What becomes of numbers of the context that are no whole ones.
-    Floats,
     /// How printed values are escaped.
     Autoescape,
     /// The syntax: an object of the members below.
@@ -62,7 +60,6 @@ impl Member {
             Member::Limit => "limit",
             Member::Undefined => "undefined",
             Member::Builtins => "builtins",
-            Member::Floats => "floats",
             Member::Autoescape => "autoescape",
             Member::Syntax => "syntax",
             Member::TrimBlocks => "trim_blocks",

@@ -5,12 +5,11 @@ ghost use Rattle.template_requests.specs.Faults.{IsFlaw};
 ghost use Rattle.template_requests.specs.Says.{SaysSettings};
 
 use crate::faults::MessageFault;
-use crate::leaves::{autoescape, flag, floats, number, undefined};
+use crate::leaves::{autoescape, flag, number, undefined};
 use crate::member::Member;
 use crate::syntax::{SyntaxParts, syntax_in};
 use json::Value as Json;
 use template_machine_surroundings::EscapeRule;
-use template_values_contexts::Floats;
 use template_values_errors::UndefinedBehavior;
 
 // How deep a render may be where the request does not say it.
@@ -27,8 +26,6 @@ pub struct Settings<'text> {
     pub undefined: UndefinedBehavior,
     /// Whether templates have the builtins.
     pub builtins: bool,
-    /// What becomes of numbers of the context that are no whole ones: they are refused where the request does not say it.
-    pub floats: Floats,
     /// How printed values are escaped: as the template's name says where the request does not say it.
     pub autoescape: EscapeRule,
     /// What is set of the syntax of the templates, if anything is.
@@ -49,7 +46,6 @@ pub fn settings_in<'text>(object: &Json<'text>) -> Result<Settings<'text>, Messa
         limit: number(object, Member::Limit)?.unwrap_or(DEFAULT_LIMIT),
         undefined: undefined(object)?,
         builtins: flag(object, Member::Builtins)?,
-        floats: floats(object)?,
         autoescape: autoescape(object)?,
         syntax: syntax_in(object)?,
     })
