@@ -20,8 +20,8 @@
  *     }
  *   }
  *
- * Numbers of the context are whole ones of 64 bits; others are refused. "templates" and "main" must stand; a member that is null stands for none, and of equal names the last one counts. Members of
- * other names are passed over.
+ * "templates" and "main" must stand; a member that is null stands for none, and of equal names the last one counts. Members of
+ * other names are passed over. Numbers of the context are whole ones of 64 bits; others are refused.
  *
  * The status that is given back is 0 where all is written, and then the reply is the text, or the list of names. Else it is
  *

@@ -18,7 +18,7 @@ pub(crate) fn run_message(
     message: Message<'_>,
     syntax: Option<&SyntaxConfig>,
 ) -> Reply
-    requires { unwrap_or (option_map (λ given. given.now) syntax.entry) default_syntax ≡ syntax_for message.entry.settings.syntax }
+    requires { unwrap_or (option_map (λ given. given.now) syntax) default_syntax ≡ syntax_for message.settings.syntax }
     ensures { Runs command message.entry result.status (string_bytes result.text) }
 {
     let Message {
