@@ -16,6 +16,7 @@ pub(crate) fn instruction(alloc: Global, step: &Json) -> Result<Instruction<'sta
             [Json::String(word), Json::String(name)] => named(word.as_str(), name.as_str()),
             [Json::String(word), number] => match word.as_str() {
                 "names" => return Ok(Instruction::LoadConst(names(alloc, count_in(number))?)),
+                "ones" => return Ok(Instruction::LoadConst(ones(alloc, count_in(number))?)),
                 "mixed" => return Ok(Instruction::LoadConst(mixed(alloc)?)),
                 "tuple_of_names" => return Ok(Instruction::LoadConst(names_in_tuple(alloc)?)),
                 _ => leading(word.as_str(), number),
@@ -59,6 +60,15 @@ fn names(alloc: Global, count: usize) -> Result<Value, Error> {
     let mut items = Vec::new(alloc);
     for _name in 0..count {
         items.push(Value::from_str(alloc, "n")?)?;
+    }
+    Value::from_list(alloc, items)
+}
+
+// A list of so many ones.
+fn ones(alloc: Global, count: usize) -> Result<Value, Error> {
+    let mut items = Vec::new(alloc);
+    for _one in 0..count {
+        items.push(Value::from_int(1))?;
     }
     Value::from_list(alloc, items)
 }
@@ -134,6 +144,7 @@ fn plain(word: &str) -> Option<Instruction<'static>> {
         "text" => Some(Instruction::EmitRaw(CowStr::Borrowed("text"))),
         "name" => Some(Instruction::Lookup(CowStr::Borrowed("name"))),
         "none" => Some(Instruction::LoadConst(Value::none())),
+        "zero" => Some(Instruction::LoadConst(Value::from_int(0))),
         "one" => Some(Instruction::LoadConst(Value::from_int(1))),
         "two" => Some(Instruction::LoadConst(Value::from_int(2))),
         "true" => Some(Instruction::LoadConst(Value::from_bool(true))),
@@ -150,14 +161,34 @@ fn operating(word: &str) -> Option<Instruction<'static>> {
         "set_attribute" => Some(Instruction::SetAttr(CowStr::Borrowed("a"))),
         "item" => Some(Instruction::GetItem),
         "slice" => Some(Instruction::Slice),
-        "add" => Some(Instruction::Add),
-        "sub" => Some(Instruction::Sub),
-        "in" => Some(Instruction::In),
+        "negate" => Some(Instruction::Neg),
         "not" => Some(Instruction::Not),
         "undefined" => Some(Instruction::IsUndefined),
         "compare" => Some(Instruction::CompareAndPreserve(CompareOp::Lt)),
         "swap" => Some(Instruction::Swap),
         "dup" => Some(Instruction::DupTop),
+        _ => joining(word),
+    }
+}
+
+// What makes one of two values.
+fn joining(word: &str) -> Option<Instruction<'static>> {
+    match word {
+        "add" => Some(Instruction::Add),
+        "sub" => Some(Instruction::Sub),
+        "mul" => Some(Instruction::Mul),
+        "div" => Some(Instruction::Div),
+        "int_div" => Some(Instruction::IntDiv),
+        "rem" => Some(Instruction::Rem),
+        "pow" => Some(Instruction::Pow),
+        "equal" => Some(Instruction::Eq),
+        "unequal" => Some(Instruction::Ne),
+        "greater" => Some(Instruction::Gt),
+        "at_least" => Some(Instruction::Gte),
+        "less" => Some(Instruction::Lt),
+        "at_most" => Some(Instruction::Lte),
+        "concat" => Some(Instruction::StringConcat),
+        "in" => Some(Instruction::In),
         _ => around(word),
     }
 }
