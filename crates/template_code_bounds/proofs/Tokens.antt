@@ -18,6 +18,7 @@ use Rattle.template_compiler_segments.specs.Segments.{IsNextStart, inside_from, 
 use Rattle.template_compiler_segments.specs.Stripping.{stripped_from, stripped_to, with_data, with_stripped, next_edge, stripped}
 use Rattle.template_compiler_segments.specs.Flat.{tokens_of, template_text, IsTokens, source_tokens}
 use Rattle.template_compiler_segments.proofs.Data.{less_blanks_le}
+use Rattle.template_compiler_source_tokens.specs.Scoped.{after, is_scoped, taken_words, unscoped}
 use Rattle.template_code_bounds.proofs.Weights.{weight, weight-append, takes_weight}
 
 -- one more than what is left, where something is left
@@ -227,7 +228,25 @@ text_within x source =
       | inr other ↦ rw other (omega (arith, final_within 10 source, final_within 13 (less_final 10 source)))
     ]
 
-pub tokens_bound : (x : Syntax) (source : List ℕ) (tokens : List Token) → IsUsable x → IsTokens x source tokens → weight tokens ≤ suc (length source)
+tokens_bound : (x : Syntax) (source : List ℕ) (tokens : List Token) → IsUsable x → IsTokens x source tokens → weight tokens ≤ suc (length source)
 tokens_bound x source tokens usable (source_tokens pieces e) =
     let s = template_text x source in
     omega (arith, ap weight e, pieces_room x s (usable.filled) pieces Nothing, room_most (length s - 0), text_within x source)
+
+-- without the words that are left out
+less_weight : (b : Bool) (t : Token) (us ts : List Token) → weight us ≤ weight ts → weight (if b then us else t ∷ us) ≤ weight (t ∷ ts)
+less_weight true t us ts least = omega (arith, least)
+less_weight false t us ts least = omega (arith, least)
+
+unscoped_weight : (head : _) (ts : List Token) → weight (unscoped (λ t. t) head ts) ≤ weight ts
+unscoped_weight head [] = omega arith
+unscoped_weight head (t ∷ ts) = less_weight (is_scoped head t) t _ ts (unscoped_weight (after head t) ts)
+
+taken_weight : (scoped : Bool) (ts : List Token) → weight (taken_words scoped ts) ≤ weight ts
+taken_weight true ts = unscoped_weight _ ts
+taken_weight false ts = omega arith
+
+pub taken_bound : (x : Syntax) (source : List ℕ) (tokens : List Token) → IsUsable x → IsTokens x source tokens →
+    weight (taken_words x.scoped_blocks tokens) ≤ suc (length source)
+taken_bound x source tokens usable spelled =
+    omega (arith, taken_weight x.scoped_blocks tokens, tokens_bound x source tokens usable spelled)

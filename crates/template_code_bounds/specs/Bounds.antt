@@ -7,6 +7,7 @@ use Rattle.template_walk.specs.Blocks.{Block, blocks_in}
 use Rattle.template_compiler_tokens.specs.Token.{Token}
 use Rattle.template_compiler_syntax.specs.Syntax.{Syntax, IsUsable}
 use Rattle.template_compiler_segments.specs.Flat.{IsTokens}
+use Rattle.template_compiler_source_tokens.specs.Scoped.{taken_words}
 use Rattle.template_compiler_source_tokens.specs.Spelled.{IsSpelled}
 use Rattle.template_compiler_grammar.specs.Grammar.{IsExpression}
 use Rattle.template_compiler_grammar.specs.TemplateGrammar.{IsTemplate}
@@ -19,12 +20,12 @@ code_bound bytes = 201 * (bytes + 1)
 -- The code of a template is bounded by the length of its source.
 abbrev pub TemplatesAreBounded : Type 0
 TemplatesAreBounded = (x : Syntax) (source : List ℕ) (tokens : List Token) (tree : Statements) → IsUsable x → IsTokens x source tokens →
-    IsTemplate tokens tree → length (template_code tree) ≤ code_bound (length source)
+    IsTemplate (taken_words x.scoped_blocks tokens) tree → length (template_code tree) ≤ code_bound (length source)
 
 -- So is the code of each of its blocks.
 abbrev pub BlocksAreBounded : Type 0
 BlocksAreBounded = (x : Syntax) (source : List ℕ) (tokens : List Token) (tree : Statements) → IsUsable x → IsTokens x source tokens →
-    IsTemplate tokens tree → All (λ (b : Block). length (template_code b.body) ≤ code_bound (length source)) (blocks_in tree)
+    IsTemplate (taken_words x.scoped_blocks tokens) tree → All (λ (b : Block). length (template_code b.body) ≤ code_bound (length source)) (blocks_in tree)
 
 -- So is the code of an expression alone.
 abbrev pub ExpressionsAreBounded : Type 0

@@ -10,15 +10,17 @@ use Rattle.template_compiler_segments.proofs.Theorems.{one_tokens, some_tokens}
 use Rattle.template_compiler_grammar.specs.TemplateReader.{template_of}
 use Rattle.template_compiler_grammar_laws.proofs.TemplatesComplete.{template_complete}
 use Rattle.template_compiler_grammar_laws.proofs.TemplatesSound.{template_sound}
+use Rattle.template_compiler_source_tokens.specs.Scoped.{taken_words}
 use Rattle.template_compiler_sources.specs.Source.{IsSource, source_of}
-use Rattle.template_compiled.specs.Sources.{Source, read, tree_in}
+use Rattle.template_compiled.specs.Sources.{Source, read, tokens_read, tree_in}
 
 pub one_tree : (source : Source) (tree : Statements) → IsUsable source.syntax → IsSource source.syntax source.text (template tree) → tree_in source ≡ tree
 unfolding tree_in
 one_tree source tree usable (source_of {tokens = ts} spelled is) =
     let some = some_tokens source.syntax source.text in
     let same = one_tokens source.syntax source.text some.0 ts usable some.1 spelled in
-    ap (λ (l : List Token). read (template_of l)) same ∙ ap read (template_complete ts tree is)
+    let taken = taken_words source.syntax.scoped_blocks ts in
+    ap (λ (l : List Token). read (template_of (taken_words source.syntax.scoped_blocks l))) same ∙ ap read (template_complete taken tree is)
 
 read_runs : (tokens : List Token) (r : Result Statements TokenFault) → template_of tokens ≡ r → IsRunnableTemplate (read r)
 read_runs tokens (Ok tree) is = template_runs (template_sound tokens tree is)
@@ -26,7 +28,7 @@ read_runs tokens (Err fault) is = tt
 
 pub tree_runs : (source : Source) → IsRunnableTemplate (tree_in source)
 unfolding tree_in
-tree_runs source = let tokens = (some_tokens source.syntax source.text).0 in read_runs tokens (template_of tokens) refl
+tree_runs source = read_runs (tokens_read source) (template_of (tokens_read source)) refl
 
 pub source_runs : {x : Syntax} {text : List ℕ} (s : Statement) → IsSource x text s → IsRunnableTree s
 source_runs s (source_of spelled is) = template_runs is

@@ -5,9 +5,10 @@ use Rattle.template_values_errors.specs.declared.ErrorKind.TheVariants.{TooLarge
 use Rattle.template_values_errors.specs.declared.modes.AutoEscape.{AutoEscape}
 use Rattle.template_tree.specs.Tree.{Statements, no_statements, template}
 use Rattle.template_walk.specs.Runnable.{IsRunnableTemplate}
-use Rattle.template_compiler_tokens.specs.Token.{TokenFault}
+use Rattle.template_compiler_tokens.specs.Token.{Token, TokenFault}
 use Rattle.template_compiler_syntax.specs.Syntax.{Syntax}
 use Rattle.template_compiler_segments.proofs.Theorems.{some_tokens}
+use Rattle.template_compiler_source_tokens.specs.Scoped.{taken_words}
 use Rattle.template_compiler_grammar.specs.TemplateReader.{template_of}
 use Rattle.template_compiler_sources.specs.Source.{IsSource, RefusesSource}
 use Rattle.template_machine_surroundings.specs.declared.escape.EscapeRule.{EscapeRule}
@@ -40,9 +41,13 @@ abbrev pub read : Result Statements TokenFault → Statements
 read (Ok tree) = tree
 read (Err fault) = no_statements
 
+-- what is read of a source's tokens
+abbrev pub tokens_read : Source → List Token
+tokens_read source = taken_words source.syntax.scoped_blocks (some_tokens source.syntax source.text).0
+
 -- the tree of a source, whose tokens are read from the first to the last; nothing where it has none
 unfoldable pub tree_in : Source → Statements
-tree_in source = read (template_of (some_tokens source.syntax source.text).0)
+tree_in source = read (template_of (tokens_read source))
 
 -- there is no room for the code of a text: it is too large, which that of fewer than 2^24 bytes never is; or a growth was
 -- refused

@@ -308,6 +308,21 @@ impl<'source> CompiledTemplate<'source> {
         &self.instructions
     }
 
+    /// The template's code, and its blocks as [`CompiledTemplate::blocks`] lists them, for who runs or checks them apart.
+    pub fn into_streams(self) -> (Instructions<'source>, Vec<CompiledBlock<'source>>)
+        ensures code { code_in result.0 ≡ code_for self.entry }
+        ensures blocks { streams_in result.1.items ≡ streams_of (tree_in self.entry.source) }
+        ensures faithful { IsFaithful self.entry }
+    {
+        let CompiledTemplate {
+            instructions,
+            blocks,
+            config: _,
+            initial_auto_escape: _,
+        } = self;
+        (instructions, blocks)
+    }
+
     /// How much room for the template's text is worth asking for: twice the bytes of the texts outside of its blocks, as far
     /// as a `usize` goes. Linear in its instructions.
     pub fn buffer_size_hint(&self) -> usize

@@ -1,3 +1,4 @@
 pub mod Faults
 pub mod Spelling
 mod Held
+pub mod LeftOut

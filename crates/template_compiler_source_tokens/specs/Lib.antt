@@ -1,3 +1,4 @@
 pub mod Kinds
+pub mod Scoped
 pub mod Spans
 pub mod Spelled

@@ -3,6 +3,7 @@
 
 mod expression;
 mod refusals;
+mod scoped;
 mod template;
 
 pub use expression::read_expression_tokens;

@@ -5,6 +5,7 @@ use Rattle.template_compiler_tokens.specs.Token.{Token, TokenFault}
 use Rattle.template_compiler_syntax.specs.Syntax.{Syntax, IsUsable}
 use Rattle.template_compiler_segments.specs.Flat.{IsTokens}
 use Rattle.template_compiler_segments.proofs.Theorems.{one_tokens, some_tokens}
+use Rattle.template_compiler_source_tokens.specs.Scoped.{taken_words}
 use Rattle.template_compiler_source_tokens.specs.Spelled.{IsSpelled}
 use Rattle.template_compiler_source_tokens.proofs.Spelling.{one_spelled, some_spelled}
 use Rattle.template_compiler_grammar.specs.TemplateReader.{template_of}
@@ -19,18 +20,21 @@ same_fault e = cc
 pub one_fault : (x : Syntax) (source : List ℕ) (f g : TokenFault) → IsUsable x → IsFaulty x source f → IsFaulty x source g → f ≡ g
 one_fault x source f g usable is other =
     same_fault (
-    sym is.ends ∙ ap (λ ts. template_of ts) (one_tokens x source is.tokens other.tokens usable is.spelled other.spelled) ∙ other.ends)
+    sym is.ends ∙
+    ap (λ ts. template_of (taken_words x.scoped_blocks ts)) (one_tokens x source is.tokens other.tokens usable is.spelled other.spelled) ∙
+    other.ends)
 
 fault_in : (x : Syntax) (source : List ℕ) (tokens : List Token) → IsUsable x → IsTokens x source tokens →
-    ((tree : Statement) → IsSource x source tree → ⊥) → (r : Result Statements TokenFault) → template_of tokens ≡ r →
-    (fault : TokenFault) × IsFaulty x source fault
+    ((tree : Statement) → IsSource x source tree → ⊥) → (r : Result Statements TokenFault) →
+    template_of (taken_words x.scoped_blocks tokens) ≡ r → (fault : TokenFault) × IsFaulty x source fault
 fault_in x source tokens usable spelled treeless (Ok body) e = absurd (treeless (template body) (found_source x source tokens body spelled e))
 fault_in x source tokens usable spelled treeless (Err f) e = (f, faulty_source x source tokens f usable spelled e)
 
 pub some_fault : (x : Syntax) (source : List ℕ) → IsUsable x → ((tree : Statement) → IsSource x source tree → ⊥) →
     (fault : TokenFault) × IsFaulty x source fault
 some_fault x source usable treeless =
-    let all = some_tokens x source in fault_in x source all.0 usable all.1 treeless (template_of all.0) refl
+    let all = some_tokens x source in
+    fault_in x source all.0 usable all.1 treeless (template_of (taken_words x.scoped_blocks all.0)) refl
 
 -- expressions
 pub one_expression_fault : (source : List ℕ) (f g : TokenFault) → IsFaultyExpression source f → IsFaultyExpression source g → f ≡ g

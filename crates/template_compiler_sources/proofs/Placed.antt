@@ -8,8 +8,10 @@ use Rattle.template_compiler_segments.proofs.Theorems.{one_tokens}
 use Rattle.template_compiler_syntax.specs.Syntax.{Syntax, IsUsable}
 use Rattle.template_compiler_tokenizer.specs.Spans.{words_in}
 use Rattle.template_compiler_tokenizer.proofs.AllTokens.{one_spans, some_spans, words_are}
+use Rattle.template_compiler_source_tokens.specs.Scoped.{taken_spans, taken_words}
 use Rattle.template_compiler_source_tokens.specs.Spans.{token_spans}
 use Rattle.template_compiler_source_tokens.specs.Spelled.{IsSpelled, spelled_spans}
+use Rattle.template_compiler_source_tokens.proofs.LeftOut.{words_taken}
 use Rattle.template_compiler_source_tokens.proofs.Spelling.{one_spelled, one_spelling}
 use Rattle.template_compiler_grammar.specs.TemplateGrammar.{IsTemplate}
 use Rattle.template_compiler_placed_grammar.specs.Nodes.{placed, Node}
@@ -32,19 +34,24 @@ same_template {t = t} e = ap (template_or t) e
 pub one_source : (x : Syntax) (source : List ℕ) (s t : PlacedStatement) → IsUsable x → IsPlacedSource x source s → IsPlacedSource x source t → s ≡ t
 one_source x source s t usable (placed_source {tokens = ts} {body = a} h v) (placed_source {tokens = us} {body = b} k w) =
     let same : ts ≡ us = one_spans x source ts us usable h k in
-    let both = sym (template_complete (token_spans ts) (words_in ts) a v) ∙
-    ap (λ ts. template_of (token_spans ts) (words_in ts)) same ∙ template_complete (token_spans us) (words_in us) b w in
+    let first = taken_spans x.scoped_blocks ts in
+    let other = taken_spans x.scoped_blocks us in
+    let both = sym (template_complete (token_spans first) (words_in first) a v) ∙
+    ap (λ ts. template_of (token_spans (taken_spans x.scoped_blocks ts)) (words_in (taken_spans x.scoped_blocks ts))) same ∙
+    template_complete (token_spans other) (words_in other) b w in
     ap (λ (t : PlacedTemplate). placed (template t.tree) t.places) (same_template both)
 
 pub bare_source : (x : Syntax) (source : List ℕ) (s : PlacedStatement) → IsPlacedSource x source s → IsSource x source s.tree
-bare_source x source s (placed_source {tokens = ts} h w) = source_of (words_are x source ts h) w
+bare_source x source s (placed_source {tokens = ts} {body = body} h w) =
+    source_of (words_are x source ts h) (subst (λ ts. IsTemplate ts body) (words_taken x.scoped_blocks ts) w)
 
 pub some_source : (x : Syntax) (source : List ℕ) (s : Statement) → IsUsable x → IsSource x source s →
     (places : Places) × IsPlacedSource x source (placed s places)
 some_source x source s usable (source_of {tokens = ts} {body = body} h w) =
     let all = some_spans x source in
     let same = one_tokens x source ts (words_in all.0) usable h (words_are x source all.0 all.1) in
-    (_, placed_source all.1 (subst (λ ts. IsTemplate ts body) same w))
+    let taken = ap (taken_words x.scoped_blocks) same ∙ sym (words_taken x.scoped_blocks all.0) in
+    (_, placed_source all.1 (subst (λ ts. IsTemplate ts body) taken w))
 
 -- expressions
 spelled_once : (source : List ℕ) (ts us : List Token) (x : IsSpelled source ts) (y : IsSpelled source us) → spelled_spans [] x ≡ spelled_spans [] y

@@ -18,6 +18,7 @@ use Rattle.template_tree.specs.NodePlaces.{at}
 use Rattle.template_compiler_grammar.specs.Reader.{expression_at}
 use Rattle.template_compiler_grammar_laws.proofs.Complete.{expression_complete}
 use Rattle.template_compiler_grammar_laws.proofs.Sound.{expression_sound}
+use Rattle.template_compiler_source_tokens.specs.Scoped.{taken_spans, taken_words}
 use Rattle.template_compiler_source_tokens.specs.Spans.{HoldsTokens, token_spans}
 use Rattle.template_compiler_source_tokens.specs.Spelled.{HoldsSpelled, IsSpelled, spelled_spans}
 use Rattle.template_compiler_source_tokens.proofs.Spelling.{one_spelled}
@@ -45,18 +46,18 @@ use Rattle.template_compiler_sources.specs.Wholes.{nothing_behind, expression_al
 
 -- a template's source
 pub found_source : (x : Syntax) (source : List ℕ) (tokens : List Token) (body : Statements) → IsTokens x source tokens →
-    template_of tokens ≡ Ok body → IsSource x source (template body)
-found_source x source tokens body h e = source_of h (template_sound tokens body e)
+    template_of (taken_words x.scoped_blocks tokens) ≡ Ok body → IsSource x source (template body)
+found_source x source tokens body h e = source_of h (template_sound (taken_words x.scoped_blocks tokens) body e)
 
 no_other : (x : Syntax) (source : List ℕ) (tokens : List Token) (f : TokenFault) → IsUsable x → IsTokens x source tokens →
-    template_of tokens ≡ Err f → (tree : Statement) → IsSource x source tree → ⊥
+    template_of (taken_words x.scoped_blocks tokens) ≡ Err f → (tree : Statement) → IsSource x source tree → ⊥
 no_other x source tokens f u h e tree (source_of {tokens = others} {body = body} k t) =
-    let read = template_complete others body t in
+    let read = template_complete (taken_words x.scoped_blocks others) body t in
     let same = one_tokens x source others tokens u k h in
-    let both : Ok body ≡ Err f = sym read ∙ subst (λ ts. template_of others ≡ template_of ts) same refl ∙ e in cc
+    let both : Ok body ≡ Err f = sym read ∙ ap (λ ts. template_of (taken_words x.scoped_blocks ts)) same ∙ e in cc
 
 pub faulty_source : (x : Syntax) (source : List ℕ) (tokens : List Token) (f : TokenFault) → IsUsable x → IsTokens x source tokens →
-    template_of tokens ≡ Err f → IsFaulty x source f
+    template_of (taken_words x.scoped_blocks tokens) ≡ Err f → IsFaulty x source f
 faulty_source x source tokens f u h e = record {
   tokens = tokens;
   spelled = h;
@@ -103,36 +104,39 @@ fails_bare spans ts f read = sym (template_erased spans ts) ∙ ap bare_template
 
 -- what is answered of a source, by what is read of its tokens
 pub found_whole : (x : Syntax) (source : List ℕ) (spans : List Span) (tokens left : List Token) (node : Spanned TemplateNode) →
-    IsTokens x source left → tokens ≡ left → ParsedTemplate (placed_reader.template_of spans tokens) (Ok node) →
+    IsTokens x source left → tokens ≡ taken_words x.scoped_blocks left → ParsedTemplate (placed_reader.template_of spans tokens) (Ok node) →
     IsSource x source (statement_of (Whole node))
 found_whole x source spans tokens left node h e (body, is, read) =
     subst (λ t. IsSource x source t) (sym (ap (λ (s : PlacedStatement). s.tree) is))
-    (found_source x source tokens body.tree (subst (λ ts. IsTokens x source ts) (sym e) h) (read_bare spans tokens body read))
+    (found_source x source left body.tree h (subst (λ ts. template_of ts ≡ Ok body.tree) e (read_bare spans tokens body read)))
 
 placed_whole : (x : Syntax) (source : List ℕ) (tokens : List PlacedToken) (t : PlacedTemplate) → HasSpans x source tokens →
-    placed_reader.template_of (token_spans tokens) (words_in tokens) ≡ Ok t → IsPlacedSource x source (placed (template t.tree) t.places)
+    placed_reader.template_of (token_spans (taken_spans x.scoped_blocks tokens)) (words_in (taken_spans x.scoped_blocks tokens)) ≡ Ok t →
+    IsPlacedSource x source (placed (template t.tree) t.places)
 placed_whole x source tokens t h read =
-    let sound = template_sound_placed (token_spans tokens) (words_in tokens) t read in
+    let taken = taken_spans x.scoped_blocks tokens in
+    let sound = template_sound_placed (token_spans taken) (words_in taken) t read in
     subst (λ p. IsPlacedSource x source (placed (template t.tree) p)) (sym sound.1) (placed_source h sound.0)
 
 -- a stream of all tokens
 pub found_places : (x : Syntax) (source : List ℕ) (tokens : List PlacedToken) (stream : PlacedTokens) (node : Spanned TemplateNode) →
-    HasSpans x source tokens → HoldsTokens tokens stream → ParsedTemplate (placed_reader.template_of stream.spans stream.left) (Ok node) →
+    HasSpans x source tokens → HoldsTokens (taken_spans x.scoped_blocks tokens) stream →
+    ParsedTemplate (placed_reader.template_of stream.spans stream.left) (Ok node) →
     IsPlacedSource x source (statement_node_of (Whole node))
 found_places x source tokens stream node h held (body, is, read) =
-    let all = subst (λ ts. placed_reader.template_of (token_spans tokens) ts ≡ Ok body) held.words
+    let all = subst (λ ts. placed_reader.template_of (token_spans (taken_spans x.scoped_blocks tokens)) ts ≡ Ok body) held.words
     (subst (λ spans. placed_reader.template_of spans stream.left ≡ Ok body) held.spans read) in
     subst (λ s. IsPlacedSource x source s) (sym is) (placed_whole x source tokens body h all)
 
 pub refused_whole : (x : Syntax) (source : List ℕ) (spans : List Span) (tokens left : List Token) (e : Refusal) (kinds : List ErrorKind) →
-    IsUsable x → IsTokens x source left → tokens ≡ left → ParsedTemplate (placed_reader.template_of spans tokens) (Err e) →
+    IsUsable x → IsTokens x source left → tokens ≡ taken_words x.scoped_blocks left → ParsedTemplate (placed_reader.template_of spans tokens) (Err e) →
     kinds ≡ refused_kind e ∷ [] → RefusesSource x source kinds
 refused_whole x source spans tokens left (refusals.Token f) kinds u h e read is =
     subst (λ k. RefusesSource x source k) (sym is)
     (inr (inr (
       fault_of f,
       refl,
-      faulty_source x source tokens (fault_of f) u (subst (λ ts. IsTokens x source ts) (sym e) h) (fails_bare spans tokens (fault_of f) read),
+      faulty_source x source left (fault_of f) u h (subst (λ ts. template_of ts ≡ Err (fault_of f)) e (fails_bare spans tokens (fault_of f) read)),
     )))
 refused_whole x source spans tokens left refusals.OutOfMemory kinds u h e read is = inl is
 

@@ -2,16 +2,22 @@
 use Rattle.std.specs.Prelude.{◌≡◌, ◌≤◌, ◌+◌, ◌⊎◌, ℕ, List, [], ◌∷◌, ◌++◌, take, Err}
 use Rattle.template_compiler_tokens.specs.Token.{Token, bad, bad_escape}
 use Rattle.template_compiler_tokens.specs.Places.{token_count}
+use Rattle.template_compiler_syntax.specs.Syntax.{Syntax}
 use Rattle.template_compiler_segments.specs.Flat.{IsTokens}
+use Rattle.template_compiler_source_tokens.specs.Scoped.{taken_words}
 use Rattle.template_compiler_source_tokens.specs.Spelled.{IsSpelled}
 use Rattle.template_compiler_grammar.specs.TemplateReader.{template_of}
 use Rattle.template_compiler_sources.specs.Wholes.{expression_alone}
 use Rattle.template_compiler_sources.specs.declared.prefixes.Text.{Text}
 use Rattle.template_compiler_sources.specs.declared.prefixes.Text.TheVariants as texts
 
+-- what is read of a template's tokens
+pub data TakenTokens (x : Syntax) (source : List ℕ) : List Token → Type 0 where
+  taken_tokens : {tokens : List Token} → IsTokens x source tokens → TakenTokens x source (taken_words x.scoped_blocks tokens)
+
 -- the text's tokens
 abbrev pub HasTokens : Text → List Token → Type 0
-HasTokens (texts.Template source filename syntax) ts = IsTokens syntax source.now ts
+HasTokens (texts.Template source filename syntax) ts = TakenTokens syntax source.now ts
 HasTokens (texts.Expression source) ts = IsSpelled source.now ts
 
 -- a bad escape is the fault of no token, so it marks what stands behind the first of the tokens

@@ -8,6 +8,7 @@ use Rattle.template_compiler_tokens.specs.Left.{kind_of}
 use Rattle.template_compiler_syntax.specs.Syntax.{Syntax}
 use Rattle.template_compiler_segments.specs.Flat.{IsTokens}
 use Rattle.template_compiler_tokenizer.specs.Spans.{Spanned, HasSpans, words_in}
+use Rattle.template_compiler_source_tokens.specs.Scoped.{taken_spans, taken_words}
 use Rattle.template_compiler_source_tokens.specs.Spans.{token_spans}
 use Rattle.template_compiler_source_tokens.specs.Spelled.{IsSpelled, spelled_spans}
 use Rattle.template_compiler_grammar.specs.Grammar.{IsExpression}
@@ -19,21 +20,23 @@ use Rattle.template_compiler_placed_grammar.specs.Nodes.{placed, Node}
 use Rattle.template_compiler_placed_grammar.specs.TemplateNodes.{PlacedStatement}
 use Rattle.template_compiler_sources.specs.Wholes.{expression_alone}
 
--- the source's tokens are the template's statements
+-- the source's tokens are the template's statements, where the syntax has it without the word `scoped` behind a block's name
 pub data IsSource (x : Syntax) (source : List ℕ) : Statement → Type 0 where
-  source_of : {tokens : List Token} {body : Statements} → IsTokens x source tokens → IsTemplate tokens body →
+  source_of : {tokens : List Token} {body : Statements} → IsTokens x source tokens →
+      IsTemplate (taken_words x.scoped_blocks tokens) body →
       IsSource x source (template body)
 
 -- and each node stands where its tokens do
 pub data IsPlacedSource (x : Syntax) (source : List ℕ) : PlacedStatement → Type 0 where
-  placed_source : {tokens : List Spanned} {body : Statements} → HasSpans x source tokens → (whole : IsTemplate (words_in tokens) body) →
-      IsPlacedSource x source (placed (template body) (template_places (token_spans tokens) whole))
+  placed_source : {tokens : List Spanned} {body : Statements} → HasSpans x source tokens →
+      (whole : IsTemplate (words_in (taken_spans x.scoped_blocks tokens)) body) →
+      IsPlacedSource x source (placed (template body) (template_places (token_spans (taken_spans x.scoped_blocks tokens)) whole))
 
 -- the source has no tree: the reading of its tokens from the first on ends with the fault
 pub record IsFaulty (x : Syntax) (source : List ℕ) (fault : TokenFault) : Type 0 where
   pub tokens : List Token
   pub spelled : IsTokens x source tokens
-  pub ends : template_of tokens ≡ Err fault
+  pub ends : template_of (taken_words x.scoped_blocks tokens) ≡ Err fault
   pub treeless : (tree : Statement) → IsSource x source tree → ⊥
 
 -- the source's tokens are the expression

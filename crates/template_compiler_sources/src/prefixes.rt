@@ -4,6 +4,7 @@ ghost use Rattle.template_compiler_grammar.specs.TemplateReader.{template_of};
 ghost use Rattle.template_compiler_sources.specs.Ends.{HasTokens, Reaches, ReadsTo};
 ghost use Rattle.template_compiler_sources.specs.Wholes.{expression_alone};
 ghost use Rattle.template_compiler_segments.specs.Flat.{IsTokens};
+ghost use Rattle.template_compiler_source_tokens.specs.Scoped.{taken_words};
 ghost use Rattle.template_compiler_source_tokens.specs.Spelled.{IsSpelled};
 ghost use Rattle.template_compiler_stream.specs.Refusals.{fault_of};
 ghost use Rattle.template_compiler_tokens.specs.Places.{token_count};
@@ -129,10 +130,12 @@ fn template_tokens<'source>(
     filename: &'source str,
     syntax: &SyntaxConfig,
 ) -> Result<TokenStream<'source>, AllocError>
-    ensures { IfOk result (λ stream. (ts : List Token) → IsTokens syntax.now source.now ts → ts ≡ stream.left) }
+    ensures { IfOk result (λ stream. (ts : List Token) → IsTokens syntax.now source.now ts →
+        taken_words syntax.now.scoped_blocks ts ≡ stream.left) }
 {
+    let scoped = syntax.scoped_blocks();
     let tokenizer = Tokenizer::new(alloc, source, filename, syntax.clone()?);
-    match read_tokens(alloc, tokenizer) {
+    match read_tokens(alloc, tokenizer, scoped) {
         Ok(tokens) => Ok(tokens),
         Err(_wanting) => Err(AllocError),
     }

@@ -50,8 +50,9 @@ pub fn parse<'source>(
         filename,
         syntax: syntax.clone()?,
     };
+    let scoped = syntax.scoped_blocks();
     let tokenizer = Tokenizer::new(alloc, source, filename, syntax);
-    match read_tokens(alloc, tokenizer) {
+    match read_tokens(alloc, tokenizer, scoped) {
         Ok(mut tokens) => match whole_template(alloc, &mut tokens) {
             Ok(template) => return Ok(Stmt::Template(template)),
             Err(refusal) => return Err(refused_at(alloc, &text, tokens.passed(), refusal)),

@@ -18,6 +18,7 @@ syntax_of s = record {
   trim_blocks = s.white_space.trim_blocks;
   lstrip_blocks = s.white_space.lstrip_blocks;
   keep_trailing_newline = s.white_space.keep_trailing_newline;
+  scoped_blocks = s.scoped_blocks;
 }
 
 -- no settings stand for the default syntax

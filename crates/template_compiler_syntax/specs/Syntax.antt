@@ -15,6 +15,7 @@ pub record Syntax : Type 0 where
   pub trim_blocks : Bool
   pub lstrip_blocks : Bool
   pub keep_trailing_newline : Bool
+  pub scoped_blocks : Bool  -- the word `scoped` may stand behind the name of a block
 
 abbrev pub default_syntax : Syntax
 default_syntax = record {
@@ -29,6 +30,7 @@ default_syntax = record {
   trim_blocks = false;
   lstrip_blocks = false;
   keep_trailing_newline = false;
+  scoped_blocks = false;
 }
 
 -- what a segment of the kind begins with; an empty prefix is none

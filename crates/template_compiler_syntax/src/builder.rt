@@ -130,6 +130,14 @@ impl SyntaxConfigBuilder {
         self.settings.white_space.keep_trailing_newline = yes;
     }
 
+    /// Sets whether the word `scoped` may stand behind the name of a block. It says nothing: blocks see the names of the
+    /// loops around them with it and without it.
+    pub fn scoped_blocks(&mut self, yes: bool)
+        ensures { self.new ≡ record self.old { scoped_blocks = yes } }
+    {
+        self.settings.scoped_blocks = yes;
+    }
+
     /// The syntax.
     ///
     /// # Errors

@@ -231,6 +231,16 @@ impl SyntaxConfig {
             None => false,
         }
     }
+
+    /// Whether the word `scoped` may stand behind the name of a block.
+    pub fn scoped_blocks(&self) -> bool
+        ensures { result ≡ self.now.scoped_blocks }
+    {
+        match &self.settings {
+            Some(shared) => shared.scoped_blocks,
+            None => false,
+        }
+    }
 }
 
 // The text, if it is not empty.

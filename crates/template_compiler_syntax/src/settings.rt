@@ -27,7 +27,7 @@ pub(crate) struct WhiteSpace {
     pub(crate) keep_trailing_newline: bool,
 }
 
-/// The delimiters, the prefixes and what goes beside them. An empty prefix is none.
+/// The delimiters, the prefixes, what goes beside them, and whether blocks may be `scoped`. An empty prefix is none.
 #[derive(Clone, Drop)]
 pub(crate) struct Settings {
     pub(crate) blocks: Delimiters,
@@ -35,6 +35,7 @@ pub(crate) struct Settings {
     pub(crate) comments: Delimiters,
     pub(crate) prefixes: Prefixes,
     pub(crate) white_space: WhiteSpace,
+    pub(crate) scoped_blocks: bool,
 }
 
 impl Settings {
@@ -66,6 +67,7 @@ impl Settings {
                 lstrip_blocks: false,
                 keep_trailing_newline: false,
             },
+            scoped_blocks: false,
         }
     }
 

@@ -39,7 +39,7 @@ pub fn loaded_names(alloc: Global, source: &str, syntax: SyntaxConfig) -> Result
     ensures names { IfOk result (λ names. IsLoading syntax source.now (names_in names.items)) }
     ensures refused { IfErr result NoMemory }
 {
-    match read_tokens(alloc, Tokenizer::new(alloc, source, "", syntax)) {
+    match read_tokens(alloc, Tokenizer::new(alloc, source, "", syntax), false) {
         Ok(mut tokens) => names_left(alloc, &mut tokens),
         Err(_refusal) => Err(Error::new(ErrorKind::OutOfMemory)),
     }
