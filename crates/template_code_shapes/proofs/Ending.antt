@@ -7,6 +7,7 @@ use Rattle.template_values_model.specs.Val.{Val}
 use Rattle.template_process.specs.Process.{Counts, Ask, asks, Answer, done, value, truth, item, no_item, items, Process, over, amiss, stuck, on_done, on_value, on_truth, on_item, on_items, on_all, on_closure}
 use Rattle.template_process.specs.Process as events
 use Rattle.template_code.specs.Code.{Operand, single, counted, counting, closure, Code, emit_raw, emit, store_local, lookup, load_const, get_attr, set_attr, get_item, slice, build_map, build_kwargs, merge_kwargs, build_list, build_tuple, unpack_list, unpack_lists, operate, negate, invert, is_undefined, compare_and_preserve, apply_filter, perform_test, call_function, call_method, call_object, swap, dup_top, discard_top, jump, jump_if_false, jump_if_false_or_pop, jump_if_true_or_pop, push_with, pop_frame, push_loop, iterate, push_did_not_iterate, pop_loop_frame, push_auto_escape, pop_auto_escape, begin_capture, end_capture, fast_super, fast_recurse, call_block, load_blocks, include, export_locals, enclose, get_closure, build_macro, return}
+use Rattle.template_code.specs.Counting as counts
 use Rattle.template_code.specs.Counting.{counts_before}
 use Rattle.template_code.specs.Prices.{price_of, steps}
 use Rattle.template_code.specs.Steps as table
@@ -17,7 +18,16 @@ use Rattle.template_code_shapes.specs.Shapes.{Form, single_form, counted_form, c
 use Rattle.template_code_shapes.specs.Effects.{Effect, is_iterate, falling, may_lead, jumping, code_before, texts_loaded, making, effect_of}
 use Rattle.template_code_shapes.specs.Streams.{Reached, falls_to, jumps_to, end_of, IsGood}
 use Rattle.template_code_shapes.specs.Laws.{EndsWith, left_by}
+use Rattle.template_code_shapes.specs.Rounds.{frames_behind}
 use Rattle.template_code_shapes.proofs.Aiming.{effect_leads, within}
+
+-- how many frames are open behind an instruction, of so many before it
+abbrev pub frames_by : Code → ℕ → ℕ
+frames_by push_with n = suc n
+frames_by (push_loop flags) n = suc n
+frames_by pop_frame n = pred n
+frames_by pop_loop_frame n = pred n
+frames_by _ n = n
 
 -- a shape with operands of these forms
 abbrev pub shape_over : List Operand → Shape → Shape
@@ -163,7 +173,7 @@ module _ (Ends : Process → Type 0) where
   continues next place (Some e) some k = k e refl
 
 -- what holds of the process behind an instruction: at once, or behind what it asks
-module _ (Now Later : Process → Type 0) (gone : Later amiss) (asked : (e : Ask) (k : Answer → Process) → ((a : Answer) → Later (k a)) → Now (asks e k)) where
+module _ (Now Later : Process → Type 0) (gone : Later amiss) where
   -- answers
 
   unstuck_done : (p : Process) → Later p → (a : Answer) → Later (on_done p a)
@@ -202,109 +212,110 @@ module _ (Now Later : Process → Type 0) (gone : Later amiss) (asked : (e : Ask
 
   -- an instruction that does not iterate may go on at once, and the body of a macro may end
   pub unstuck_deed : (code : List Code) (next : ℕ → List Operand → Process) (before : Counts) (c : Code) (place : ℕ) (operands : List Operand) (s : Shape)
-      → (is_iterate (Some c) ≡ false → IsSomeAnd (effect_of code place c (shape_over operands s)) (Continues Now next place))
+      → ((e : Ask) (k : Answer → Process) → ((n : ℕ) → frames_behind e n ≡ frames_by c n) → ((a : Answer) → Later (k a)) → Now (asks e k))
+      → (is_iterate (Some c) ≡ false → ((n : ℕ) → frames_by c n ≡ n) → IsSomeAnd (effect_of code place c (shape_over operands s)) (Continues Now next place))
       → IsSomeAnd (effect_of code place c (shape_over operands s)) (Continues Later next place) → (is_over (shape_over operands s) ≡ true → Now (over (values_in operands)))
       → Now (deed next before c place operands)
-  unstuck_deed code next before (emit_raw text) place operands s at_once h ended = asked _ _ (unstuck_done _ (falls_on Later next place _ h operands refl))
-  unstuck_deed code next before emit place (single v ∷ rest) s at_once h ended = asked _ _ (unstuck_done _ (trades Later next place 0 (shape_over (single v ∷ rest) s) rest h rest refl))
-  unstuck_deed code next before (store_local name) place (single v ∷ rest) s at_once h ended = asked _ _ (unstuck_done _ (trades Later next place 0 (shape_over (single v ∷ rest) s) rest h rest refl))
-  unstuck_deed code next before (lookup name) place operands s at_once h ended = asked _ _ (unstuck_value _ (λ v. falls_on Later next place _ h (single v ∷ operands) refl))
-  unstuck_deed code next before (load_const v) place operands s at_once h ended = falls_on Now next place _ (at_once refl) (single v ∷ operands) refl
-  unstuck_deed code next before (get_attr name) place (single v ∷ rest) s at_once h ended = asked _ _ (unstuck_value _ (λ w. trades Later next place 1 (shape_over (single v ∷ rest) s) rest h (single w ∷ rest) refl))
-  unstuck_deed code next before (set_attr name) place (single n ∷ single v ∷ rest) s at_once h ended =
-      asked _ _ (unstuck_done _ (trades Later next place 0 (shape_over (single n ∷ single v ∷ rest) s) rest h rest refl))
-  unstuck_deed code next before get_item place (single k ∷ single v ∷ rest) s at_once h ended = asked _ _ (unstuck_value _ (λ w. trades Later next place 1 (shape_over (single k ∷ single v ∷ rest) s) rest h (single w ∷ rest) refl))
-  unstuck_deed code next before slice place (single c ∷ single b ∷ single a ∷ single v ∷ rest) s at_once h ended =
-      asked _ _ (unstuck_value _ (λ w. trades Later next place 1 (shape_over (single c ∷ single b ∷ single a ∷ single v ∷ rest) s) rest h (single w ∷ rest) refl))
-  unstuck_deed code next before (build_map n) place operands s at_once h ended =
-      trades_counted Later Now next place (single_form ∷ []) (shape_over operands s) (n * 2) operands [] _ h (λ vs rest k. asked _ _ (unstuck_value _ (λ w. k (single w ∷ rest) refl)))
-  unstuck_deed code next before (build_kwargs n) place operands s at_once h ended =
-      trades_counted Later Now next place (single_form ∷ []) (shape_over operands s) (n * 2) operands [] _ h (λ vs rest k. asked _ _ (unstuck_value _ (λ w. k (single w ∷ rest) refl)))
-  unstuck_deed code next before (merge_kwargs n) place operands s at_once h ended =
-      trades_counted Later Now next place (single_form ∷ []) (shape_over operands s) n operands [] _ h (λ vs rest k. asked _ _ (unstuck_value _ (λ w. k (single w ∷ rest) refl)))
-  unstuck_deed code next before (build_list count) place operands s at_once h ended =
-      trades_handed Later Now next place s count operands _ h (λ vs rest k. asked _ _ (unstuck_value _ (λ w. k (single w ∷ rest) refl)))
-  unstuck_deed code next before (build_tuple count) place operands s at_once h ended =
-      trades_handed Later Now next place s count operands _ h (λ vs rest k. asked _ _ (unstuck_value _ (λ w. k (single w ∷ rest) refl)))
-  unstuck_deed code next before (unpack_list n) place (single v ∷ rest) s at_once h ended =
-      asked _ _ (unstuck_items n _ (λ vs e. trades Later next place n (shape_over (single v ∷ rest) s) rest h (map single vs ++ rest) (forms_of_items vs n rest e)))
-  unstuck_deed code next before (unpack_lists n) place operands s at_once h ended =
-      trades_counted Later Now next place (counted_form ∷ []) (shape_over operands s) n operands [] _ h (λ vs rest k. asked _ _ (unstuck_all _ (λ all. k (counted all ∷ rest) refl)))
-  unstuck_deed code next before (operate op) place (single w ∷ single v ∷ rest) s at_once h ended =
-      asked _ _ (unstuck_value _ (λ u. trades Later next place 1 (shape_over (single w ∷ single v ∷ rest) s) rest h (single u ∷ rest) refl))
-  unstuck_deed code next before (operate op) place (single one ∷ counting vs v ∷ rest) s at_once h ended =
-      adds_on Now next place (is_addition op) _ _ (at_once refl)
+  unstuck_deed code next before (emit_raw text) place operands s asked at_once h ended = asked (events.write_raw text) _ (λ n. refl) (unstuck_done _ (falls_on Later next place _ h operands refl))
+  unstuck_deed code next before emit place (single v ∷ rest) s asked at_once h ended = asked (events.write_value v) _ (λ n. refl) (unstuck_done _ (trades Later next place 0 (shape_over (single v ∷ rest) s) rest h rest refl))
+  unstuck_deed code next before (store_local name) place (single v ∷ rest) s asked at_once h ended = asked (events.store name v) _ (λ n. refl) (unstuck_done _ (trades Later next place 0 (shape_over (single v ∷ rest) s) rest h rest refl))
+  unstuck_deed code next before (lookup name) place operands s asked at_once h ended = asked (events.look_up name) _ (λ n. refl) (unstuck_value _ (λ v. falls_on Later next place _ h (single v ∷ operands) refl))
+  unstuck_deed code next before (load_const v) place operands s asked at_once h ended = falls_on Now next place _ (at_once refl (λ n. refl)) (single v ∷ operands) refl
+  unstuck_deed code next before (get_attr name) place (single v ∷ rest) s asked at_once h ended = asked (events.get_attribute v name) _ (λ n. refl) (unstuck_value _ (λ w. trades Later next place 1 (shape_over (single v ∷ rest) s) rest h (single w ∷ rest) refl))
+  unstuck_deed code next before (set_attr name) place (single n ∷ single v ∷ rest) s asked at_once h ended =
+      asked (events.set_attribute name v n) _ (λ n. refl) (unstuck_done _ (trades Later next place 0 (shape_over (single n ∷ single v ∷ rest) s) rest h rest refl))
+  unstuck_deed code next before get_item place (single k ∷ single v ∷ rest) s asked at_once h ended = asked (events.get_item v k) _ (λ n. refl) (unstuck_value _ (λ w. trades Later next place 1 (shape_over (single k ∷ single v ∷ rest) s) rest h (single w ∷ rest) refl))
+  unstuck_deed code next before slice place (single c ∷ single b ∷ single a ∷ single v ∷ rest) s asked at_once h ended =
+      asked (events.get_slice v a b c) _ (λ n. refl) (unstuck_value _ (λ w. trades Later next place 1 (shape_over (single c ∷ single b ∷ single a ∷ single v ∷ rest) s) rest h (single w ∷ rest) refl))
+  unstuck_deed code next before (build_map n) place operands s asked at_once h ended =
+      trades_counted Later Now next place (single_form ∷ []) (shape_over operands s) (n * 2) operands [] _ h (λ vs rest k. asked (events.build_map (table.paired vs)) _ (λ n. refl) (unstuck_value _ (λ w. k (single w ∷ rest) refl)))
+  unstuck_deed code next before (build_kwargs n) place operands s asked at_once h ended =
+      trades_counted Later Now next place (single_form ∷ []) (shape_over operands s) (n * 2) operands [] _ h (λ vs rest k. asked (events.build_kwargs (table.paired vs)) _ (λ n. refl) (unstuck_value _ (λ w. k (single w ∷ rest) refl)))
+  unstuck_deed code next before (merge_kwargs n) place operands s asked at_once h ended =
+      trades_counted Later Now next place (single_form ∷ []) (shape_over operands s) n operands [] _ h (λ vs rest k. asked (events.merge_kwargs vs) _ (λ n. refl) (unstuck_value _ (λ w. k (single w ∷ rest) refl)))
+  unstuck_deed code next before (build_list count) place operands s asked at_once h ended =
+      trades_handed Later Now next place s count operands _ h (λ vs rest k. asked (events.build_list vs) _ (λ n. refl) (unstuck_value _ (λ w. k (single w ∷ rest) refl)))
+  unstuck_deed code next before (build_tuple count) place operands s asked at_once h ended =
+      trades_handed Later Now next place s count operands _ h (λ vs rest k. asked (events.build_tuple vs) _ (λ n. refl) (unstuck_value _ (λ w. k (single w ∷ rest) refl)))
+  unstuck_deed code next before (unpack_list n) place (single v ∷ rest) s asked at_once h ended =
+      asked (events.unpack n v) _ (λ n. refl) (unstuck_items n _ (λ vs e. trades Later next place n (shape_over (single v ∷ rest) s) rest h (map single vs ++ rest) (forms_of_items vs n rest e)))
+  unstuck_deed code next before (unpack_lists n) place operands s asked at_once h ended =
+      trades_counted Later Now next place (counted_form ∷ []) (shape_over operands s) n operands [] _ h (λ vs rest k. asked (events.spread vs) _ (λ n. refl) (unstuck_all _ (λ all. k (counted all ∷ rest) refl)))
+  unstuck_deed code next before (operate op) place (single w ∷ single v ∷ rest) s asked at_once h ended =
+      asked (events.operate op v w) _ (λ n. refl) (unstuck_value _ (λ u. trades Later next place 1 (shape_over (single w ∷ single v ∷ rest) s) rest h (single u ∷ rest) refl))
+  unstuck_deed code next before (operate op) place (single one ∷ counting vs v ∷ rest) s asked at_once h ended =
+      adds_on Now next place (is_addition op) _ _ (at_once refl (λ n. refl))
       (λ k. trades_over Now next place (counted_form ∷ []) (shape_over (single one ∷ counting vs v ∷ rest) s) rest k (counted (vs ++ v ∷ []) ∷ rest) refl)
-  unstuck_deed code next before negate place (single v ∷ rest) s at_once h ended = asked _ _ (unstuck_value _ (λ w. trades Later next place 1 (shape_over (single v ∷ rest) s) rest h (single w ∷ rest) refl))
-  unstuck_deed code next before invert place (single v ∷ rest) s at_once h ended = asked _ _ (unstuck_value _ (λ w. trades Later next place 1 (shape_over (single v ∷ rest) s) rest h (single w ∷ rest) refl))
-  unstuck_deed code next before is_undefined place (single v ∷ rest) s at_once h ended = trades Now next place 1 (shape_over (single v ∷ rest) s) rest (at_once refl) (single _ ∷ rest) refl
-  unstuck_deed code next before (compare_and_preserve op) place (single w ∷ single v ∷ rest) s at_once h ended =
-      asked _ _ (unstuck_value _ (λ u. trades Later next place 2 (shape_over (single w ∷ single v ∷ rest) s) rest h (single u ∷ single w ∷ rest) refl))
-  unstuck_deed code next before (apply_filter name count number) place operands s at_once h ended =
-      trades_handed Later Now next place s count operands _ h (λ vs rest k. asked _ _ (unstuck_value _ (λ w. k (single w ∷ rest) refl)))
-  unstuck_deed code next before (perform_test name count number) place operands s at_once h ended =
-      trades_handed Later Now next place s count operands _ h (λ vs rest k. asked _ _ (unstuck_value _ (λ w. k (single w ∷ rest) refl)))
-  unstuck_deed code next before (call_function name count) place operands s at_once h ended =
-      trades_handed Later Now next place s count operands _ h (λ vs rest k. asked _ _ (unstuck_value _ (λ w. k (single w ∷ rest) refl)))
-  unstuck_deed code next before (call_method name count) place operands s at_once h ended =
-      trades_handed Later Now next place s count operands _ h (λ vs rest k. asked _ _ (unstuck_value _ (λ w. k (single w ∷ rest) refl)))
-  unstuck_deed code next before (call_object count) place operands s at_once h ended =
-      trades_handed Later Now next place s count operands _ h (λ vs rest k. asked _ _ (unstuck_value _ (λ w. k (single w ∷ rest) refl)))
-  unstuck_deed code next before swap place (single w ∷ single v ∷ rest) s at_once h ended = trades Now next place 2 (shape_over (single w ∷ single v ∷ rest) s) rest (at_once refl) (single v ∷ single w ∷ rest) refl
-  unstuck_deed code next before swap place (single w ∷ counted vs ∷ rest) s at_once h ended =
-      trades_over Now next place (counting_form ∷ []) (shape_over (single w ∷ counted vs ∷ rest) s) rest (tested (Continues Now next place) _ _ (at_once refl)) (counting vs w ∷ rest) refl
-  unstuck_deed code next before dup_top place (single v ∷ rest) s at_once h ended = trades Now next place 2 (shape_over (single v ∷ rest) s) rest (at_once refl) (single v ∷ single v ∷ rest) refl
-  unstuck_deed code next before discard_top place (single v ∷ rest) s at_once h ended = trades Now next place 0 (shape_over (single v ∷ rest) s) rest (at_once refl) rest refl
-  unstuck_deed code next before (jump to) place operands s at_once h ended = (jumps_on Now next place to None (shape_over operands s) _ (at_once refl)).0 operands refl
-  unstuck_deed code next before (jump_if_false to) place (single v ∷ rest) s at_once h ended =
+  unstuck_deed code next before negate place (single v ∷ rest) s asked at_once h ended = asked (events.negate v) _ (λ n. refl) (unstuck_value _ (λ w. trades Later next place 1 (shape_over (single v ∷ rest) s) rest h (single w ∷ rest) refl))
+  unstuck_deed code next before invert place (single v ∷ rest) s asked at_once h ended = asked (events.invert v) _ (λ n. refl) (unstuck_value _ (λ w. trades Later next place 1 (shape_over (single v ∷ rest) s) rest h (single w ∷ rest) refl))
+  unstuck_deed code next before is_undefined place (single v ∷ rest) s asked at_once h ended = trades Now next place 1 (shape_over (single v ∷ rest) s) rest (at_once refl (λ n. refl)) (single _ ∷ rest) refl
+  unstuck_deed code next before (compare_and_preserve op) place (single w ∷ single v ∷ rest) s asked at_once h ended =
+      asked (events.compare op v w) _ (λ n. refl) (unstuck_value _ (λ u. trades Later next place 2 (shape_over (single w ∷ single v ∷ rest) s) rest h (single u ∷ single w ∷ rest) refl))
+  unstuck_deed code next before (apply_filter name count number) place operands s asked at_once h ended =
+      trades_handed Later Now next place s count operands _ h (λ vs rest k. asked (events.apply_filter name vs) _ (λ n. refl) (unstuck_value _ (λ w. k (single w ∷ rest) refl)))
+  unstuck_deed code next before (perform_test name count number) place operands s asked at_once h ended =
+      trades_handed Later Now next place s count operands _ h (λ vs rest k. asked (events.perform_test name vs) _ (λ n. refl) (unstuck_value _ (λ w. k (single w ∷ rest) refl)))
+  unstuck_deed code next before (call_function name count) place operands s asked at_once h ended =
+      trades_handed Later Now next place s count operands _ h (λ vs rest k. asked (events.call_function name vs) _ (λ n. refl) (unstuck_value _ (λ w. k (single w ∷ rest) refl)))
+  unstuck_deed code next before (call_method name count) place operands s asked at_once h ended =
+      trades_handed Later Now next place s count operands _ h (λ vs rest k. asked (events.call_method name vs) _ (λ n. refl) (unstuck_value _ (λ w. k (single w ∷ rest) refl)))
+  unstuck_deed code next before (call_object count) place operands s asked at_once h ended =
+      trades_handed Later Now next place s count operands _ h (λ vs rest k. asked (events.call_value vs) _ (λ n. refl) (unstuck_value _ (λ w. k (single w ∷ rest) refl)))
+  unstuck_deed code next before swap place (single w ∷ single v ∷ rest) s asked at_once h ended = trades Now next place 2 (shape_over (single w ∷ single v ∷ rest) s) rest (at_once refl (λ n. refl)) (single v ∷ single w ∷ rest) refl
+  unstuck_deed code next before swap place (single w ∷ counted vs ∷ rest) s asked at_once h ended =
+      trades_over Now next place (counting_form ∷ []) (shape_over (single w ∷ counted vs ∷ rest) s) rest (tested (Continues Now next place) _ _ (at_once refl (λ n. refl))) (counting vs w ∷ rest) refl
+  unstuck_deed code next before dup_top place (single v ∷ rest) s asked at_once h ended = trades Now next place 2 (shape_over (single v ∷ rest) s) rest (at_once refl (λ n. refl)) (single v ∷ single v ∷ rest) refl
+  unstuck_deed code next before discard_top place (single v ∷ rest) s asked at_once h ended = trades Now next place 0 (shape_over (single v ∷ rest) s) rest (at_once refl (λ n. refl)) rest refl
+  unstuck_deed code next before (jump to) place operands s asked at_once h ended = (jumps_on Now next place to None (shape_over operands s) _ (at_once refl (λ n. refl))).0 operands refl
+  unstuck_deed code next before (jump_if_false to) place (single v ∷ rest) s asked at_once h ended =
       let ways = branches_on Later code next place to (shape_over (single v ∷ rest) s) rest (λ below. below) h in
-      asked _ _ (unstuck_truth _ _ (ways.1 rest refl) (ways.0 rest refl))
-  unstuck_deed code next before (jump_if_false_or_pop to) place (single v ∷ rest) s at_once h ended =
+      asked (events.truth_of v) _ (λ n. refl) (unstuck_truth _ _ (ways.1 rest refl) (ways.0 rest refl))
+  unstuck_deed code next before (jump_if_false_or_pop to) place (single v ∷ rest) s asked at_once h ended =
       let ways = branches_on Later code next place to (shape_over (single v ∷ rest) s) rest (λ below. shape_over (single v ∷ rest) s) h in
-      asked _ _ (unstuck_truth _ _ (ways.1 rest refl) (ways.0 (single v ∷ rest) refl))
-  unstuck_deed code next before (jump_if_true_or_pop to) place (single v ∷ rest) s at_once h ended =
+      asked (events.truth_of v) _ (λ n. refl) (unstuck_truth _ _ (ways.1 rest refl) (ways.0 (single v ∷ rest) refl))
+  unstuck_deed code next before (jump_if_true_or_pop to) place (single v ∷ rest) s asked at_once h ended =
       let ways = branches_on Later code next place to (shape_over (single v ∷ rest) s) rest (λ below. shape_over (single v ∷ rest) s) h in
-      asked _ _ (unstuck_truth _ _ (ways.0 (single v ∷ rest) refl) (ways.1 rest refl))
-  unstuck_deed code next before push_with place operands s at_once h ended = asked _ _ (unstuck_done _ (falls_on Later next place _ h operands refl))
-  unstuck_deed code next before pop_frame place operands s at_once h ended = asked _ _ (unstuck_done _ (closes_frame Later next place (shape_over operands s) s.frames h operands refl))
-  unstuck_deed code next before (push_loop flags) place (single v ∷ rest) s at_once h ended =
-      asked _ _ (unstuck_done _ (opens_on Later next place (shape_over (single v ∷ rest) s) rest (λ below. opened (loop_opened flags place below) below) (λ below. refl) (tested (Continues Later next place) _ _ h)))
-  unstuck_deed code next before (iterate to) place operands s at_once h ended =
+      asked (events.truth_of v) _ (λ n. refl) (unstuck_truth _ _ (ways.0 (single v ∷ rest) refl) (ways.1 rest refl))
+  unstuck_deed code next before push_with place operands s asked at_once h ended = asked events.open_frame _ (λ n. refl) (unstuck_done _ (falls_on Later next place _ h operands refl))
+  unstuck_deed code next before pop_frame place operands s asked at_once h ended = asked events.close_frame _ (λ n. refl) (unstuck_done _ (closes_frame Later next place (shape_over operands s) s.frames h operands refl))
+  unstuck_deed code next before (push_loop flags) place (single v ∷ rest) s asked at_once h ended =
+      asked (events.open_loop (counts.looping flags before) v) _ (λ n. refl) (unstuck_done _ (opens_on Later next place (shape_over (single v ∷ rest) s) rest (λ below. opened (loop_opened flags place below) below) (λ below. refl) (tested (Continues Later next place) _ _ h)))
+  unstuck_deed code next before (iterate to) place operands s asked at_once h ended =
       let s' : Shape = shape_over operands s in
       let k : Continues Later next place (record { falls = Some (given 1 s'); jumps = Some (to, s'); enters = None }) = tested (Continues Later next place) _ (Some (record { falls = Some (given 1 s'); jumps = Some (to, s'); enters = None })) h in
-      asked _ _ (unstuck_item _ _ (λ v. k.falls (given 1 s') refl (single v ∷ operands) refl) (k.jumps to s' refl operands refl))
-  unstuck_deed code next before push_did_not_iterate place operands s at_once h ended =
+      asked events.next_item _ (λ n. refl) (unstuck_item _ _ (λ v. k.falls (given 1 s') refl (single v ∷ operands) refl) (k.jumps to s' refl operands refl))
+  unstuck_deed code next before push_did_not_iterate place operands s asked at_once h ended =
       let after : Shape = given 1 (shape_over operands s) in
-      asked _ _ (unstuck_value _ (λ v. falls_on Later next place after (tested (Continues Later next place) (is_some (innermost_loop s.frames)) (Some (falling after)) h) (single v ∷ operands) refl))
-  unstuck_deed code next before pop_loop_frame place operands s at_once h ended = asked _ _ (unstuck_done _ (closes_loop Later next place (shape_over operands s) s.frames h operands refl))
-  unstuck_deed code next before push_auto_escape place (single v ∷ rest) s at_once h ended =
-      asked _ _ (unstuck_done _ (opens_on Later next place (shape_over (single v ∷ rest) s) rest (λ below. record below { escapes = suc below.escapes }) (λ below. refl) h))
-  unstuck_deed code next before pop_auto_escape place operands s at_once h ended =
+      asked events.did_not_iterate _ (λ n. refl) (unstuck_value _ (λ v. falls_on Later next place after (tested (Continues Later next place) (is_some (innermost_loop s.frames)) (Some (falling after)) h) (single v ∷ operands) refl))
+  unstuck_deed code next before pop_loop_frame place operands s asked at_once h ended = asked events.close_loop _ (λ n. refl) (unstuck_done _ (closes_loop Later next place (shape_over operands s) s.frames h operands refl))
+  unstuck_deed code next before push_auto_escape place (single v ∷ rest) s asked at_once h ended =
+      asked (events.open_escape v) _ (λ n. refl) (unstuck_done _ (opens_on Later next place (shape_over (single v ∷ rest) s) rest (λ below. record below { escapes = suc below.escapes }) (λ below. refl) h))
+  unstuck_deed code next before pop_auto_escape place operands s asked at_once h ended =
       let s' : Shape = shape_over operands s in
       let closed : Shape = record s' { escapes = pred s'.escapes } in
-      asked _ _ (unstuck_done _ (falls_on Later next place closed (mapped_test (Continues Later next place) falling _ closed h) operands refl))
-  unstuck_deed code next before (include ignore_missing) place (single v ∷ rest) s at_once h ended = asked _ _ (unstuck_done _ (trades Later next place 0 (shape_over (single v ∷ rest) s) rest h rest refl))
-  unstuck_deed code next before (begin_capture keep) place operands s at_once h ended = asked _ _ (unstuck_done _ (falls_on Later next place (with_capture (shape_over operands s)) h operands refl))
-  unstuck_deed code next before end_capture place operands s at_once h ended =
+      asked events.close_escape _ (λ n. refl) (unstuck_done _ (falls_on Later next place closed (mapped_test (Continues Later next place) falling _ closed h) operands refl))
+  unstuck_deed code next before (include ignore_missing) place (single v ∷ rest) s asked at_once h ended = asked (events.include ignore_missing v) _ (λ n. refl) (unstuck_done _ (trades Later next place 0 (shape_over (single v ∷ rest) s) rest h rest refl))
+  unstuck_deed code next before (begin_capture keep) place operands s asked at_once h ended = asked (events.begin_capture keep) _ (λ n. refl) (unstuck_done _ (falls_on Later next place (with_capture (shape_over operands s)) h operands refl))
+  unstuck_deed code next before end_capture place operands s asked at_once h ended =
       let s' : Shape = shape_over operands s in
       let closed : Shape = record s' { captures = pred s'.captures } in
-      asked _ _ (unstuck_value _ (λ v. falls_on Later next place (given 1 closed) (mapped_test (Continues Later next place) (λ t. falling (given 1 t)) _ closed h) (single v ∷ operands) refl))
-  unstuck_deed code next before fast_super place operands s at_once h ended = asked _ _ (unstuck_done _ (falls_on Later next place _ h operands refl))
-  unstuck_deed code next before fast_recurse place (single v ∷ rest) s at_once h ended = asked _ _ (unstuck_done _ (trades Later next place 0 (shape_over (single v ∷ rest) s) rest h rest refl))
-  unstuck_deed code next before (call_block name) place operands s at_once h ended = asked _ _ (unstuck_done _ (falls_on Later next place _ h operands refl))
-  unstuck_deed code next before load_blocks place (single v ∷ rest) s at_once h ended = asked _ _ (unstuck_done _ (trades Later next place 0 (shape_over (single v ∷ rest) s) rest h rest refl))
-  unstuck_deed code next before export_locals place (single w ∷ rest) s at_once h ended =
-      asked _ _ (unstuck_value _ (λ v. trades Later next place 1 (shape_over (single w ∷ rest) s) rest (tested (Continues Later next place) _ _ h) (single v ∷ rest) refl))
-  unstuck_deed code next before (enclose name) place operands s at_once h ended = asked _ _ (unstuck_done _ (falls_on Later next place _ h operands refl))
-  unstuck_deed code next before get_closure place operands s at_once h ended = asked _ _ (unstuck_closure _ (λ c. falls_on Later next place _ h (closure c ∷ operands) refl))
-  unstuck_deed code next before (build_macro name offset flags) place (single names ∷ closure c ∷ rest) s at_once h ended =
-      asked _ _ (unstuck_value _ (λ v. makes_on Later code next place offset (texts_loaded (code_before code place)) s names c rest h (single v ∷ rest) refl))
-  unstuck_deed code next before return place operands s at_once h ended = ended (test_is (Continues Later next place) _ _ h)
-  unstuck_deed code next before (push_loop flags) place _ s at_once h ended = absurd (tested (Continues Later next place) _ None h)
-  unstuck_deed code next before export_locals place _ s at_once h ended = absurd (tested (Continues Later next place) _ None h)
-  unstuck_deed code next before (build_macro name offset flags) place _ s at_once h ended =
+      asked events.end_capture _ (λ n. refl) (unstuck_value _ (λ v. falls_on Later next place (given 1 closed) (mapped_test (Continues Later next place) (λ t. falling (given 1 t)) _ closed h) (single v ∷ operands) refl))
+  unstuck_deed code next before fast_super place operands s asked at_once h ended = asked events.super_block _ (λ n. refl) (unstuck_done _ (falls_on Later next place _ h operands refl))
+  unstuck_deed code next before fast_recurse place (single v ∷ rest) s asked at_once h ended = asked (events.recurse v) _ (λ n. refl) (unstuck_done _ (trades Later next place 0 (shape_over (single v ∷ rest) s) rest h rest refl))
+  unstuck_deed code next before (call_block name) place operands s asked at_once h ended = asked (events.call_block name) _ (λ n. refl) (unstuck_done _ (falls_on Later next place _ h operands refl))
+  unstuck_deed code next before load_blocks place (single v ∷ rest) s asked at_once h ended = asked (events.load_blocks v) _ (λ n. refl) (unstuck_done _ (trades Later next place 0 (shape_over (single v ∷ rest) s) rest h rest refl))
+  unstuck_deed code next before export_locals place (single w ∷ rest) s asked at_once h ended =
+      asked (events.export_locals w) _ (λ n. refl) (unstuck_value _ (λ v. trades Later next place 1 (shape_over (single w ∷ rest) s) rest (tested (Continues Later next place) _ _ h) (single v ∷ rest) refl))
+  unstuck_deed code next before (enclose name) place operands s asked at_once h ended = asked (events.enclose name) _ (λ n. refl) (unstuck_done _ (falls_on Later next place _ h operands refl))
+  unstuck_deed code next before get_closure place operands s asked at_once h ended = asked events.get_closure _ (λ n. refl) (unstuck_closure _ (λ c. falls_on Later next place _ h (closure c ∷ operands) refl))
+  unstuck_deed code next before (build_macro name offset flags) place (single names ∷ closure c ∷ rest) s asked at_once h ended =
+      asked (events.build_macro (counts.making name flags names before) c) _ (λ n. refl) (unstuck_value _ (λ v. makes_on Later code next place offset (texts_loaded (code_before code place)) s names c rest h (single v ∷ rest) refl))
+  unstuck_deed code next before return place operands s asked at_once h ended = ended (test_is (Continues Later next place) _ _ h)
+  unstuck_deed code next before (push_loop flags) place _ s asked at_once h ended = absurd (tested (Continues Later next place) _ None h)
+  unstuck_deed code next before export_locals place _ s asked at_once h ended = absurd (tested (Continues Later next place) _ None h)
+  unstuck_deed code next before (build_macro name offset flags) place _ s asked at_once h ended =
       absurd (makes_nothing Later code next place offset (texts_loaded (code_before code place)) _ refl h)
-  unstuck_deed code next before _ place operands s at_once h ended = absurd h
+  unstuck_deed code next before _ place operands s asked at_once h ended = absurd h
 
 unstuck_steps : (left n : ℕ) (p : Process) → EndsWith left p → EndsWith left (steps n p)
 unstuck_steps left zero p h = h
@@ -367,7 +378,7 @@ ends_at kind code good next behind place s operands r is before (Some c) there =
       jumps = λ to t jumps. as_here to t ((effect_leads code place c s e there leads).stays to t jumps) (behind to t (jumps_to r there leads jumps));
     })) in
     unstuck_steps left (price_of c) (deed next before c place operands)
-    (unstuck_deed (EndsWith left) (EndsWith left) tt (λ e k h. h) code next before c place operands s (λ other. leads_on) leads_on (body_leaves kind operands s))
+    (unstuck_deed (EndsWith left) (EndsWith left) tt code next before c place operands s (λ e k same h. h) (λ other same. leads_on) leads_on (body_leaves kind operands s))
 
 pub ends_by : (kind : StreamKind) (code : List Code) → IsGood kind code → (bound place : ℕ) (s : Shape) (operands : List Operand)
     → Reached code place s → map form_of operands ≡ s.operands → EndsWith (left_by kind s) (exec code bound place operands)

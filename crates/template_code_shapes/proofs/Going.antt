@@ -97,7 +97,7 @@ module _ (kind : StreamKind) (code : List Code) (good : IsGood kind code) where
         jumps = λ to t jumps above forms. on n to t above (jumps_to r there leads_on jumps) forms
             (jumped code n place to bound c left inside ((effect_leads code place c s e there leads_on).jumps to t jumps));
       })) in
-      lasts_steps n (price_of c) _ (unstuck_deed (LastsFor n) (Behind n) (gone n) (asked n) code next before c place operands s at_once later (λ e. tt))
+      lasts_steps n (price_of c) _ (unstuck_deed (LastsFor n) (Behind n) (gone n) code next before c place operands s (λ e k same h. asked n e k h) (λ other same. at_once other) later (λ e. tt))
 
   lasts : (bound : ℕ) → GoesOn code bound (exec code bound)
   lasts zero n place s operands r is enough = absurd (some_bound code n place enough)

@@ -2,6 +2,8 @@ pub mod Certificates
 pub mod Aiming
 pub mod Ending
 pub mod Going
+pub mod Sinking
+pub mod Rounding
 pub mod OutlineLemmas
 pub mod DeskLemmas
 pub mod Claims

@@ -2,6 +2,7 @@ pub mod Shapes
 pub mod Effects
 pub mod Streams
 pub mod Laws
+pub mod Rounds
 pub mod Outlines
 pub mod Ways
 pub mod Passes

@@ -114,12 +114,11 @@ with_capture s = record s { captures = suc s.captures }
 abbrev pub capture_closed : Shape → Option Shape
 capture_closed s = if nat_lt (floor_of s.frames).captures s.captures then Some (record s { captures = pred s.captures }) else None
 
--- the place of the `PushLoop` of the innermost open loop
+-- the place of the `PushLoop` of the loop whose frame is the innermost one: what asks, closes or goes round a loop finds it there
 abbrev pub innermost_loop : List Opened → Option ℕ
-innermost_loop [] = None
-innermost_loop (with_frame ∷ frames) = innermost_loop frames
 innermost_loop (loop_frame place ∷ frames) = Some place
 innermost_loop (recursive_frame place floor ∷ frames) = Some place
+innermost_loop _ = None
 
 abbrev pub is_none_left : List Form → List Opened → Bool
 is_none_left [] [] = true

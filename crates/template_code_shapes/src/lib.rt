@@ -3,6 +3,7 @@
 #![tactic(auto)]
 
 ghost use Rattle.template_code_shapes.specs.Laws.{CertifiedIsGood, GoodEndsWell, GoodGoesOn};
+ghost use Rattle.template_code_shapes.specs.Rounds.{GoodRoundsStay};
 
 mod beside;
 mod desk;
@@ -39,4 +40,10 @@ pub fn good_ends_well()
 /// them times one more than its instructions.
 pub fn good_goes_on()
     ensures { GoodGoesOn }
+{}
+
+/// The rounds of a recursive loop that a good stream opens are never stuck where they are called again, over no operand of
+/// the run that opened it, and don't run past the code, until the loop's frame is closed.
+pub fn good_rounds_stay()
+    ensures { GoodRoundsStay }
 {}

@@ -388,20 +388,15 @@ impl Outline {
         true
     }
 
-    /// The place of the innermost open loop's `PushLoop`.
+    /// The place of the `PushLoop` of the loop whose frame is the innermost one.
     pub fn innermost_loop(&self) -> Option<u32>
         ensures { result ≡ innermost_loop (shape_of self.now).frames }
     {
-        let mut place = self.frames.len();
-        while place > 0 {
-            place -= 1;
-            match self.frames[place] {
-                Opened::With => {}
-                Opened::Loop(push) => return Some(push),
-                Opened::Recursive(push, _) => return Some(push),
-            }
+        match self.frames.last() {
+            Some(Opened::Loop(push)) => Some(*push),
+            Some(Opened::Recursive(push, _)) => Some(*push),
+            _ => None,
         }
-        None
     }
 
     /// Closes the innermost frame, where it is a loop's; a recursive one leaves no escape and no capture
