@@ -2,7 +2,6 @@
 use Rattle.std.proofs.Common.{◌≡◌, List, [], ◌++◌, length, Result, Ok, Err, IfOk, inl, inr, ap, sym, subst, ◌∙◌}
 use Rattle.template_values_errors.specs.declared.ErrorKind.{ErrorKind}
 use Rattle.template_tree.specs.Tree.{Statement, template}
-use Rattle.template_walk.specs.Runnable.{IsRunnableTemplate}
 use Rattle.template_code.specs.Code.{Code}
 use Rattle.template_code.specs.Listing.{TakesNoMore}
 use Rattle.template_code.specs.declared.listing.Instructions.{Instructions}
@@ -10,18 +9,19 @@ use Rattle.template_code_checked.specs.Checked.{kind_in, stream_in}
 use Rattle.template_code_shapes.specs.Streams.{IsGood}
 use Rattle.template_code_shapes.specs.declared.StreamKind.TheVariants.{Template}
 use Rattle.template_code_checked.specs.declared.checked.Checked.{Checked}
-use Rattle.template_compiler_statement_codegen.specs.Listed.{IsRunnableTree, body_in}
+use Rattle.template_compiler_statement_codegen.specs.Listed.{IsRunnableTree}
 use Rattle.template_compiler_codegen.specs.Expressions.{Coded}
 use Rattle.template_compiler_emission.specs.Puts.{NoRoom}
+use Rattle.template_compiler_generator.specs.Alone.{CanStand}
 use Rattle.template_compiler_generator.specs.Drafts.{Draft, Generates}
 
 pub generated_whole : (piece : Coded) (before after : Draft) → before.code ≡ [] → Generates piece before after → after.code ≡ piece 0
 generated_whole piece before after none g = g.code ∙ ap (λ (code : List Code). code ++ piece (length code)) none
 
--- the body of a template whose constructs have a walk
-pub runnable_body : (s : Statement) → IsRunnableTree s → IsRunnableTemplate (body_in s)
-runnable_body (template body) runs = runs
-runnable_body _ runs = absurd runs
+-- a whole template whose constructs have a walk can be generated
+pub tree_can_stand : (s : Statement) → IsRunnableTree s → CanStand s
+tree_can_stand (template body) runs = runs
+tree_can_stand _ runs = absurd runs
 
 -- what is accepted is a template's where its code is good as one
 pub told_template : (result : Result Checked (List ErrorKind)) (code : List Code) → IsGood Template code

@@ -11,5 +11,6 @@ pub mod Declaring
 pub mod Running
 pub mod Whole
 pub mod Pieces
+mod CallBlocks
 mod Numbers
-mod Accepted
+pub mod Accepted

@@ -1,3 +1,4 @@
+pub mod Alone
 pub mod Drafts
 pub mod View
 pub mod Laws

@@ -9,12 +9,13 @@ ghost use Rattle.template_tree.specs.View.{expression_of};
 ghost use Rattle.template_walk.specs.Runnable.{IsRunnable, IsTarget};
 ghost use Rattle.template_compiler_codegen.specs.Expressions.{expression_code};
 ghost use Rattle.template_compiler_codegen.specs.Statements.{no_ways, statements_code, target_code};
-ghost use Rattle.template_compiler_statement_codegen.specs.Listed.{IsRunnableTree, body_in};
+ghost use Rattle.template_compiler_generator.specs.Alone.{CanStand, statements_of};
 ghost use Rattle.template_compiler_emission.specs.Puts.{NoRoom};
 ghost use Rattle.template_compiler_numbers.specs.Numbers.{numbered_in};
 ghost use Rattle.template_compiler_generator.specs.Drafts.{Generates, IsTooLong, MarksBehind, is_branch, is_choice, is_loop, jumps_of, leap_of, loop_flags, next_jump, span_on, with_block, with_blocks, with_choice, with_choice_end, with_chosen, with_code, with_code_from, with_else, with_end, with_if, with_jump, with_line, with_loop, with_loop_end, with_marked, with_span, with_told, without_span};
 ghost use Rattle.template_compiler_generator.specs.View.{draft_of, open_of, refused_of};
 
+use crate::alone::statements;
 use crate::blocks::{Block, Jump};
 use std::alloc::Global;
 use template_code::{Instruction, Instructions, LOOP_FLAG_RECURSIVE, LOOP_FLAG_WITH_LOOP_VAR};
@@ -22,7 +23,7 @@ use template_code_references::buffer_size_hint;
 use template_compiler_emission::Leap;
 use template_compiler_expression_codegen::compile_expr;
 use template_compiler_numbers::number_names;
-use template_compiler_statement_codegen::{compile_assignment, compile_template};
+use template_compiler_statement_codegen::{compile_assignment, compile_statements};
 use template_tree::{Expr, Span};
 use template_tree_statements::Stmt;
 use template_values_errors::{Error, ErrorKind};
@@ -454,27 +455,29 @@ impl<'source> CodeGenerator<'source> {
         }
     }
 
-    /// Adds the instructions of a whole template. They come from its expressions and statements, whatever line and spans
-    /// are open. Linear in the template, besides what the operators of constant trees cost.
+    /// Adds the instructions of a statement, or of a whole template. They come from its expressions and statements, whatever line
+    /// and spans are open; of a block they are its call, as its body is a stream of its own. Linear in the tree, besides what the
+    /// operators of constant trees cost.
     ///
-    /// Every template that a source has can be given (`templates_run` of `template_compiler_runnable`). One that is made by hand
-    /// must have what each of them has: `break` and `continue` in loops alone, a filter over each body that is filtered, targets
-    /// where values are stored, and expressions as [`CodeGenerator::compile_expr`] takes them.
+    /// Every template that a source has can be given (`templates_run` of `template_compiler_runnable`), and every statement of it that
+    /// is no `break` and no `continue` of a loop around it. A tree that is made by hand must have what each of them has: `break` and
+    /// `continue` in loops alone, a filter over each body that is filtered, targets where values are stored, no template within, and
+    /// expressions as [`CodeGenerator::compile_expr`] takes them.
     ///
     /// # Errors
     ///
     /// As [`CodeGenerator::start_if`].
     pub fn compile_stmt(&mut self, tree: &Stmt<'source>) -> Result<(), Error>
-        requires { IsRunnableTree (statement_of tree.now) }
+        requires { CanStand (statement_of tree.now) }
         ensures added { OnOk result
-            (Generates (statements_code no_ways (body_in (statement_of tree.now))) (draft_of self.old) (draft_of self.new)) }
+            (Generates (statements_code no_ways (statements_of (statement_of tree.now))) (draft_of self.old) (draft_of self.new)) }
         ensures places { OnOk result (MarksBehind (draft_of self.old) (draft_of self.new)) }
         ensures refused { refused_of self.old ≡ None → IfErr result (TakesNoMore (draft_of self.new).code) }
         ensures again { MatchOption (refused_of self.old) (Unit {0}) (λ kind. result ≡ Err (kind ∷ [])) }
         ensures kept { MatchOption (refused_of self.new) (IsOk result) (λ kind. result ≡ Err (kind ∷ [])) }
     {
         self.go_on()?;
-        match compile_template(self.alloc, &mut self.code, tree) {
+        match compile_statements(self.alloc, &mut self.code, statements(tree)) {
             Ok(()) => Ok(()),
             Err(error) => Err(self.refuse(error)),
         }

@@ -4,6 +4,7 @@
 
 ghost use Rattle.template_compiler_generator.specs.Laws.{IfGenerates, ElseGenerates, ChoiceGenerates, LoopGenerates};
 
+mod alone;
 mod blocks;
 mod certificates;
 mod generator;

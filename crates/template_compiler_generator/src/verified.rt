@@ -8,8 +8,8 @@ ghost use Rattle.template_code_shapes.specs.declared.StreamKind.{StreamKind};
 ghost use Rattle.template_compiler_codegen.specs.Statements.{standalone_code, template_code};
 ghost use Rattle.template_compiler_emission.specs.Puts.{NoRoom};
 ghost use Rattle.template_compiler_numbers.specs.Numbers.{numbered_in};
-ghost use Rattle.template_compiler_statement_codegen.specs.Listed.{IsRunnableTree, body_in};
 ghost use Rattle.template_compiler_generator.specs.Acceptance.{ExpressionsAreAccepted, TemplatesAreAccepted};
+ghost use Rattle.template_compiler_generator.specs.Alone.{CanStand, statements_of};
 ghost use Rattle.template_tree_statements.specs.View.{statement_of};
 ghost use Rattle.template_tree.specs.View.{expression_of};
 ghost use Rattle.template_values_errors.specs.Memory.{NoMemory};
@@ -58,8 +58,8 @@ fn accepted<'source>(
     }
 }
 
-/// Generates the instructions of a template with a name and its source, and has them checked. They are accepted, as a
-/// template's: never is `BadStream` told. The tree is one that [`CodeGenerator::compile_stmt`] takes.
+/// Generates the instructions of a template with a name and its source, or of a statement of it, and has them checked. They are
+/// accepted, as a template's: never is `BadStream` told. The tree is one that [`CodeGenerator::compile_stmt`] takes.
 ///
 /// # Errors
 ///
@@ -71,8 +71,8 @@ pub fn verified_template<'source>(
     source: &'source str,
     tree: &Stmt<'source>,
 ) -> Result<Checked<'source>, Error>
-    requires { IsRunnableTree (statement_of tree.now) }
-    ensures code { IfOk result (λ checked. code_in (stream_in checked) ≡ numbered_in (template_code (body_in (statement_of tree.now)))) }
+    requires { CanStand (statement_of tree.now) }
+    ensures code { IfOk result (λ checked. code_in (stream_in checked) ≡ numbered_in (template_code (statements_of (statement_of tree.now)))) }
     ensures kind { IfOk result (λ checked. kind_in checked ≡ StreamKind.Template) }
     ensures file { IfOk result (λ checked. name_in (stream_in checked) ≡ file.now) }
     ensures source { IfOk result (λ checked. source_in (stream_in checked) ≡ source.now) }

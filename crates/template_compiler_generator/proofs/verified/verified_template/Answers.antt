@@ -5,15 +5,15 @@ use Rattle.template_code_shapes.specs.Streams.{IsGood}
 use Rattle.template_code_shapes.specs.declared.StreamKind.TheVariants.{Template}
 use Rattle.template_compiler_generator.specs.Drafts.{Draft}
 use Rattle.template_compiler_generator.specs.View.{draft_of}
-use Rattle.template_compiler_statement_codegen.specs.Listed.{body_in}
+use Rattle.template_compiler_generator.specs.Alone.{statements_of}
 use Rattle.template_tree_statements.specs.View.{statement_of}
-use Rattle.template_compiler_generator.proofs.Accepted.{no_room, runnable_body, told_stream, told_template}
+use Rattle.template_compiler_generator.proofs.Accepted.{no_room, told_stream, told_template}
 use Rattle.template_compiler_generator.proofs.verified.verified_template.Goals as goal
 
 pub accepted-requires : goal.accepted-requires
 accepted-requires c =
     let s = statement_of c.args.tree.now in
-    let good = c.templates_are_accepted.ensures (body_in s) (runnable_body s c.requires) (draft_of c.new-generator.result) (draft_of c.compile_stmt.new.self)
+    let good = c.templates_are_accepted.ensures (statements_of s) c.requires (draft_of c.new-generator.result) (draft_of c.compile_stmt.new.self)
     (ap (λ (d : Draft). d.code) c.new-generator.ensures.draft) c.in_ok-compile_stmt.ensures.added in
     let P : List Code → Type 0 = λ code. IsGood Template code in
     (Template, subst P (sym c.in_ok-instructions.ensures.code) good)
@@ -21,7 +21,7 @@ accepted-requires c =
 pub returns-clause-kind : goal.returns-clause-kind
 returns-clause-kind c =
     let s = statement_of c.args.tree.now in
-    let good = c.templates_are_accepted.ensures (body_in s) (runnable_body s c.requires) (draft_of c.new-generator.result) (draft_of c.compile_stmt.new.self)
+    let good = c.templates_are_accepted.ensures (statements_of s) c.requires (draft_of c.new-generator.result) (draft_of c.compile_stmt.new.self)
     (ap (λ (d : Draft). d.code) c.new-generator.ensures.draft) c.in_ok-compile_stmt.ensures.added in
     let P : List Code → Type 0 = λ code. IsGood Template code in
     told_template c.accepted.result (code_in c.in_ok-instructions.instructions) (subst P (sym c.in_ok-instructions.ensures.code) good) c.accepted.ensures.first
