@@ -24,6 +24,10 @@ pub use Rattle.template_compiler_grammar.specs.Grammar as ExpressionGrammar
 pub use Rattle.template_compiler_grammar.specs.TemplateGrammar
 pub use Rattle.template_compiler_grammar.specs.TemplateReader as StatementReader
 pub use Rattle.template_compiler_tokens.specs.Blame
+pub use Rattle.template_compiler_stream.specs.Left as ReadTokens
+pub use Rattle.template_compiler_stream.specs.Spans as ReadSpans
+pub use Rattle.template_compiler_source_tokens.specs.Spelled
+pub use Rattle.template_compiler_source_tokens.specs.Kinds as RefusalKinds
 pub use Rattle.template_compiler_sources.specs.Source
 pub use Rattle.template_compiler_sources.specs.Parsers
 pub use Rattle.template_names.specs.Names as UsedNames
@@ -58,6 +62,7 @@ pub use Rattle.template_compiler_numbers.specs.Numbers
 pub use Rattle.template_compiler_numbers.specs.Laws as NumberLaws
 pub use Rattle.template_compiler_emission.specs.Puts
 pub use Rattle.template_compiler_statement_codegen.specs.Listed
+pub use Rattle.template_compiler_generator.specs.Alone
 pub use Rattle.template_compiler_generator.specs.Drafts
 pub use Rattle.template_compiler_generator.specs.View as DraftView
 pub use Rattle.template_compiler_generator.specs.Laws as DraftLaws

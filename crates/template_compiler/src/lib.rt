@@ -19,6 +19,8 @@
 //! - [`SyntaxConfig::builder`] takes other delimiters, and prefixes of line statements and comments;
 //!   [`SyntaxConfigBuilder::build`] refuses exactly those that are empty or cannot be told apart.
 //! - A [`Tokenizer`] gives the tokens of a source, one after another; a [`TokenStream`] looks one ahead.
+//!   [`read_expression_tokens`] reads those of an expression's source into [`ExpressionTokens`], which
+//!   [`ExpressionTokens::take`] gives one by one, each with its place; [`error_of`] makes an error of its [`Refusal`].
 //! - [`parse`] accepts exactly the texts that have a tree in the grammar, and gives that tree;
 //!   [`parse_expr`] does so for an expression. The nodes stand in [`ast`]; they borrow their texts from the
 //!   source, and each knows its [`ast::Span`].
@@ -65,8 +67,10 @@ pub use template_compiler_generator::{CodeGenerator, blocks_generate};
 pub use template_compiler_grammar_laws::templates::{is_decided, one_template, reads_the_grammar};
 pub use template_compiler_numbers::{number_names, numbers_run_alike};
 pub use template_compiler_runnable::{expressions_run, templates_run};
+pub use template_compiler_source_tokens::{error_of, read_expression_tokens};
 pub use template_compiler_sources::{Parser, parse, parse_expr};
 pub use template_compiler_statement_codegen::{compile_expr, compile_template};
+pub use template_compiler_stream::{Fault, First, Refusal, TokenStream as ExpressionTokens};
 pub use template_compiler_syntax::{StartMarker, SyntaxConfig, SyntaxConfigBuilder};
 pub use template_compiler_tokenizer::{TokenStream, Tokenizer};
 pub use template_compiler_tokens::{Token, Tokens, one_token};
