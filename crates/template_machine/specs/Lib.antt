@@ -71,11 +71,14 @@ pub use Rattle.template_machine_renders.specs.Plans as BlockPlans
 pub use Rattle.template_compiler_syntax.specs.Syntax
 pub use Rattle.template_names.specs.Names as UsedNames
 pub use Rattle.template_compiled.specs.Sources
+pub use Rattle.template_compiled.specs.Compiled
 pub use Rattle.template_compiled.specs.Expressions as ExpressionSources
 pub use Rattle.template_compiled.specs.Plain as PlainSources
 pub use Rattle.template_environment.specs.Isolation
 pub use Rattle.template_environment.specs.Outcomes
 pub use Rattle.template_environment.specs.Escaped
+pub use Rattle.template_machine_operations.specs.Modules as ModuleValues
+pub use Rattle.template_output.specs.Captures as OutputCaptures
 pub use Rattle.template_machine_operations.specs.Ranges
 pub use Rattle.template_environment.specs.Runnable
 pub use Rattle.template_environment.specs.Renders

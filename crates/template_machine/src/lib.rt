@@ -28,6 +28,8 @@
 //! - [`Template::render`] gives its text over a context, and [`Template::render_captured_to`] writes it into a
 //!   [`Sink`]: a `String`, a [`WriteWrapper`] over a writer, or a [`NullWriter`]. [`Captured`] is what a render
 //!   leaves, with its [`State`], which knows the names that were stored.
+//! - An [`Output`] is a sink with captures over it: [`Output::write_str`] writes a text, and [`Output::write_escaped`] that of a
+//!   value under an escape.
 //! - [`State::render_block`] gives the text of a block over what a render left, and [`State::render_block_to_write`] writes
 //!   it into a [`Sink`]; [`State::get_template`] finds the template that a name means there.
 //! - [`Environment::render_str`] renders a source that does not stand.
@@ -70,41 +72,107 @@
 //! [`every_expression_gives`] that it stays so where the value is handed out.
 #![tactic(auto)]
 
-pub use template_callables::{
-    Answer, CallView, Callable, Either, Extension, FormatAnswer, Formatter, Further, NoCallable,
-    NoExtension, NoFormatter, NoJoin, NoMethod, PathJoin, Temps, UnknownMethod, copy_all,
-};
+pub use template_callables::Answer;
+pub use template_callables::CallView;
+pub use template_callables::Callable;
+pub use template_callables::Either;
+pub use template_callables::Extension;
+pub use template_callables::FormatAnswer;
+pub use template_callables::Formatter;
+pub use template_callables::Further;
+pub use template_callables::NoCallable;
+pub use template_callables::NoExtension;
+pub use template_callables::NoFormatter;
+pub use template_callables::NoJoin;
+pub use template_callables::NoMethod;
+pub use template_callables::PathJoin;
+pub use template_callables::Temps;
+pub use template_callables::UnknownMethod;
+pub use template_callables::copy_all;
 pub use template_code::CaptureMode;
 pub use template_code_blocks::CompiledBlock;
-pub use template_code_checked::{Checked, verify};
-pub use template_code_shapes::{StreamKind, certified_is_good, good_ends_well, good_goes_on};
-pub use template_compiler_syntax::{StartMarker, SyntaxConfig, SyntaxConfigBuilder};
-pub use template_environment::{
-    Captured, Environment, Expression, State, Template, UsesState, escape_formatter,
-    every_block_ends, every_call_ends, every_expression_runs, every_render_ends,
-    every_template_runs, isolated_renders, none_ask_names, plain_renders, undeclared_names_matter,
-};
+pub use template_code_checked::Checked;
+pub use template_code_checked::verify;
+pub use template_code_shapes::StreamKind;
+pub use template_code_shapes::certified_is_good;
+pub use template_code_shapes::good_ends_well;
+pub use template_code_shapes::good_goes_on;
+pub use template_compiled::CompiledTemplate;
+pub use template_compiled::TemplateConfig;
+pub use template_compiler_syntax::StartMarker;
+pub use template_compiler_syntax::SyntaxConfig;
+pub use template_compiler_syntax::SyntaxConfigBuilder;
+pub use template_environment::Captured;
+pub use template_environment::Environment;
+pub use template_environment::Expression;
+pub use template_environment::State;
+pub use template_environment::Template;
+pub use template_environment::UsesState;
+pub use template_environment::escape_formatter;
+pub use template_environment::every_block_ends;
+pub use template_environment::every_call_ends;
+pub use template_environment::every_expression_runs;
+pub use template_environment::every_render_ends;
+pub use template_environment::every_template_runs;
+pub use template_environment::isolated_renders;
+pub use template_environment::none_ask_names;
+pub use template_environment::plain_renders;
+pub use template_environment::undeclared_names_matter;
 pub use template_machine_blocks::BlockStack;
-pub use template_machine_frames::{Closures, Context, Frame, LoopState};
+pub use template_machine_frames::Closures;
+pub use template_machine_frames::Context;
+pub use template_machine_frames::Frame;
+pub use template_machine_frames::LoopState;
 pub use template_machine_fuel::FuelTracker;
 pub use template_machine_globals::Globals;
 pub use template_machine_items::Items;
-pub use template_machine_meaning::{
-    every_evaluation_gives, every_expression_gives, every_run_ends, expression_faults_are_meant,
-    expression_isolation, faults_are_meant, isolation, one_meaning,
-};
+pub use template_machine_meaning::every_evaluation_gives;
+pub use template_machine_meaning::every_expression_gives;
+pub use template_machine_meaning::every_run_ends;
+pub use template_machine_meaning::expression_faults_are_meant;
+pub use template_machine_meaning::expression_isolation;
+pub use template_machine_meaning::faults_are_meant;
+pub use template_machine_meaning::isolation;
+pub use template_machine_meaning::one_meaning;
 pub use template_machine_operands::Operands as Stack;
-pub use template_machine_operations::{dict, range};
-pub use template_machine_output::{NullWriter, Sink, SinkFault, WriteWrapper, Writer, write_text};
-pub use template_machine_state::{
-    Behind, Body, Caller, Home, MacroRecord as Macro, Rounds, State as MachineState, Stream,
-};
-pub use template_machine_surroundings::{
-    AutoEscapeRule, EscapeRule, NoRule, StateIds, default_auto_escape_callback, one_escape,
-    one_rule,
-};
-pub use template_process::{enough_is_enough, fuel_adds_up, writes_beginning};
-pub use template_values_contexts::{ContextError, Floats, context_from_json_with};
-pub use template_values_core::{Content, Entry, Value};
-pub use template_values_errors::{AutoEscape, Error, ErrorKind, Place, UndefinedBehavior};
-pub use template_values_json::{context_from_json, entries_from_json};
+pub use template_machine_operations::dict;
+pub use template_machine_operations::module_from;
+pub use template_machine_operations::range;
+pub use template_machine_output::NullWriter;
+pub use template_machine_output::Sink;
+pub use template_machine_output::SinkFault;
+pub use template_machine_output::WriteWrapper;
+pub use template_machine_output::Writer;
+pub use template_machine_output::write_text;
+pub use template_machine_state::Behind;
+pub use template_machine_state::Body;
+pub use template_machine_state::Caller;
+pub use template_machine_state::Home;
+pub use template_machine_state::MacroRecord as Macro;
+pub use template_machine_state::Rounds;
+pub use template_machine_state::State as MachineState;
+pub use template_machine_state::Stream;
+pub use template_machine_surroundings::AutoEscapeRule;
+pub use template_machine_surroundings::EscapeRule;
+pub use template_machine_surroundings::NoRule;
+pub use template_machine_surroundings::StateIds;
+pub use template_machine_surroundings::default_auto_escape_callback;
+pub use template_machine_surroundings::one_escape;
+pub use template_machine_surroundings::one_rule;
+pub use template_output::Output;
+pub use template_process::enough_is_enough;
+pub use template_process::fuel_adds_up;
+pub use template_process::writes_beginning;
+pub use template_values_contexts::ContextError;
+pub use template_values_contexts::Floats;
+pub use template_values_contexts::context_from_json_with;
+pub use template_values_core::Content;
+pub use template_values_core::Entry;
+pub use template_values_core::Value;
+pub use template_values_errors::AutoEscape;
+pub use template_values_errors::Error;
+pub use template_values_errors::ErrorKind;
+pub use template_values_errors::Place;
+pub use template_values_errors::UndefinedBehavior;
+pub use template_values_json::context_from_json;
+pub use template_values_json::entries_from_json;
