@@ -4,7 +4,6 @@ use Rattle.std.specs.Option.{option_map}
 use Rattle.std.proofs.lemmas.Option.{none-some, same_Some}
 use Rattle.template_tree.specs.Tree.{Expression, Expressions, no_expressions, expressions_more, Optional, absent, given, Statement, Statements, no_statements, statements_more, Imports, no_imports, imports_more}
 use Rattle.template_compiler_tokens.specs.Token.{Token, TokenFault}
-use Rattle.template_compiler_segments.proofs.Theorems.{some_tokens}
 use Rattle.template_compiler_grammar.specs.TemplateGrammar.{Around, IsStored, stored, IsMore, more_end, more_next, IsImport, same_name, other_name, IsParameter, plain_parameter, default_parameter, IsParameters, none_declared, some_declared, IsOptionalParameters, not_declared, declared, IsStatements, statements_end, statements_next, IsStatement, text_statement, print_statement, for_statement, if_statement, with_statement, set_statement, set_block_statement, autoescape_statement, filter_statement, block_statement, import_statement, from_statement, extends_statement, include_statement, macro_statement, call_statement, do_statement, break_statement, continue_statement, IsBranches, branches_end, branches_next, IsElse, no_else, an_else, IsTemplate, whole_template}
 use Rattle.template_compiler_grammar.specs.TemplateReader.{template_of}
 use Rattle.template_compiler_grammar.specs.Trees.{and_expression}
@@ -13,7 +12,7 @@ use Rattle.template_compiler_grammar_laws.proofs.TemplatesSound.{template_sound}
 use Rattle.template_machine_meaning.specs.Isolation.{IsName, AreNames, AreAllNames, ImportsNamesAt, ImportsNames}
 use Rattle.template_machine_meaning.specs.Meaning.{Standing}
 use Rattle.template_compiled.specs.Compiled.{Compiled, standing_of}
-use Rattle.template_compiled.specs.Sources.{Source, read, tree_in}
+use Rattle.template_compiled.specs.Sources.{Source, read, tokens_read, tree_in}
 use Rattle.template_compiled.specs.Standing.{compiled_at}
 use Rattle.template_environment.specs.Extras.{Brought}
 use Rattle.template_environment.specs.Standing.{setting_of}
@@ -122,7 +121,7 @@ read_imports ts (Err fault) is = tt
 
 pub source_imports : (source : Source) → ImportsNames (tree_in source)
 unfolding tree_in
-source_imports source = let ts = (some_tokens source.syntax source.text).0 in read_imports ts (template_of ts) refl
+source_imports source = read_imports (tokens_read source) (template_of (tokens_read source)) refl
 
 there_imports : (o : Option Compiled) (t : Standing) → option_map standing_of o ≡ Some t → ImportsNames t.tree
 there_imports None t at = absurd (none-some _ at)

@@ -68,7 +68,7 @@ impl<'env, 'source, E: Extension> Drop for State<'env, 'source, E> {
 
 impl<'env, 'source, E: Extension> State<'env, 'source, E> {
     ghost use Rattle.template_environment.specs.Standing.{settings_of, source_at};
-    ghost use Rattle.template_environment.specs.States.{DoesThere, EndsIn, GivesPrinted, GivesTold, IsMissing, KeepsRest, KeepsState, LeavesWorld, around_in, block_in, call_in, environment_in, format_in, frameless, fuel_left_in, fuel_set_in, head_of_template, id_in, joined_in, macro_in, name_in, template_in, worded_in, world_in};
+    ghost use Rattle.template_environment.specs.States.{DoesThere, EndsIn, GivesPrinted, GivesTold, IsMissing, KeepsLoaded, KeepsRest, KeepsState, LeavesWorld, around_in, block_in, call_in, environment_in, format_in, frameless, fuel_left_in, fuel_set_in, head_of_template, id_in, joined_in, macro_in, name_in, template_in, worded_in, world_in};
     ghost use Rattle.template_environment.specs.Views.{environment_of, name_of, source_of};
 
     // A state without frames, of a template if one is given, with its escape and blocks, that has consumed no fuel.
@@ -486,6 +486,9 @@ impl<'env, 'source, E: Extension> State<'env, 'source, E> {
         ensures frames { (world_in self.new).frames ≡ (world_in self.old).frames }
         ensures places { KeepsBodies (world_in self.old).blocks (world_in self.new).blocks }
 
+        // The names of what was loaded before are kept, with others before them at most.
+        ensures loaded { KeepsLoaded (world_in self.old) (world_in self.new) }
+
         // What else was open is so again.
         ensures put_back { PutsBack (world_in self.old) (world_in self.new) }
         ensures rest { KeepsState self.old self.new }
@@ -525,6 +528,9 @@ impl<'env, 'source, E: Extension> State<'env, 'source, E> {
         // Whatever its end, the frames are as before, and the blocks run the bodies that they ran, with others behind them at most.
         ensures frames { (world_in self.new).frames ≡ (world_in self.old).frames }
         ensures places { KeepsBodies (world_in self.old).blocks (world_in self.new).blocks }
+
+        // The names of what was loaded before are kept, with others before them at most.
+        ensures loaded { KeepsLoaded (world_in self.old) (world_in self.new) }
 
         // What else was open is so again.
         ensures put_back { PutsBack (world_in self.old) (world_in self.new) }

@@ -34,6 +34,9 @@ returns-in-Ok-clause-rest g c = record { environment = refl; template = refl; id
 pub returns-in-Ok-clause-places : goal.returns-in-Ok-clause-places
 returns-in-Ok-clause-places g c = c.run_block-done.ensures.keeps.blocks
 
+pub returns-in-Ok-clause-loaded : goal.returns-in-Ok-clause-loaded
+returns-in-Ok-clause-loaded g c = c.run_block-done.ensures.keeps.loaded
+
 pub returns-in-Ok-clause-world : goal.returns-in-Ok-clause-world
 returns-in-Ok-clause-world g c =
     let self = c.args.self.now in
@@ -82,6 +85,9 @@ returns-clause-rest g c = record { environment = refl; template = refl; id = ref
 
 pub returns-clause-places : goal.returns-clause-places
 returns-clause-places g c = c.run_block-done.ensures.keeps.blocks
+
+pub returns-clause-loaded : goal.returns-clause-loaded
+returns-clause-loaded g c = c.run_block-done.ensures.keeps.loaded
 
 -- every block ends
 pub returns-in-Ok-clause-finished : goal.returns-in-Ok-clause-finished
