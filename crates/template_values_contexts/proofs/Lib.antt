@@ -1,4 +1,3 @@
 pub mod Documents
 pub mod Levels
 pub mod Steps
-pub mod Wholes

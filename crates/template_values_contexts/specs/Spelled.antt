@@ -1,14 +1,9 @@
 -- The value of JSON whose numbers are kept as they are spelled.
-use Rattle.std.specs.Prelude.{ℕ, ℤ, List, [], ◌∷◌, Option, option_and_then, option_map, unwrap_or}
+use Rattle.std.specs.Prelude.{ℕ, List, [], ◌∷◌, option_map, unwrap_or}
 use Rattle.json.specs.Json.{Json, null, boolean, number, string, array, object, Items, no_items, item, Members, no_members, member}
-use Rattle.serde_json.specs.Find.{as_integer}
-use Rattle.serde_json.specs.Read.{number_of}
 use Rattle.template_values_model.specs.Val.{Val, Vals, none, truth, int, text, list, map, no_vals, vals_more}
 use Rattle.template_values_core.specs.Maps.{collected}
-
--- a whole number of 64 bits, where the digits are read as one
-abbrev pub whole_in : List ℕ → Option ℤ
-whole_in s = option_and_then as_integer (number_of s)
+pub use Rattle.template_values_json.specs.Whole.{whole_in}
 
 -- another number is the text that spells it
 unfoldable pub number_value : List ℕ → Val

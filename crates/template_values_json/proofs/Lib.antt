@@ -1,8 +1,13 @@
+pub mod Documented
 pub mod Documents
 pub mod Last
 pub mod Levels
 pub mod Made
 pub mod Named
+pub mod Nested
 pub mod Plain
 pub mod Rising
 pub mod Steps
+pub mod Turns
+pub mod Whole
+pub mod Wholes

@@ -20,10 +20,10 @@ pub plain_push : (es : List Entry) (e : Entry) → IsPlainText e.key → depth e
 plain_push [] e key value h = (key, value, tt)
 plain_push (first ∷ es) e key value h = (h.0, h.1, plain_push es e key value h.2)
 
-same_pair : (p q : Val × Val) (ps qs : List (Val × Val)) → p ∷ ps ≡ q ∷ qs → p ≡ q
+pub same_pair : (p q : Val × Val) (ps qs : List (Val × Val)) → p ∷ ps ≡ q ∷ qs → p ≡ q
 same_pair p q ps qs are = cc
 
-same_later : (p q : Val × Val) (ps qs : List (Val × Val)) → p ∷ ps ≡ q ∷ qs → ps ≡ qs
+pub same_later : (p q : Val × Val) (ps qs : List (Val × Val)) → p ∷ ps ≡ q ∷ qs → ps ≡ qs
 same_later p q ps qs are = cc
 
 -- entries of members

@@ -1,13 +1,17 @@
 //! A JSON object as a context, and as the entries of a map.
-ghost use Rattle.std.specs.Prelude.{◌≡◌, ◌≤◌, ◌⊎◌, [], ◌∷◌, None, Some, IfOk, IfErr, option_map};
+ghost use Rattle.std.specs.Prelude.{◌≡◌, ◌≤◌, ◌⊎◌, [], ◌∷◌, None, Some, IfOk, IfErr, IfSome, option_map};
 ghost use Rattle.serde_json.specs.Data.{depth as nesting};
 ghost use Rattle.serde_json.specs.Errors.{IsMemory};
 ghost use Rattle.serde_json.specs.Read.{max_depth};
 ghost use Rattle.serde_json.specs.View.{view};
 ghost use Rattle.template_values_errors.specs.Memory.{NoMemory};
+ghost use Rattle.template_values_model.specs.Val.{map};
+ghost use Rattle.template_values_core.specs.Maps.{collected};
+ghost use Rattle.template_values_core.specs.Shape.{pairs_in};
 ghost use Rattle.template_values_json.specs.Json.{data_in, fault_of_data, fault_of_top, fault_in, value_of, IsRefusal};
 ghost use Rattle.template_values_json.specs.Entries.{SayData, SayMembers, ArePlain};
 
+use crate::direct::entries_of_text;
 use crate::values::{entries_from, value_from};
 use serde_json::Value as Json;
 use std::alloc::Global;
@@ -34,7 +38,10 @@ pub fn context_from_json(alloc: Global, bytes: &[u8]) -> Result<Value, Error>
     ensures is { IfOk result (λ v. option_map value_of (data_in bytes.now) ≡ Some v) }
     ensures refused { IfErr result (IsRefusal (fault_in bytes.now)) }
 {
-    object_value(alloc, read_document(alloc, bytes)?)
+    match whole_entries(alloc, bytes)? {
+        Some(entries) => Value::from_map(alloc, entries),
+        None => object_value(alloc, read_document(alloc, bytes)?),
+    }
 }
 
 /// One entry for each member of the JSON object that the bytes are, for a map that has more entries: a
@@ -49,7 +56,42 @@ pub fn entries_from_json(alloc: Global, bytes: &[u8]) -> Result<Vec<Entry>, Erro
     ensures plain { IfOk result (λ es. ArePlain es.items) }
     ensures refused { IfErr result (IsRefusal (fault_in bytes.now)) }
 {
-    object_entries(alloc, read_document(alloc, bytes)?)
+    match whole_entries(alloc, bytes)? {
+        Some(entries) => Ok(entries),
+        None => object_entries(alloc, read_document(alloc, bytes)?),
+    }
+}
+
+/// One entry for each member of the object that the bytes are, where each number in it is whole. It is what most documents are, and
+/// is read with no tree of it. Of any other one the tree tells what it is, or why it is refused.
+fn whole_entries(alloc: Global, bytes: &[u8]) -> Result<Option<Vec<Entry>>, Error>
+    ensures faultless { IfOk result (λ found. IfSome found (λ _. fault_in bytes.now ≡ None)) }
+    ensures is { IfOk result (λ found. IfSome found
+        (λ es. option_map value_of (data_in bytes.now) ≡ Some (map (collected (pairs_in es.items))))) }
+    ensures says { IfOk result (λ found. IfSome found (λ es. SayMembers bytes.now es.items)) }
+    ensures plain { IfOk result (λ found. IfSome found (λ es. ArePlain es.items)) }
+    ensures refused { IfErr result NoMemory }
+{
+    let Ok(text) = simdutf8::compat::from_utf8(bytes) else {
+        return Ok(None);
+    };
+    match entries_of_text(alloc, text) {
+        Ok(entries) => Ok(Some(entries)),
+        Err(error) => {
+            refuse_memory(&error)?;
+            Ok(None)
+        }
+    }
+}
+
+/// Refuses where memory was refused, and nothing else.
+fn refuse_memory(error: &Error) -> Result<(), Error>
+    ensures { IfErr result NoMemory }
+{
+    match error.kind() {
+        ErrorKind::OutOfMemory => Err(Error::new(ErrorKind::OutOfMemory)),
+        _ => Ok(()),
+    }
 }
 
 /// What the bytes are as JSON.
@@ -86,7 +128,7 @@ fn object_entries(alloc: Global, document: Json) -> Result<Vec<Entry>, Error>
     ensures refused { IfErr result (IsRefusal (fault_of_data (Some (view document)))) }
 {
     match document {
-        Json::Object(members) => entries_from(alloc, members, &[]),
+        Json::Object(members) => entries_from(alloc, members),
         other => Err(refusal_without_object(alloc, other)),
     }
 }
@@ -99,7 +141,7 @@ fn object_value(alloc: Global, document: Json) -> Result<Value, Error>
     ensures refused { IfErr result (IsRefusal (fault_of_data (Some (view document)))) }
 {
     match document {
-        Json::Object(_) => value_from(alloc, document, None),
+        Json::Object(_) => value_from(alloc, document),
         other => Err(refusal_without_object(alloc, other)),
     }
 }
@@ -110,7 +152,7 @@ fn refusal_without_object(alloc: Global, document: Json) -> Error
     requires other { fault_of_top (view document) ≡ Some ErrorKind.InvalidOperation }
     ensures { IsRefusal (fault_of_data (Some (view document))) result }
 {
-    match value_from(alloc, document, None) {
+    match value_from(alloc, document) {
         Ok(_value) => Error::new(ErrorKind::InvalidOperation),
         Err(error) => error,
     }

@@ -11,29 +11,24 @@ ghost use Rattle.template_values_json_leaves.specs.Leaves.{IsFloatRefusal};
 ghost use Rattle.template_values_json.specs.Json.{value_of, values_of, named_values};
 ghost use Rattle.template_values_json.specs.Entries.{SayData};
 
-use crate::names::{entries_of, first_of, key_of, value_in};
 use serde_json::{Map, Value as Json};
 use std::alloc::Global;
 use template_values_core::{Entry, Value};
 use template_values_errors::Error;
 use template_values_json_leaves::value_of_leaf;
 
-/// The value that the JSON stands for, moving its texts, where no float stands in it. A name that `like` has at the same
-/// place is shared with it: rows of a table mostly have the names of the row before.
+/// The value that the JSON stands for, moving its texts, where no float stands in it.
 #[cycle(values)]
 #[inline(always)]
-pub(crate) fn value_from(alloc: Global, json: Json, like: Option<&Value>) -> Result<Value, Error>
+pub(crate) fn value_from(alloc: Global, json: Json) -> Result<Value, Error>
     requires shallow { depth (view json) ≤ max_depth }
     ensures whole { IfOk result (λ _. has_float (view json) ≡ false) }
     ensures is { IfOk result (λ v. v ≡ value_of (view json)) }
     ensures refused { IfErr result (IsFloatRefusal (has_float (view json))) }
 {
     match json {
-        Json::Array(items) => Value::from_list(alloc, values_from(alloc, items, first_of(like))?),
-        Json::Object(members) => Value::from_rising_entries(
-            alloc,
-            entries_from(alloc, members, entries_of(like))?,
-        ),
+        Json::Array(items) => Value::from_list(alloc, values_from(alloc, items)?),
+        Json::Object(members) => Value::from_rising_entries(alloc, entries_from(alloc, members)?),
         leaf => value_of_leaf(leaf),
     }
 }
@@ -41,7 +36,7 @@ pub(crate) fn value_from(alloc: Global, json: Json, like: Option<&Value>) -> Res
 /// The values of the items.
 #[cycle(values)]
 #[inline(never)]
-fn values_from(alloc: Global, items: Vec<Json>, like: Option<&Value>) -> Result<Vec<Value>, Error>
+fn values_from(alloc: Global, items: Vec<Json>) -> Result<Vec<Value>, Error>
     requires shallow { items_depth (items_view items.items) < max_depth }
     ensures whole { IfOk result (λ _. items_have_float (items_view items.items) ≡ false) }
     ensures are { IfOk result (λ vs. vals_of vs.items ≡ values_of (items_view items.items)) }
@@ -49,7 +44,7 @@ fn values_from(alloc: Global, items: Vec<Json>, like: Option<&Value>) -> Result<
 {
     let mut values = Vec::with_capacity(alloc, items.len())?;
     for item in items {
-        let value = value_from(alloc, item, values.last().or(like))?;
+        let value = value_from(alloc, item)?;
         values.push(value)?;
     }
     Ok(values)
@@ -58,11 +53,7 @@ fn values_from(alloc: Global, items: Vec<Json>, like: Option<&Value>) -> Result<
 /// One entry for each member, in the order of their names.
 #[cycle(values)]
 #[inline(never)]
-pub(crate) fn entries_from(
-    alloc: Global,
-    members: Map<String, Json>,
-    like: &[Entry],
-) -> Result<Vec<Entry>, Error>
+pub(crate) fn entries_from(alloc: Global, members: Map<String, Json>) -> Result<Vec<Entry>, Error>
     requires shallow { members_depth (members_view members.entries) < max_depth }
     ensures whole { IfOk result (λ _. members_have_float (members_view members.entries) ≡ false) }
     ensures are { IfOk result (λ es. pairs_in es.items ≡ named_values (members_view members.entries)) }
@@ -72,9 +63,8 @@ pub(crate) fn entries_from(
 {
     let mut entries = Vec::with_capacity(alloc, members.len())?;
     for (name, member) in members {
-        let before = like.get(entries.len());
-        let key = key_of(name, before)?;
-        let value = value_from(alloc, member, value_in(before))?;
+        let key = Value::from_text(name)?;
+        let value = value_from(alloc, member)?;
         entries.push(Entry { key, value })?;
     }
     Ok(entries)

@@ -1,0 +1,92 @@
+//! What a value shares with the one that stood in its place in the row before. Which value that is makes no difference to what is read.
+ghost use Rattle.std.specs.Prelude.{◌≡◌, IfErr, IfOk};
+ghost use Rattle.template_values_errors.specs.Memory.{NoMemory};
+ghost use Rattle.template_values_model.specs.Val.{text};
+
+use std::alloc::Global;
+use std::cmp::Ordering;
+use template_values_core::{Content, Entry, Value, is_same};
+use template_values_errors::Error;
+
+/// A plain text: that of `like`, shared, where that is the same.
+#[inline(always)]
+pub(crate) fn text_of(alloc: Global, bytes: &str, like: Option<&Value>) -> Result<Value, Error>
+    ensures made { IfOk result (λ v. v ≡ text bytes.now) }
+    ensures refused { IfErr result NoMemory }
+{
+    if let Some(value) = like {
+        if let Content::Text(before) = value.content() {
+            if is_same(before, bytes) {
+                return value.copy();
+            }
+        }
+    }
+    Value::from_str(alloc, bytes)
+}
+
+/// The entry of a name in a map whose entries these are: mostly the one at this place.
+#[inline(always)]
+pub(crate) fn entry_like<'a>(entries: &'a [Entry], place: usize, name: &str) -> Option<&'a Entry> {
+    let entry = entries.get(place)?;
+    if is_named(entry, name) {
+        return Some(entry);
+    }
+    entry_named(entries, name)
+}
+
+fn is_named(entry: &Entry, name: &str) -> bool {
+    match entry.key.as_str() {
+        Some(key) => is_same(key, name),
+        None => false,
+    }
+}
+
+// Takes log n comparisons for n entries.
+fn entry_named<'a>(entries: &'a [Entry], name: &str) -> Option<&'a Entry> {
+    let place = entries.binary_search_by(|entry| compare(entry, name)).ok()?;
+    entries.get(place)
+}
+
+// How the key of an entry compares with a name.
+fn compare(entry: &Entry, name: &str) -> Ordering {
+    match entry.key.as_str() {
+        Some(key) => key.cmp(name),
+        None => Ordering::Less,
+    }
+}
+
+/// The entries of a map.
+#[inline(always)]
+pub(crate) fn entries_of(like: Option<&Value>) -> &[Entry] {
+    match like {
+        Some(value) => value.entries().unwrap_or(&[]),
+        None => &[],
+    }
+}
+
+/// The first item of a list.
+#[inline(always)]
+pub(crate) fn first_of(like: Option<&Value>) -> Option<&Value> {
+    match like {
+        Some(value) => value.items()?.first(),
+        None => None,
+    }
+}
+
+/// The key of an entry.
+#[inline(always)]
+pub(crate) fn key_in(like: Option<&Entry>) -> Option<&Value> {
+    match like {
+        Some(entry) => Some(&entry.key),
+        None => None,
+    }
+}
+
+/// The value of an entry.
+#[inline(always)]
+pub(crate) fn value_in(like: Option<&Entry>) -> Option<&Value> {
+    match like {
+        Some(entry) => Some(&entry.value),
+        None => None,
+    }
+}
