@@ -11,9 +11,10 @@ use Rattle.clap.specs.declared.parser.matches.ArgMatches.TheViews.{out-ArgMatche
 use Rattle.template_values_errors.specs.declared.modes.UndefinedBehavior.{UndefinedBehavior}
 use Rattle.template_program_words.specs.declared.escapes.EscapeWord.{EscapeWord}
 use Rattle.template_program_words.specs.Escapes.{escape_of}
+use Rattle.template_program_words.specs.Floats.{floats_of}
 use Rattle.template_program_words.specs.Modes.{mode_of}
-use Rattle.template_program_words.specs.Reading.{ReadsNumber, is_set, values_of}
-use Rattle.template_program_words.specs.Refusals.{IsWordsFault, IsUsage, NamesNone, RefusesFor, RefusesWords, RefusesDefinitions, RefusesRender}
+use Rattle.template_program_words.specs.Reading.{ReadsNumber, is_set}
+use Rattle.template_program_words.specs.Refusals.{IsWordsFault, IsUsage, LacksOneSign, LacksSign, NamesNone, RefusesFor, RefusesWords, RefusesDefinitions, RefusesRender}
 use Rattle.template_program_words.specs.declared.faults.WordsFault.{WordsFault}
 use Rattle.template_program_words.specs.declared.faults.WordsFault.TheVariants.{Memory, Help, Version, Usage, Definition}
 
@@ -87,19 +88,20 @@ RefusesRender-none Reason rows (Usage text) is h = is h
 RefusesRender-none Reason rows Definition is h = absurd h
 
 -- an option has a value that is one of those that it takes
-pub names_some : (rows : List Row) (mode : UndefinedBehavior) (escape : EscapeWord)
+pub names_some : (rows : List Row) (mode : UndefinedBehavior) (escape : EscapeWord) (texts : Bool)
     → mode_of (first_of (codes "undefined") rows) ≡ Some mode → escape_of (first_of (codes "autoescape") rows) ≡ Some escape
-    → ¬ (NamesNone rows)
-names_some rows mode escape mode_is escape_is = λ none. elim none [ inl n ↦ cc | inr n ↦ cc ]
+    → floats_of (first_of (codes "floats") rows) ≡ Some texts → ¬ (NamesNone rows)
+names_some rows mode escape texts mode_is escape_is texts_is =
+    λ none. elim none [ inl n ↦ cc | inr n ↦ elim n [ inl m ↦ cc | inr m ↦ cc ] ]
 
 -- and a definition with no `=` is refused where each option has such a value
-pub RefusesRender-definitions : (rows : List Row) (fault : WordsFault) → ¬ (NamesNone rows)
-    → RefusesDefinitions (values_of (codes "definition") rows) fault → RefusesRender rows fault
-RefusesRender-definitions rows Memory some h = tt
-RefusesRender-definitions rows (Help text) some h = absurd h
-RefusesRender-definitions rows (Version text) some h = absurd h
-RefusesRender-definitions rows (Usage text) some h = absurd h
-RefusesRender-definitions rows Definition some h = (some, h)
+pub RefusesRender-definitions : (rows : List Row) (words : List (List ℕ)) (fault : WordsFault) → ¬ (NamesNone rows)
+    → (LacksSign words → LacksOneSign rows) → RefusesDefinitions words fault → RefusesRender rows fault
+RefusesRender-definitions rows words Memory some lacks h = tt
+RefusesRender-definitions rows words (Help text) some lacks h = absurd h
+RefusesRender-definitions rows words (Version text) some lacks h = absurd h
+RefusesRender-definitions rows words (Usage text) some lacks h = absurd h
+RefusesRender-definitions rows words Definition some lacks h = (some, lacks h)
 
 -- an error of one of these kinds is refused
 pub RefusesWords-kind : (kinds : Kinds) (found : Option (List ℕ × List Row)) (kind : ErrorKind) (fault : WordsFault)

@@ -1,10 +1,11 @@
--- A word that is none of the four modes, or none of the four ways in which values are escaped.
-use Rattle.std.proofs.Common.{◌≡◌, ◌∙◌, ℕ, List, None, Some, false, if◌then◌else◌, codes, bytes_eq, refl, sym, ap}
+-- A word that is none of those that an option takes.
+use Rattle.std.proofs.Common.{◌≡◌, ◌∙◌, ℕ, List, None, Some, true, false, if◌then◌else◌, codes, bytes_eq, refl, sym, ap}
 use Rattle.std.proofs.lemmas.Bool.{false_from_ne_true}
 use Rattle.std.proofs.lemmas.Slice.Eq.{bytes_eq-Decides}
 use Rattle.template_values_errors.specs.declared.modes.UndefinedBehavior.TheVariants.{Lenient, Chainable, SemiStrict, Strict}
 use Rattle.template_program_words.specs.declared.escapes.EscapeWord.TheVariants as word
 use Rattle.template_program_words.specs.Escapes.{escape_named}
+use Rattle.template_program_words.specs.Floats.{floats_named}
 use Rattle.template_program_words.specs.Modes.{mode_named}
 
 not_named : (w n : List ℕ) → (n ≡ w → ⊥) → bytes_eq w n ≡ false
@@ -24,3 +25,6 @@ pub no_escape : (n : List ℕ) → (n ≡ codes "none" → ⊥) → (n ≡ codes
 no_escape n a b c d =
     else_of (Some word.None) (codes "none") n a (else_of (Some word.Html) (codes "html") n b
     (else_of (Some word.Json) (codes "json") n c (else_of (Some word.Name) (codes "name") n d refl)))
+
+pub no_floats : (n : List ℕ) → (n ≡ codes "text" → ⊥) → floats_named n ≡ None
+no_floats n a = else_of (Some true) (codes "text") n a refl

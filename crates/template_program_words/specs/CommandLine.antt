@@ -1,6 +1,8 @@
--- The command line, in the words in which `clap` describes one: `names [--builtins] [--main NAME] [-o FILE] [--json] [SYNTAX] [FILE...]`
+-- The command line, in the words in which `clap` describes one: `names [--builtins] [--main NAME] [-o FILE] [--where] [--json]
+-- [--templates FOLDER] [SYNTAX] [FILE...]`, `check [--builtins] [--templates FOLDER] [SYNTAX] [FILE...]`
 -- and `render [--context FILE] [-D NAME=TEXT]... [--fuel N] [--limit N] [--undefined MODE] [--builtins] [--main NAME] [-o FILE]
--- [--autoescape FORMAT] [SYNTAX] [FILE...]`.
+-- [--where] [--templates FOLDER] [--data FILE]... [--json NAME=JSON]... [--floats FORM] [--autoescape FORMAT]
+-- [--expression TEXT] [--as-json] [SYNTAX] [FILE...]`.
 use Rattle.std.specs.Prelude.{ℕ, List, [], ◌∷◌, Some, codes, map, pos, true}
 use Rattle.clap.specs.Lexer.{usize_max}
 use Rattle.clap.specs.Words.{App, Rule, new_app, new_rule, with_rule, with_subcommand}
@@ -14,6 +16,10 @@ taking_value id = record (new_rule id) { value_names = 1 }
 -- `--NAME TEXT`, once at most
 abbrev pub text_option : List ℕ → Rule
 text_option name = record (new_rule name) { long = Some name; value_names = 1 }
+
+-- `--NAME TEXT`, any number of times
+abbrev pub texts_option : List ℕ → Rule
+texts_option name = record (text_option name) { action = Some Append }
 
 -- `--NAME`, once at most, without a value
 abbrev pub flag_option : List ℕ → Rule
@@ -60,13 +66,34 @@ main_option = text_option (codes "main")
 abbrev pub names_json_option : Rule
 names_json_option = flag_option (codes "json")
 
+-- `--data FILE`, any number of times
+abbrev pub data_option : Rule
+data_option = texts_option (codes "data")
+
+-- `--json NAME=JSON`, any number of times
+abbrev pub json_option : Rule
+json_option = texts_option (codes "json")
+
+-- `--floats FORM`, once at most
+abbrev pub floats_option : Rule
+floats_option = text_option (codes "floats")
+
+-- `--expression TEXT`, once at most
+abbrev pub expression_option : Rule
+expression_option = text_option (codes "expression")
+
+-- `--as-json`, once at most, without a value
+abbrev pub as_json_option : Rule
+as_json_option = flag_option (codes "as-json")
+
 -- `--autoescape FORMAT`, once at most
 abbrev pub autoescape_option : Rule
 autoescape_option = text_option (codes "autoescape")
 
 -- the flags of the syntax
 abbrev pub syntax_flags : List Rule
-syntax_flags = map flag_option (codes "trim-blocks" ∷ codes "lstrip-blocks" ∷ codes "keep-trailing-newline" ∷ [])
+syntax_flags = map flag_option (codes "trim-blocks" ∷ codes "lstrip-blocks" ∷ codes "keep-trailing-newline"
+    ∷ codes "scoped-blocks" ∷ [])
 
 -- the prefixes and the delimiters of the syntax
 abbrev pub syntax_texts : List Rule
@@ -76,6 +103,14 @@ syntax_texts = map text_option (codes "line-statement" ∷ codes "line-comment" 
 -- `--output FILE` or `-o FILE`, once at most
 abbrev pub output_option : Rule
 output_option = record (text_option (codes "output")) { short = Some 111 }
+
+-- `--templates FOLDER`, once at most
+abbrev pub templates_option : Rule
+templates_option = text_option (codes "templates")
+
+-- `--where`, once at most, without a value
+abbrev pub where_option : Rule
+where_option = flag_option (codes "where")
 
 -- `FILE...`, none or more
 abbrev pub files_argument : Rule
@@ -92,14 +127,18 @@ with_rules app (rule ∷ rules) = with_rules (with_rule app rule) rules
 
 abbrev pub render_rules : List Rule
 render_rules = context_option ∷ definition_option ∷ fuel_option ∷ limit_option ∷ undefined_option ∷ builtins_option
-    ∷ main_option ∷ output_option ∷ files_argument ∷ []
+    ∷ main_option ∷ output_option ∷ where_option ∷ templates_option ∷ files_argument ∷ []
 
--- how values are printed
+-- the words on values
 abbrev pub value_rules : List Rule
-value_rules = autoescape_option ∷ []
+value_rules = data_option ∷ json_option ∷ floats_option ∷ autoescape_option ∷ expression_option ∷ as_json_option ∷ []
 
 abbrev pub names_rules : List Rule
-names_rules = builtins_option ∷ main_option ∷ output_option ∷ names_json_option ∷ files_argument ∷ []
+names_rules =
+    builtins_option ∷ main_option ∷ output_option ∷ where_option ∷ names_json_option ∷ templates_option ∷ files_argument ∷ []
+
+abbrev pub check_rules : List Rule
+check_rules = builtins_option ∷ templates_option ∷ files_argument ∷ []
 
 -- an app that takes the words of the syntax too
 abbrev pub with_syntax : App → App
@@ -111,6 +150,9 @@ render_command = with_syntax (with_rules (with_rules (new_app (codes "render")) 
 abbrev pub names_command : App
 names_command = with_syntax (with_rules (new_app (codes "names")) names_rules)
 
+abbrev pub check_command : App
+check_command = with_syntax (with_rules (new_app (codes "check")) check_rules)
+
 -- the program's own name is not among the words, one of the commands has to be, and the version is told
 abbrev pub bare_program : App
 bare_program = record (new_app (codes "template")) {
@@ -118,4 +160,4 @@ bare_program = record (new_app (codes "template")) {
 }
 
 abbrev pub program : App
-program = with_subcommand (with_subcommand bare_program render_command.top) names_command.top
+program = with_subcommand (with_subcommand (with_subcommand bare_program render_command.top) names_command.top) check_command.top

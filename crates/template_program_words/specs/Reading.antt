@@ -6,13 +6,15 @@ use Rattle.std.specs.Str.Parse.{IsNumeral, digits_value, without_leading_plus}
 use Rattle.clap.specs.Words.{Row, all_of, first_of, one_of}
 use Rattle.template_program_words.specs.Definitions.{equals_sign, definition_name, definition_text}
 use Rattle.template_program_words.specs.Escapes.{escape_of}
+use Rattle.template_program_words.specs.Floats.{floats_of}
 use Rattle.template_program_words.specs.Modes.{mode_of}
 use Rattle.template_program_words.specs.declared.definitions.Definition.{Definition}
 use Rattle.template_program_words.specs.declared.syntax.SyntaxWords.{SyntaxWords}
+use Rattle.template_program_words.specs.declared.words.CheckWords.{CheckWords}
 use Rattle.template_program_words.specs.declared.words.NamesWords.{NamesWords}
 use Rattle.template_program_words.specs.declared.words.RenderWords.{RenderWords}
 use Rattle.template_program_words.specs.declared.words.Words.{Words}
-use Rattle.template_program_words.specs.declared.words.Words.TheVariants.{Render, Names}
+use Rattle.template_program_words.specs.declared.words.Words.TheVariants.{Render, Names, Check}
 
 -- all values of an option or of the files
 abbrev pub values_of : List ℕ → List Row → List (List ℕ)
@@ -63,6 +65,7 @@ pub record ReadsSyntax (rows : List Row) (read : SyntaxWords) : Type 0 where
   pub trim_blocks : read.trim_blocks ≡ has_flag (codes "trim-blocks") rows
   pub lstrip_blocks : read.lstrip_blocks ≡ has_flag (codes "lstrip-blocks") rows
   pub keep_trailing_newline : read.keep_trailing_newline ≡ has_flag (codes "keep-trailing-newline") rows
+  pub scoped_blocks : read.scoped_blocks ≡ has_flag (codes "scoped-blocks") rows
   pub line_statement : ReadsText (codes "line-statement") rows read.line_statement
   pub line_comment : ReadsText (codes "line-comment") rows read.line_comment
   pub block_start : ReadsText (codes "block-start") rows read.block_start
@@ -76,6 +79,11 @@ pub record ReadsSyntax (rows : List Row) (read : SyntaxWords) : Type 0 where
 pub record ReadsRender (rows : List Row) (read : RenderWords) : Type 0 where
   pub context : ReadsText (codes "context") rows read.context
   pub definitions : Defines (values_of (codes "definition") rows) read.definitions.items
+  pub values : Defines (values_of (codes "json") rows) read.values.items
+  pub data_files : map (λ path. path.now) read.data_files.items ≡ values_of (codes "data") rows
+  pub float_texts : floats_of (first_of (codes "floats") rows) ≡ Some read.float_texts
+  pub expression : ReadsText (codes "expression") rows read.expression
+  pub as_json : read.as_json ≡ has_flag (codes "as-json") rows
   pub fuel : ReadsNumber 64 (one_of (codes "fuel") rows) read.fuel
   pub limit : ReadsLimit (one_of (codes "limit") rows) read.limit
   pub undefined : mode_of (first_of (codes "undefined") rows) ≡ Some read.undefined
@@ -84,6 +92,8 @@ pub record ReadsRender (rows : List Row) (read : RenderWords) : Type 0 where
   pub syntax : ReadsSyntax rows read.syntax
   pub main : ReadsText (codes "main") rows read.main
   pub output : ReadsText (codes "output") rows read.output
+  pub tells_where : read.tells_where ≡ has_flag (codes "where") rows
+  pub templates : ReadsText (codes "templates") rows read.templates
   pub files : map (λ path. path.now) read.files.items ≡ values_of (codes "files") rows
 
 -- the words behind `names`
@@ -92,7 +102,16 @@ pub record ReadsNames (rows : List Row) (read : NamesWords) : Type 0 where
   pub syntax : ReadsSyntax rows read.syntax
   pub main : ReadsText (codes "main") rows read.main
   pub output : ReadsText (codes "output") rows read.output
+  pub tells_where : read.tells_where ≡ has_flag (codes "where") rows
   pub json : read.json ≡ has_flag (codes "json") rows
+  pub templates : ReadsText (codes "templates") rows read.templates
+  pub files : map (λ path. path.now) read.files.items ≡ values_of (codes "files") rows
+
+-- the words behind `check`
+pub record ReadsCheck (rows : List Row) (read : CheckWords) : Type 0 where
+  pub builtins : read.builtins ≡ has_flag (codes "builtins") rows
+  pub syntax : ReadsSyntax rows read.syntax
+  pub templates : ReadsText (codes "templates") rows read.templates
   pub files : map (λ path. path.now) read.files.items ≡ values_of (codes "files") rows
 
 -- the command that was found, and the words behind it
@@ -101,3 +120,5 @@ ReadsWords found (Render read) =
     (rows : List Row) × (found ≡ Some (codes "render", rows)) × ReadsRender rows read
 ReadsWords found (Names read) =
     (rows : List Row) × (found ≡ Some (codes "names", rows)) × ReadsNames rows read
+ReadsWords found (Check read) =
+    (rows : List Row) × (found ≡ Some (codes "check", rows)) × ReadsCheck rows read

@@ -6,6 +6,7 @@ use Rattle.clap.specs.declared.error.kind.ErrorKind.{ErrorKind}
 use Rattle.clap.specs.declared.error.kind.ErrorKind.TheVariants.{DisplayHelp, DisplayVersion, OutOfMemory}
 use Rattle.template_program_words.specs.Definitions.{equals_sign}
 use Rattle.template_program_words.specs.Escapes.{escape_of}
+use Rattle.template_program_words.specs.Floats.{floats_of}
 use Rattle.template_program_words.specs.Modes.{mode_of}
 use Rattle.template_program_words.specs.Reading.{values_of}
 use Rattle.template_program_words.specs.declared.faults.WordsFault.{WordsFault}
@@ -33,10 +34,11 @@ IsUsage fault = ⊥
 abbrev pub LacksSign : List (List ℕ) → Type 0
 LacksSign words = (text : List ℕ) × Contains words text × ¬ (Contains text equals_sign)
 
--- neither command was found
+-- none of the commands was found
 abbrev pub FindsNone : Option (List ℕ × List Row) → Type 0
 FindsNone found = (option_map (λ f. f.0) found ≢ Some (codes "render"))
     × (option_map (λ f. f.0) found ≢ Some (codes "names"))
+    × (option_map (λ f. f.0) found ≢ Some (codes "check"))
 
 -- no mode has this name
 abbrev pub NamesNoMode : List Row → Type 0
@@ -46,9 +48,17 @@ NamesNoMode rows = mode_of (first_of (codes "undefined") rows) ≡ None
 abbrev pub NamesNoEscape : List Row → Type 0
 NamesNoEscape rows = escape_of (first_of (codes "autoescape") rows) ≡ None
 
+-- no form of floats has this name
+abbrev pub NamesNoFloats : List Row → Type 0
+NamesNoFloats rows = floats_of (first_of (codes "floats") rows) ≡ None
+
 -- an option has a value that is none of those that it takes
 abbrev pub NamesNone : List Row → Type 0
-NamesNone rows = NamesNoMode rows ⊎ NamesNoEscape rows
+NamesNone rows = NamesNoMode rows ⊎ (NamesNoEscape rows ⊎ NamesNoFloats rows)
+
+-- a definition or a value has no `=`
+abbrev pub LacksOneSign : List Row → Type 0
+LacksOneSign rows = LacksSign (values_of (codes "definition") rows) ⊎ LacksSign (values_of (codes "json") rows)
 
 -- a text for the user, for this reason
 abbrev pub RefusesFor : Type 0 → WordsFault → Type 0
@@ -62,7 +72,7 @@ RefusesRender rows Memory = ⊤
 RefusesRender rows (Help text) = ⊥
 RefusesRender rows (Version text) = ⊥
 RefusesRender rows (Usage text) = NamesNone rows
-RefusesRender rows Definition = ¬ (NamesNone rows) × LacksSign (values_of (codes "definition") rows)
+RefusesRender rows Definition = ¬ (NamesNone rows) × LacksOneSign rows
 
 -- the words that `clap` takes
 abbrev pub RefusesFound : Option (List ℕ × List Row) → WordsFault → Type 0

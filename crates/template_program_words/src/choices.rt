@@ -2,11 +2,13 @@
 ghost use Rattle.std.specs.Prelude.{◌≡◌, Some, codes, IfErr, IfOk};
 ghost use Rattle.clap.specs.Words.{first_of, found_of, rows_of};
 ghost use Rattle.template_program_words.specs.Escapes.{escape_of};
+ghost use Rattle.template_program_words.specs.Floats.{floats_of};
 ghost use Rattle.template_program_words.specs.Modes.{mode_of};
-ghost use Rattle.template_program_words.specs.Refusals.{NamesNoEscape, NamesNoMode, RefusesFor};
+ghost use Rattle.template_program_words.specs.Refusals.{NamesNoEscape, NamesNoFloats, NamesNoMode, RefusesFor};
 
 use crate::escapes::{EscapeWord, escape_named};
 use crate::faults::{WordsFault, unknown_value};
+use crate::floats::floats_named;
 use crate::found::text;
 use crate::modes::mode_named;
 use clap::ArgMatches;
@@ -43,5 +45,19 @@ pub(crate) fn escape_in(alloc: Global, matches: &ArgMatches<'_>) -> Result<Escap
     match escape_named(name) {
         Some(escape) => Ok(escape),
         None => Err(unknown_value(alloc, name, "--autoescape <FORMAT>", possible)),
+    }
+}
+
+/// Whether `--floats` says that a float of the context is a text.
+pub(crate) fn floats_in(alloc: Global, matches: &ArgMatches<'_>) -> Result<bool, WordsFault>
+    ensures reads { IfOk result (λ texts. floats_of (first_of (codes "floats") (rows_of (found_of matches.now))) ≡ Some texts) }
+    ensures refuses { IfErr result (RefusesFor (NamesNoFloats (rows_of (found_of matches.now)))) }
+{
+    let Some(name) = text(matches, "floats") else {
+        return Ok(false);
+    };
+    match floats_named(name) {
+        Some(texts) => Ok(texts),
+        None => Err(unknown_value(alloc, name, "--floats <FORM>", "text")),
     }
 }

@@ -18,7 +18,7 @@ pub enum WordsFault {
     Version(String),
     /// The words are none that the program takes: the text for the user, in lines.
     Usage(String),
-    /// A definition has no `=`.
+    /// A definition has no `=`, behind `-D` or `--json`.
     Definition,
 }
 

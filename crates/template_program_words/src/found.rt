@@ -5,11 +5,11 @@ ghost use Rattle.template_program_words.specs.Reading.{Defines, ReadsText, Reads
 ghost use Rattle.template_program_words.specs.Refusals.{RefusesWords, RefusesDefinitions, RefusesRender};
 ghost use Rattle.template_program_words.specs.declared.faults.WordsFault.TheVariants.{Memory};
 
-use crate::choices::{escape_in, undefined_in};
+use crate::choices::{escape_in, floats_in, undefined_in};
 use crate::definitions::{Definition, split_definition};
 use crate::faults::WordsFault;
 use crate::syntax::syntax_words;
-use crate::words::{NamesWords, RenderWords, Words};
+use crate::words::{CheckWords, NamesWords, RenderWords, Words};
 use clap::ArgMatches;
 use std::alloc::{AllocError, Global};
 
@@ -27,8 +27,11 @@ pub(crate) fn words_in<'a>(alloc: Global, matches: &ArgMatches<'a>) -> Result<Wo
     if let Some(names) = matches.subcommand_matches("names") {
         return names_words(alloc, names);
     }
+    if let Some(check) = matches.subcommand_matches("check") {
+        return check_words(alloc, check);
+    }
 
-    // `clap` requires a command and knows these two.
+    // `clap` requires a command and knows these three.
     Err(WordsFault::Usage(String::new(alloc)))
 }
 
@@ -38,9 +41,15 @@ fn render_words<'a>(alloc: Global, matches: &ArgMatches<'a>) -> Result<Words<'a>
 {
     let undefined = undefined_in(alloc, matches)?;
     let autoescape = escape_in(alloc, matches)?;
+    let float_texts = floats_in(alloc, matches)?;
     Ok(Words::Render(RenderWords {
         context: text(matches, "context"),
         definitions: definitions(alloc, matches, "definition")?,
+        values: definitions(alloc, matches, "json")?,
+        data_files: values(alloc, matches, "data")?,
+        float_texts,
+        expression: text(matches, "expression"),
+        as_json: is_flagged(matches, "as-json"),
         fuel: matches.get_one::<u64>("fuel"),
         limit: matches.get_one::<u16>("limit").unwrap_or(DEFAULT_LIMIT),
         undefined,
@@ -49,6 +58,8 @@ fn render_words<'a>(alloc: Global, matches: &ArgMatches<'a>) -> Result<Words<'a>
         syntax: syntax_words(matches),
         main: text(matches, "main"),
         output: text(matches, "output"),
+        tells_where: is_flagged(matches, "where"),
+        templates: text(matches, "templates"),
         files: values(alloc, matches, "files")?,
     }))
 }
@@ -62,7 +73,21 @@ fn names_words<'a>(alloc: Global, matches: &ArgMatches<'a>) -> Result<Words<'a>,
         syntax: syntax_words(matches),
         main: text(matches, "main"),
         output: text(matches, "output"),
+        tells_where: is_flagged(matches, "where"),
         json: is_flagged(matches, "json"),
+        templates: text(matches, "templates"),
+        files: values(alloc, matches, "files")?,
+    }))
+}
+
+fn check_words<'a>(alloc: Global, matches: &ArgMatches<'a>) -> Result<Words<'a>, WordsFault>
+    ensures reads { IfOk result (ReadsWords (Some (codes "check", rows_of (found_of matches.now)))) }
+    ensures refuses { IfErr result (λ fault. fault ≡ Memory) }
+{
+    Ok(Words::Check(CheckWords {
+        builtins: is_flagged(matches, "builtins"),
+        syntax: syntax_words(matches),
+        templates: text(matches, "templates"),
         files: values(alloc, matches, "files")?,
     }))
 }

@@ -4,6 +4,7 @@ ghost use Rattle.clap.specs.Words.{app_of, rule_of};
 ghost use Rattle.clap.specs.declared.builder.command.Command.TheViews.{out-Command};
 ghost use Rattle.template_program_words.specs.CommandLine as line;
 
+use crate::shared_options::{builtins, files, main, output, tells_where, templates};
 use crate::syntax_options::{syntax_flags, syntax_texts};
 use crate::value_options::value_arguments;
 use clap::{Arg, ArgAction, Command, value_parser};
@@ -20,13 +21,14 @@ Status:
   5  a template was refused, or the main one is not there
   6  memory was refused";
 
-/// The program, with its two commands.
+/// The program, with its three commands.
 pub(crate) fn program<'a>(alloc: Global) -> Result<Command<'a>, AllocError>
     ensures { IfOk result (λ command. app_of command ≡ line.program) }
 {
     bare_program(alloc)?
         .subcommand(render(alloc)?)?
-        .subcommand(names(alloc)?)
+        .subcommand(names(alloc)?)?
+        .subcommand(check(alloc)?)
 }
 
 // The program without its commands.
@@ -43,7 +45,8 @@ fn bare_program<'a>(alloc: Global) -> Result<Command<'a>, AllocError>
 }
 
 /// `render [--context FILE] [-D NAME=TEXT]... [--fuel N] [--limit N] [--undefined MODE] [--builtins] [--main NAME] [-o FILE]
-/// [--autoescape FORMAT] [SYNTAX] [FILE...]`
+/// [--where] [--templates FOLDER] [--data FILE]... [--json NAME=JSON]... [--floats FORM] [--autoescape FORMAT]
+/// [--expression TEXT] [--as-json] [SYNTAX] [FILE...]`
 fn render<'a>(alloc: Global) -> Result<Command<'a>, AllocError>
     ensures app { IfOk result (λ command. app_of command ≡ line.render_command) }
     ensures local { IfOk result (λ command. (out-Command command).has_globals ≡ false) }
@@ -69,11 +72,13 @@ fn render_arguments<'a>(alloc: Global) -> Result<Vec<Arg<'a>>, AllocError>
         builtins(alloc),
         main(alloc),
         output(alloc),
+        tells_where(alloc),
+        templates(alloc),
         files(alloc),
     ]?)
 }
 
-/// `names [--builtins] [--main NAME] [-o FILE] [--json] [SYNTAX] [FILE...]`
+/// `names [--builtins] [--main NAME] [-o FILE] [--where] [--json] [--templates FOLDER] [SYNTAX] [FILE...]`
 fn names<'a>(alloc: Global) -> Result<Command<'a>, AllocError>
     ensures app { IfOk result (λ command. app_of command ≡ line.names_command) }
     ensures local { IfOk result (λ command. (out-Command command).has_globals ≡ false) }
@@ -93,13 +98,34 @@ fn names_arguments<'a>(alloc: Global) -> Result<Vec<Arg<'a>>, AllocError>
         builtins(alloc),
         main(alloc),
         output(alloc),
+        tells_where(alloc),
         names_json(alloc),
+        templates(alloc),
         files(alloc),
     ]?)
 }
 
-// An argument with a value, of this name in help.
-fn taking<'a>(alloc: Global, id: &'a str, value: &'a str, help: &'a str) -> Arg<'a>
+/// `check [--builtins] [--templates FOLDER] [SYNTAX] [FILE...]`
+fn check<'a>(alloc: Global) -> Result<Command<'a>, AllocError>
+    ensures app { IfOk result (λ command. app_of command ≡ line.check_command) }
+    ensures local { IfOk result (λ command. (out-Command command).has_globals ≡ false) }
+{
+    Command::new(alloc, "check")
+        .about("Prints each refusal of the templates, as page.html:12:7: SyntaxError, one a line")
+        .args(check_arguments(alloc)?)?
+        .args(syntax_flags(alloc)?)?
+        .args(syntax_texts(alloc)?)
+}
+
+fn check_arguments<'a>(alloc: Global) -> Result<Vec<Arg<'a>>, AllocError>
+    ensures rules { IfOk result (λ arguments. map rule_of arguments.items ≡ line.check_rules) }
+    ensures local { IfOk result (λ arguments. All (λ a. a.global ≡ false) arguments.items) }
+{
+    Ok(vec![in alloc; checked_builtins(alloc), templates(alloc), files(alloc)]?)
+}
+
+/// An argument with a value, of this name in help.
+pub(crate) fn taking<'a>(alloc: Global, id: &'a str, value: &'a str, help: &'a str) -> Arg<'a>
     ensures rule { rule_of result ≡ line.taking_value id.entry.now }
     ensures local { result.global ≡ false }
 {
@@ -179,31 +205,6 @@ fn undefined<'a>(alloc: Global) -> Arg<'a>
     text_option(alloc, "undefined", "MODE", help)
 }
 
-fn builtins<'a>(alloc: Global) -> Arg<'a>
-    ensures rule { rule_of result ≡ line.builtins_option }
-    ensures local { result.global ≡ false }
-{
-    let help = "Templates have the builtin filters and tests; none if not given";
-    flag_option(alloc, "builtins", help)
-}
-
-fn main<'a>(alloc: Global) -> Arg<'a>
-    ensures rule { rule_of result ≡ line.main_option }
-    ensures local { result.global ≡ false }
-{
-    let help = "The name of the main template, in place of the first";
-    text_option(alloc, "main", "NAME", help)
-}
-
-fn output<'a>(alloc: Global) -> Arg<'a>
-    ensures rule { rule_of result ≡ line.output_option }
-    ensures local { result.global ≡ false }
-{
-    let help =
-        "The file that is written, in place of standard output; a fault leaves what stood there";
-    text_option(alloc, "output", "FILE", help).short('o')
-}
-
 fn names_json<'a>(alloc: Global) -> Arg<'a>
     ensures rule { rule_of result ≡ line.names_json_option }
     ensures local { result.global ≡ false }
@@ -215,13 +216,12 @@ fn names_json<'a>(alloc: Global) -> Arg<'a>
     )
 }
 
-fn files<'a>(alloc: Global) -> Arg<'a>
-    ensures rule { rule_of result ≡ line.files_argument }
+fn checked_builtins<'a>(alloc: Global) -> Arg<'a>
+    ensures rule { rule_of result ≡ line.builtins_option }
     ensures local { result.global ≡ false }
 {
     let help =
-        "The templates; a later one of the same path replaces; standard input, as <stdin>, where none is given";
-    taking(alloc, "files", "FILE", help)
-        .num_args(0..)
-        .action(ArgAction::Append)
+        "Templates have the builtin filters and tests: each name of a filter, test or function that nothing has is \
+         printed too";
+    flag_option(alloc, "builtins", help)
 }

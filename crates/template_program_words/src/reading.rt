@@ -13,13 +13,13 @@ use std::alloc::Global;
 
 /// Reads the command line; `words` are those behind the program's own name. They are read from the left, and
 /// the first that asks for help or for the version, or that is a mistake, decides. What `clap` refuses is told
-/// before a mode of another name is, that before another word behind `--autoescape`, and that before a definition
-/// without `=`.
+/// before a mode of another name is, that before another word behind `--autoescape`, that before another word behind
+/// `--floats`, and that before a definition without `=`, behind `-D` or `--json`.
 ///
 /// # Errors
 ///
-/// Help, the version, what `clap` refuses, a mode of another name, another word behind `--autoescape`, a definition
-/// without `=`, or want of memory.
+/// Help, the version, what `clap` refuses, a mode of another name, another word behind `--autoescape` or `--floats`, a
+/// definition without `=`, or want of memory.
 pub fn read_words<'a>(alloc: Global, words: &'a [&'a str]) -> Result<Words<'a>, WordsFault>
     // What `clap` finds in the words, by its own account of a command line.
     ensures reads { IfOk result (ReadsWords (subcommand_of program (map (λ word. word.now) words.entry.now))) }

@@ -14,6 +14,8 @@ pub struct SyntaxWords<'a> {
     pub lstrip_blocks: bool,
     /// Whether a newline at the end of a template stays.
     pub keep_trailing_newline: bool,
+    /// Whether `scoped` may stand behind a block's name.
+    pub scoped_blocks: bool,
     /// What begins a line that is a statement.
     pub line_statement: Option<&'a str>,
     /// What begins a comment that ends with its line.
@@ -40,6 +42,7 @@ pub(crate) fn syntax_words<'a>(matches: &ArgMatches<'a>) -> SyntaxWords<'a>
         trim_blocks: is_flagged(matches, "trim-blocks"),
         lstrip_blocks: is_flagged(matches, "lstrip-blocks"),
         keep_trailing_newline: is_flagged(matches, "keep-trailing-newline"),
+        scoped_blocks: is_flagged(matches, "scoped-blocks"),
         line_statement: text(matches, "line-statement"),
         line_comment: text(matches, "line-comment"),
         block_start: text(matches, "block-start"),

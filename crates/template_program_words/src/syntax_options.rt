@@ -7,7 +7,7 @@ use crate::options::{flag_option, text_option};
 use clap::Arg;
 use std::alloc::{AllocError, Global};
 
-/// `[--trim-blocks] [--lstrip-blocks] [--keep-trailing-newline]`
+/// `[--trim-blocks] [--lstrip-blocks] [--keep-trailing-newline] [--scoped-blocks]`
 pub(crate) fn syntax_flags<'a>(alloc: Global) -> Result<Vec<Arg<'a>>, AllocError>
     ensures rules { IfOk result (λ arguments. map rule_of arguments.items ≡ line.syntax_flags) }
     ensures local { IfOk result (λ arguments. All (λ a. a.global ≡ false) arguments.items) }
@@ -15,10 +15,13 @@ pub(crate) fn syntax_flags<'a>(alloc: Global) -> Result<Vec<Arg<'a>>, AllocError
     let trim = "Takes off one newline after a block or a comment";
     let lstrip = "Takes off the spaces and tabs before a block or a comment that begins its line";
     let keep = "Keeps a newline at the end of a template; it is taken off if not given";
+    let scoped =
+        "Takes the word `scoped` behind a block's name, where it means nothing; refused if not given";
     Ok(vec![in alloc;
         flag_option(alloc, "trim-blocks", trim),
         flag_option(alloc, "lstrip-blocks", lstrip),
         flag_option(alloc, "keep-trailing-newline", keep),
+        flag_option(alloc, "scoped-blocks", scoped),
     ]?)
 }
 

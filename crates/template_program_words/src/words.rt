@@ -11,6 +11,8 @@ pub enum Words<'a> {
     Render(RenderWords<'a>),
     /// `names`: the names that the templates may ask for are wanted.
     Names(NamesWords<'a>),
+    /// `check`: the refusals of the templates are wanted.
+    Check(CheckWords<'a>),
 }
 
 /// The words behind `render`.
@@ -20,6 +22,16 @@ pub struct RenderWords<'a> {
     pub context: Option<&'a str>,
     /// The texts that are set over the context, in the order of the words.
     pub definitions: Vec<Definition<'a>>,
+    /// The values that are set over the context, in the order of the words: the text of each is JSON.
+    pub values: Vec<Definition<'a>>,
+    /// The paths of the files that hold more of the context, in the order of the words.
+    pub data_files: Vec<&'a str>,
+    /// Whether a float of the context is a text, as it is spelled.
+    pub float_texts: bool,
+    /// The expression whose value is printed in place of a template.
+    pub expression: Option<&'a str>,
+    /// Whether the expression's value is printed as JSON.
+    pub as_json: bool,
     /// The fuel.
     pub fuel: Option<u64>,
     /// How deep the render may be: 500 where no word says it.
@@ -36,6 +48,10 @@ pub struct RenderWords<'a> {
     pub main: Option<&'a str>,
     /// The path of the file that is written in place of standard output.
     pub output: Option<&'a str>,
+    /// Whether the places of a fault are told.
+    pub tells_where: bool,
+    /// The folder whose files are templates.
+    pub templates: Option<&'a str>,
     /// The paths of the templates, in the order of the words.
     pub files: Vec<&'a str>,
 }
@@ -51,8 +67,25 @@ pub struct NamesWords<'a> {
     pub main: Option<&'a str>,
     /// The path of the file that is written in place of standard output.
     pub output: Option<&'a str>,
+    /// Whether the places of a fault are told.
+    pub tells_where: bool,
     /// Whether the names are printed as a JSON list.
     pub json: bool,
+    /// The folder whose files are templates.
+    pub templates: Option<&'a str>,
+    /// The paths of the templates, in the order of the words.
+    pub files: Vec<&'a str>,
+}
+
+/// The words behind `check`.
+#[derive(Debug, Drop)]
+pub struct CheckWords<'a> {
+    /// Whether templates have the builtins: each name of a filter, test or function that nothing has is wanted too.
+    pub builtins: bool,
+    /// The syntax of the templates.
+    pub syntax: SyntaxWords<'a>,
+    /// The folder whose files are templates.
+    pub templates: Option<&'a str>,
     /// The paths of the templates, in the order of the words.
     pub files: Vec<&'a str>,
 }

@@ -11,7 +11,9 @@ returns-clause-reads c = (
     syntax = c.syntax_words.ensures;
     main = c.text.ensures;
     output = c.text-2.ensures;
-    json = c.is_flagged-2.ensures;
+    tells_where = c.is_flagged-2.ensures;
+    json = c.is_flagged-3.ensures;
+    templates = c.text-3.ensures;
     files = c.in_ok-values.ensures;
   },
 )

@@ -14,6 +14,11 @@ returns-clause-reads c =
       record {
         context = c.text.ensures;
         definitions = c.in_ok-definitions.ensures.defines;
+        values = c.in_ok-definitions-2.ensures.defines;
+        data_files = c.in_ok-values.ensures;
+        float_texts = c.in_ok-float_texts.ensures.reads;
+        expression = c.text-2.ensures;
+        as_json = c.is_flagged.ensures;
         fuel = ReadsNumber-cases 64 (one_of (codes "fuel") (rows_of found)) c.get_one.result
             (λ e. c.get_one.ensures.none (one_text-rows found (codes "fuel") ∙ e))
             (λ t e. ReadsNumber-parsed 64
@@ -30,11 +35,13 @@ returns-clause-reads c =
             (c.get_one-2.result, number, c.unwrap_or.ensures);
         undefined = c.in_ok-undefined.ensures.reads;
         autoescape = c.in_ok-autoescape.ensures.reads;
-        builtins = c.is_flagged.ensures;
+        builtins = c.is_flagged-2.ensures;
         syntax = c.syntax_words.ensures;
-        main = c.text-2.ensures;
-        output = c.text-3.ensures;
-        files = c.in_ok-values.ensures;
+        main = c.text-3.ensures;
+        output = c.text-4.ensures;
+        tells_where = c.is_flagged-3.ensures;
+        templates = c.text-5.ensures;
+        files = c.in_ok-values-2.ensures;
       },
     )
 
@@ -49,13 +56,30 @@ pub returns-in_err-autoescape-clause-refuses : goal.returns-in_err-autoescape-cl
 returns-in_err-autoescape-clause-refuses c =
     let rows = rows_of (found_of c.args.matches.now) in
     let fault = c.in_err-autoescape.field-0.0 in
-    let render : RefusesRender rows fault = RefusesRender-none _ rows fault (λ n. inr n) c.in_err-autoescape.ensures.refuses in
+    let render : RefusesRender rows fault = RefusesRender-none _ rows fault (λ n. inr (inl n)) c.in_err-autoescape.ensures.refuses in
+    search rules
+
+pub returns-in_err-float_texts-clause-refuses : goal.returns-in_err-float_texts-clause-refuses
+returns-in_err-float_texts-clause-refuses c =
+    let rows = rows_of (found_of c.args.matches.now) in
+    let fault = c.in_err-float_texts.field-0.0 in
+    let render : RefusesRender rows fault = RefusesRender-none _ rows fault (λ n. inr (inr n)) c.in_err-float_texts.ensures.refuses in
     search rules
 
 pub returns-in_err-definitions-clause-refuses : goal.returns-in_err-definitions-clause-refuses
 returns-in_err-definitions-clause-refuses c =
     let rows = rows_of (found_of c.args.matches.now) in
     let fault = c.in_err-definitions.field-0.0 in
-    let some : ¬ (NamesNone rows) = names_some rows _ _ c.in_ok-undefined.ensures.reads c.in_ok-autoescape.ensures.reads in
-    let render : RefusesRender rows fault = RefusesRender-definitions rows fault some c.in_err-definitions.ensures.refuses in
+    let some : ¬ (NamesNone rows) = names_some rows _ _ _ c.in_ok-undefined.ensures.reads c.in_ok-autoescape.ensures.reads
+    c.in_ok-float_texts.ensures.reads in
+    let render : RefusesRender rows fault = RefusesRender-definitions rows _ fault some (λ l. inl l) c.in_err-definitions.ensures.refuses in
+    search rules
+
+pub returns-in_err-definitions-2-clause-refuses : goal.returns-in_err-definitions-2-clause-refuses
+returns-in_err-definitions-2-clause-refuses c =
+    let rows = rows_of (found_of c.args.matches.now) in
+    let fault = c.in_err-definitions-2.field-0.0 in
+    let some : ¬ (NamesNone rows) = names_some rows _ _ _ c.in_ok-undefined.ensures.reads c.in_ok-autoescape.ensures.reads
+    c.in_ok-float_texts.ensures.reads in
+    let render : RefusesRender rows fault = RefusesRender-definitions rows _ fault some (λ l. inr l) c.in_err-definitions-2.ensures.refuses in
     search rules

@@ -5,6 +5,7 @@ returns c = record {
   trim_blocks = c.is_flagged.ensures;
   lstrip_blocks = c.is_flagged-2.ensures;
   keep_trailing_newline = c.is_flagged-3.ensures;
+  scoped_blocks = c.is_flagged-4.ensures;
   line_statement = c.text.ensures;
   line_comment = c.text-2.ensures;
   block_start = c.text-3.ensures;
