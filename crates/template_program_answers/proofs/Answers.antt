@@ -23,6 +23,7 @@ use Rattle.template_environment_settings.specs.Standing.{setting_of}
 use Rattle.template_program_run.specs.Additions.{IsRefusedAddition, RefusesOne}
 use Rattle.template_program_run.specs.Answers.{AnswersWith, HasNames, IsTemplateOf, IsUntouched, Performed, Rendered, TellsNames, definitions_of}
 use Rattle.template_program_run.specs.Environments.{IsMade}
+use Rattle.template_program_run.specs.Given.{Given}
 use Rattle.template_program_run.specs.History.{source_under, standing}
 use Rattle.template_program_run.specs.Ids.{IsLastId}
 use Rattle.template_program_run.specs.Lines.{told_names}
@@ -168,19 +169,19 @@ tells_alike k as_json served request additions a b e f made more next t u standi
 
 -- what is done with the main template
 performed_alike : IsolatesNames → (served : Served) → AskNoNames served.brought.callables
-    → (command : Command) (request : Request) (additions : List (List ℕ × List ℕ)) (json : Option (List ℕ)) (a b : Answer)
-    → Performed served command request additions json a.next a.outcome a.before a.after a.failed a.fails
-    → Performed served command request additions json b.next b.outcome b.before b.after b.failed b.fails
+    → (command : Command) (request : Request) (additions : List (List ℕ × List ℕ)) (given : Given) (a b : Answer)
+    → Performed served command request additions given a.next a.outcome a.before a.after a.failed a.fails
+    → Performed served command request additions given b.next b.outcome b.before b.after b.failed b.fails
     → a.next ≡ b.next → IsUnwanting a → IsUnwanting b → AreAlike a b
-performed_alike isolates served ask asked.Render request additions json a b p q next ua ub =
+performed_alike isolates served ask asked.Render request additions given a b p q next ua ub =
     let main = string_bytes request.main in
     let template = one_template served main p.2.0 q.2.0 p.2.2.0 q.2.2.0 (same_Some _ _ (sym p.2.1 ∙ q.2.1)) p.2.2.1 q.2.2.1 in
     let one = p.2.2.2 in
     let other = q.2.2.2 in
     renders_alike isolates served.brought ask served request additions a b p.0 q.0 p.1 q.1 p.2.2.0 q.2.2.0 (template_imports served main p.2.0 p.2.2.0 p.2.2.1) template
     one.0 other.0
-    (agree_everywhere json (definitions_of request) one.0 other.0 one.1 other.1) one.2 other.2 next ua ub
-performed_alike isolates served ask asked.Names request additions json a b p q next ua ub =
+    (agree_everywhere given (definitions_of request) one.0 other.0 one.1 other.1) one.2 other.2 next ua ub
+performed_alike isolates served ask asked.Names request additions given a b p q next ua ub =
     let main = string_bytes request.main in
     let template = one_template served main p.2.0 q.2.0 p.2.2.0 q.2.2.0 (same_Some _ _ (sym p.2.1 ∙ q.2.1)) p.2.2.1 q.2.2.1 in
     tells_alike served.brought served.names_as_json served request additions a b p.0 q.0 p.1 q.1 next p.2.2.0 q.2.2.0 template
@@ -188,32 +189,32 @@ performed_alike isolates served ask asked.Names request additions json a b p q n
     (told served.brought served.names_as_json q.0 q.2.2.0 b.outcome b.before b.after b.failed b.fails q.2.2.2 ub.unwanted)
 
 pub one_answer : IsolatesNames → (served : Served) → AskNoNames served.brought.callables → IsUsable served.syntax → (request : Request) (additions : List (List ℕ × List ℕ))
-    (json : Option (List ℕ)) (a b : Answer) → AnswersWith served request additions json a.next a.outcome a.before a.after a.failed a.fails
-    → AnswersWith served request additions json b.next b.outcome b.before b.after b.failed b.fails → a.next ≡ b.next
+    (given : Given) (a b : Answer) → AnswersWith served request additions given a.next a.outcome a.before a.after a.failed a.fails
+    → AnswersWith served request additions given b.next b.outcome b.before b.after b.failed b.fails → a.next ≡ b.next
     → IsUnwanting a → IsUnwanting b → AreAlike a b
-one_answer isolates served ask usable request additions json a b (inl p) (inl q) same_id ua ub =
-    let same = one_refusal request.command json p.0 q.0 p.2 q.2 (unwanted a ua (Context p.0) p.1) (unwanted b ub (Context q.0) q.1) in
+one_answer isolates served ask usable request additions given a b (inl p) (inl q) same_id ua ub =
+    let same = one_refusal request.command given p.0 q.0 p.2 q.2 (unwanted a ua (Context p.0) p.1) (unwanted b ub (Context q.0) q.1) in
     nothing_written a b (p.1 ∙ ap (λ (ks : List ErrorKind). Context ks) same ∙ sym q.1) p.3 q.3
-one_answer isolates served ask usable request additions json a b (inl p) (inr (had, q)) same_id ua ub =
-    absurd (refused_or_had request.command json (definitions_of request) p.0 had.0 p.2 (unwanted a ua (Context p.0) p.1) had.1)
-one_answer isolates served ask usable request additions json a b (inr (had, p)) (inl q) same_id ua ub =
-    absurd (refused_or_had request.command json (definitions_of request) q.0 had.0 q.2 (unwanted b ub (Context q.0) q.1) had.1)
-one_answer isolates served ask usable request additions json a b (inr (had, inl p)) (inr (has, inl q)) same_id ua ub =
+one_answer isolates served ask usable request additions given a b (inl p) (inr (had, q)) same_id ua ub =
+    absurd (refused_or_had request.command given (definitions_of request) p.0 had.0 p.2 (unwanted a ua (Context p.0) p.1) had.1)
+one_answer isolates served ask usable request additions given a b (inr (had, p)) (inl q) same_id ua ub =
+    absurd (refused_or_had request.command given (definitions_of request) q.0 had.0 q.2 (unwanted b ub (Context q.0) q.1) had.1)
+one_answer isolates served ask usable request additions given a b (inr (had, inl p)) (inr (has, inl q)) same_id ua ub =
     let room = unwanted a ua (Template p.0) p.1 in
     let more = unwanted b ub (Template q.0) q.1 in
     let same = same_refused served usable additions p.0 q.0 (refuses served additions a.next p.0 p.2 ua.first_id room) (refuses served additions b.next q.0 q.2 ub.first_id more) room more in
     nothing_written a b (p.1 ∙ ap (λ (ks : List ErrorKind). Template ks) same ∙ sym q.1) p.3 q.3
-one_answer isolates served ask usable request additions json a b (inr (had, inl p)) (inr (has, inr q)) same_id ua ub =
+one_answer isolates served ask usable request additions given a b (inr (had, inl p)) (inr (has, inr q)) same_id ua ub =
     let room = unwanted a ua (Template p.0) p.1 in
     absurd (all_or_refused served usable additions p.0 (refuses served additions a.next p.0 p.2 ua.first_id room) room q.1)
-one_answer isolates served ask usable request additions json a b (inr (had, inr p)) (inr (has, inl q)) same_id ua ub =
+one_answer isolates served ask usable request additions given a b (inr (had, inr p)) (inr (has, inl q)) same_id ua ub =
     let room = unwanted b ub (Template q.0) q.1 in
     absurd (all_or_refused served usable additions q.0 (refuses served additions b.next q.0 q.2 ub.first_id room) room p.1)
-one_answer isolates served ask usable request additions json a b (inr (had, inr (first, all, inl p))) (inr (has, inr (next, each, inl q))) same_id ua ub =
+one_answer isolates served ask usable request additions given a b (inr (had, inr (first, all, inl p))) (inr (has, inr (next, each, inl q))) same_id ua ub =
     nothing_written a b (p.0 ∙ sym q.0) p.2 q.2
-one_answer isolates served ask usable request additions json a b (inr (had, inr (first, all, inl p))) (inr (has, inr (next, each, inr q))) same_id ua ub =
+one_answer isolates served ask usable request additions given a b (inr (had, inr (first, all, inl p))) (inr (has, inr (next, each, inr q))) same_id ua ub =
     absurd (none-some _ (sym p.1 ∙ q.2.1))
-one_answer isolates served ask usable request additions json a b (inr (had, inr (first, all, inr p))) (inr (has, inr (next, each, inl q))) same_id ua ub =
+one_answer isolates served ask usable request additions given a b (inr (had, inr (first, all, inr p))) (inr (has, inr (next, each, inl q))) same_id ua ub =
     absurd (none-some _ (sym q.1 ∙ p.2.1))
-one_answer isolates served ask usable request additions json a b (inr (had, inr (first, all, inr p))) (inr (has, inr (next, each, inr q))) same_id ua ub =
-    performed_alike isolates served ask request.command request additions json a b p q same_id ua ub
+one_answer isolates served ask usable request additions given a b (inr (had, inr (first, all, inr p))) (inr (has, inr (next, each, inr q))) same_id ua ub =
+    performed_alike isolates served ask request.command request additions given a b p q same_id ua ub

@@ -5,3 +5,4 @@ pub mod Renders
 pub mod Settings
 pub mod Answers
 pub mod Statuses
+pub mod Alone

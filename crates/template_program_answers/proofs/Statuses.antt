@@ -17,8 +17,9 @@ use Rattle.template_environment_settings.specs.Outcomes.{IsWant}
 use Rattle.template_environment_settings.specs.Registry.{Registry}
 use Rattle.template_environment_settings.specs.Renderings.{Renders, whole, broken}
 use Rattle.template_environment_settings.specs.Standing.{setting_of}
-use Rattle.template_program_run.specs.Answers.{AnswersRequest, IsOutcomeOf, Performed, Rendered}
+use Rattle.template_program_run.specs.Answers.{AnswersWith, IsOutcomeOf, Performed, Rendered}
 use Rattle.template_program_run.specs.Ids.{last_id}
+use Rattle.template_program_run.specs.Given.{Given}
 use Rattle.template_program_run.specs.Served.{plainly_served}
 use Rattle.template_program_parts.specs.Status.{IsUnlessMemory}
 use Rattle.template_program_parts.specs.declared.outcome.Outcome.{Outcome}
@@ -99,27 +100,27 @@ rendered_wants e t context next kinds before after failed fails rendered status 
       (came.2.renders came.2.finished.0 came.2.finished.1) status
 ]
 
-performed_wants : (command : Command) (request : Request) (additions : List (List ℕ × List ℕ)) (json : Option (List ℕ)) (next : ℕ)
+performed_wants : (command : Command) (request : Request) (additions : List (List ℕ × List ℕ)) (given : Given) (next : ℕ)
     (kinds : List ErrorKind) (before after : Option (List ℕ)) (failed fails : ℕ)
-    → Performed plainly_served command request additions json next (Render kinds) before after failed fails → IsUnlessMemory kinds 1 6 → NoMemory kinds
-performed_wants asked.Render request additions json next kinds before after failed fails p status =
+    → Performed plainly_served command request additions given next (Render kinds) before after failed fails → IsUnlessMemory kinds 1 6 → NoMemory kinds
+performed_wants asked.Render request additions given next kinds before after failed fails p status =
     let does = p.2.2.2 in
     rendered_wants p.0 p.2.2.0 does.0 (next + 1) kinds before after failed fails does.2 status
-performed_wants asked.Names request additions json next kinds before after failed fails p status =
+performed_wants asked.Names request additions given next kinds before after failed fails p status =
     let told = p.2.2.2 in
     wanted kinds told.2 status
 
-answer_wants : (request : Request) (additions : List (List ℕ × List ℕ)) (json : Option (List ℕ)) (next : ℕ) (kinds : List ErrorKind)
-    (before after : Option (List ℕ)) (failed fails : ℕ) → AnswersRequest request additions json next (Render kinds) before after failed fails
+answer_wants : (request : Request) (additions : List (List ℕ × List ℕ)) (given : Given) (next : ℕ) (kinds : List ErrorKind)
+    (before after : Option (List ℕ)) (failed fails : ℕ) → AnswersWith plainly_served request additions given next (Render kinds) before after failed fails
     → IsUnlessMemory kinds 1 6 → NoMemory kinds
-answer_wants request additions json next kinds before after failed fails (inl refused) status = absurd (no_context refused.1)
-answer_wants request additions json next kinds before after failed fails (inr (had, inl refused)) status = absurd (no_template refused.1)
-answer_wants request additions json next kinds before after failed fails (inr (had, inr answered)) status = elim answered.2 [
+answer_wants request additions given next kinds before after failed fails (inl refused) status = absurd (no_context refused.1)
+answer_wants request additions given next kinds before after failed fails (inr (had, inl refused)) status = absurd (no_template refused.1)
+answer_wants request additions given next kinds before after failed fails (inr (had, inr answered)) status = elim answered.2 [
   | inl missing ↦ absurd (no_template missing.0)
-  | inr performed ↦ performed_wants request.command request additions json next kinds before after failed fails performed status
+  | inr performed ↦ performed_wants request.command request additions given next kinds before after failed fails performed status
 ]
 
 pub six_is_want : SixIsWant
-six_is_want request additions json a kinds answers is status =
-    answer_wants request additions json a.next kinds a.before a.after a.failed a.fails
-    (subst (λ (o : Outcome). AnswersRequest request additions json a.next o a.before a.after a.failed a.fails) is answers) status
+six_is_want request additions json a kinds (given, alone, answers) is status =
+    answer_wants request additions given a.next kinds a.before a.after a.failed a.fails
+    (subst (λ (o : Outcome). AnswersWith plainly_served request additions given a.next o a.before a.after a.failed a.fails) is answers) status

@@ -22,12 +22,13 @@ use Rattle.template_program_run.specs.declared.options.Options.{Options}
 
 -- options of nothing
 pub none_served : (options : Options) → options.builtins ≡ false → options.escapes ≡ ByName → options.syntax ≡ None
-    → options.names_as_json ≡ false → served_under options ≡ plainly_served
-none_served options builtins rule syntax names = λ i. record {
+    → options.names_as_json ≡ false → options.tells_where ≡ false → served_under options ≡ plainly_served
+none_served options builtins rule syntax names places = λ i. record {
   brought = brought_if (builtins i);
   syntax = unwrap_or (option_map (λ given. given.now) (syntax i)) default_syntax;
   escapes = rule_under (rule i);
   names_as_json = names i;
+  tells_where = places i;
 }
 
 -- none of what they bring asks for names

@@ -8,6 +8,7 @@ use Rattle.template_values_model.specs.Val.{Val}
 use Rattle.template_environment_settings.specs.Extras.{Brought}
 use Rattle.template_environment_settings.specs.Meaning.{Standing}
 use Rattle.template_environment_settings.specs.Registry.{Registry}
+use Rattle.template_program_expression.specs.Evaluations.{Evaluates, behind_evaluation}
 use Rattle.template_program_run.specs.Additions.{IsRefusedEnvironment}
 use Rattle.template_program_run.specs.Answers.{Rendered, TellsNames}
 use Rattle.template_program_run.specs.Ids.{IsLastId, behind_one, behind_request, last_id}
@@ -82,3 +83,21 @@ pub told_counts : (k : Brought) (as_json : Bool) (e : Registry) (t : Standing) (
 told_counts k as_json e t outcome before after failed fails told command is next end first =
     first ∙ sym (takes_one k as_json e t outcome before after failed fails told next)
     ∙ ap (λ (c : Command). behind_request c outcome next) (sym is)
+
+-- nor does an evaluation end otherwise
+no_context : (k : Brought) (e : Registry) (as_json : Bool) (text : List ℕ) (context : Val) (id : ℕ) (kinds : List ErrorKind)
+    (before after : Option (List ℕ)) (failed fails : ℕ) → Evaluates k e as_json text context id (Context kinds) before after failed fails → ⊥
+no_context k e as_json text context id kinds before after failed fails (inl refused) = let is = refused.1 in cc
+no_context k e as_json text context id kinds before after failed fails (inr evaluated) = elim (last_or_not id) [
+  | inl last ↦ let is = (evaluated.1.exhausted last).0 in cc
+  | inr more ↦ evaluated.1.told more
+]
+
+pub evaluation_counts : (k : Brought) (e : Registry) (as_json : Bool) (text : List ℕ) (context : Val) (id : ℕ) (outcome : Outcome)
+    (before after : Option (List ℕ)) (failed fails : ℕ) → Evaluates k e as_json text context id outcome before after failed fails
+    → (next end : ℕ) → id ≡ behind_one next → end ≡ behind_evaluation outcome id → end ≡ behind_request asked.Render outcome next
+evaluation_counts k e as_json text context id Done before after failed fails evaluates next end first second = second ∙ ap behind_one first
+evaluation_counts k e as_json text context id (Render kinds) before after failed fails evaluates next end first second = second ∙ ap behind_one first
+evaluation_counts k e as_json text context id (Template kinds) before after failed fails evaluates next end first second = second ∙ first
+evaluation_counts k e as_json text context id (Context kinds) before after failed fails evaluates next end first second =
+    absurd (no_context k e as_json text context id kinds before after failed fails evaluates)

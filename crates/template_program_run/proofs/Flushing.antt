@@ -5,7 +5,8 @@ use Rattle.std.specs.declared.io.Error.{Error}
 use Rattle.template_program_output.specs.Answer.{Answer}
 use Rattle.template_program_output.specs.Buffer.{failures_told}
 use Rattle.template_program_output.specs.Shown.{IsFlushed, Shown, TellsResult}
-use Rattle.template_program_run.specs.Answers.{AnswersWith}
+use Rattle.template_program_run.specs.Expressions.{AnswersAsked, Asked}
+use Rattle.template_program_run.specs.Given.{Given}
 use Rattle.template_program_run.specs.Served.{Served}
 use Rattle.template_program_parts.specs.declared.outcome.Outcome.{Outcome}
 use Rattle.template_program_run.specs.declared.request.Request.{Request}
@@ -23,20 +24,19 @@ told_failures None counted = tt
 told_failures (Some answers) counted = refl
 
 -- the additions, the context, the first id and the bytes before are what they are called
-pub runs_flushed : (request : Request) (served : Served) (additions given : List (List ℕ × List ℕ)) (json read : Option (List ℕ)) (next : ℕ)
+pub runs_flushed : (wanted : Option Asked) (request : Request) (served : Served) (additions added : List (List ℕ × List ℕ)) (given : Given) (next : ℕ)
     (before after : Shown) (taken written : Option (List ℕ)) (rest : List ℕ) (answers : Option (List Answer)) (failed fails : ℕ)
     (ran outcome : Outcome) (flush : Result (Unit {0}) Error)
-    → given ≡ additions → read ≡ json → next ≡ 0 → taken ≡ before.bytes → outcome ≡ flushed flush ran
+    → added ≡ additions → next ≡ 0 → taken ≡ before.bytes → outcome ≡ flushed flush ran
     → Keeps written (append_known after.bytes rest) → OnOk flush (rest ≡ []) → OnOk flush (IsFlushed after.answers)
     → HasFailed before.answers failed → HasFailed answers fails → TellsResult answers after.answers flush
-    → AnswersWith served request given read next ran taken written failed fails
-    → RunsFlushed request served additions json before after outcome
-runs_flushed request served additions given json read next before after taken written rest answers failed fails ran outcome flush
-    same_additions same_json first same_bytes becomes holds all last failed_before failed_then told runs =
-    let by_additions = subst (λ (a : List (List ℕ × List ℕ)). AnswersWith served request a read next ran taken written failed fails) same_additions runs in
-    let by_json = subst (λ (j : Option (List ℕ)). AnswersWith served request additions j next ran taken written failed fails) same_json by_additions in
-    let by_first = subst (λ (n : ℕ). AnswersWith served request additions json n ran taken written failed fails) first by_json in
-    let by_bytes = subst (λ (b : Option (List ℕ)). AnswersWith served request additions json 0 ran b written failed fails) same_bytes by_first in
+    → AnswersAsked wanted served request added given next ran taken written failed fails
+    → RunsFlushed wanted request served additions given before after outcome
+runs_flushed wanted request served additions added given next before after taken written rest answers failed fails ran outcome flush
+    same_additions first same_bytes becomes holds all last failed_before failed_then told runs =
+    let by_additions = subst (λ (a : List (List ℕ × List ℕ)). AnswersAsked wanted served request a given next ran taken written failed fails) same_additions runs in
+    let by_first = subst (λ (n : ℕ). AnswersAsked wanted served request additions given n ran taken written failed fails) first by_additions in
+    let by_bytes = subst (λ (b : Option (List ℕ)). AnswersAsked wanted served request additions given 0 ran b written failed fails) same_bytes by_first in
     record {
       ran = ran;
       flush = flush;

@@ -3,8 +3,11 @@ pub mod Settings
 pub mod Bringing
 pub mod MainStands
 pub mod Rendering
-pub mod Naming
+pub mod NeededNames
 pub mod Counting
 pub mod Flushing
 pub mod Refusing
+pub mod Halving
+pub mod Piping
+pub mod Giving
 pub mod Listing

@@ -9,9 +9,9 @@ use Rattle.template_environment_settings.specs.Compiled.{Compiled, standing_of}
 use Rattle.template_environment_settings.specs.Sources.{Source, tree_in}
 use Rattle.template_environment_settings.specs.Standing.{source_at}
 use Rattle.template_environment_settings.specs.Registry.{Registry}
-use Rattle.template_program_parts.specs.Asked.{HasContext}
 use Rattle.template_program_run.specs.Additions.{AllAreAccepted}
 use Rattle.template_program_run.specs.Environments.{IsMade}
+use Rattle.template_program_run.specs.Given.{Given, HasGiven}
 use Rattle.template_program_run.specs.History.{source_under, standing}
 use Rattle.template_program_run.specs.Ids.{IsLastId}
 use Rattle.template_program_run.specs.Served.{Served}
@@ -49,23 +49,23 @@ found_there served request additions id e c made named found rule =
       },
     )
 
-pub answers_done : (served : Served) (request : Request) (additions : List (List ℕ × List ℕ)) (json : Option (List ℕ)) (next : ℕ) (outcome : Outcome)
+pub answers_done : (served : Served) (request : Request) (additions : List (List ℕ × List ℕ)) (given : Given) (next : ℕ) (outcome : Outcome)
     (before after : Option (List ℕ)) (failed fails : ℕ)
-    → (context : Val) → HasContext request.command json (definitions_of request) context
+    → (context : Val) → HasGiven request.command given (definitions_of request) context
     → ¬ IsLastId next → AllAreAccepted served additions → (e : Registry) → IsMade served request additions next e
     → (c : Compiled) → c.name ≡ string_bytes request.main → source_at e (string_bytes request.main) ≡ Some c.source
     → IsEscapeOf c.source.escapes (string_bytes request.main) c.escape → (command : Command) → request.command ≡ command
-    → Does served command e (standing_of c) request json next outcome before after failed fails
-    → AnswersWith served request additions json next outcome before after failed fails
-answers_done served request additions json next outcome before after failed fails context has had accepted e made c named found rule command is does =
+    → Does served command e (standing_of c) request given next outcome before after failed fails
+    → AnswersWith served request additions given next outcome before after failed fails
+answers_done served request additions given next outcome before after failed fails context has had accepted e made c named found rule command is does =
     let there = found_there served request additions next e c made named found rule in
-    let done = subst (λ (asks : Command). Does served asks e (standing_of c) request json next outcome before after failed fails) (sym is) does in
+    let done = subst (λ (asks : Command). Does served asks e (standing_of c) request given next outcome before after failed fails) (sym is) does in
     inr ((context, has), inr (had, accepted, inr (e, made, (there.0, there.1, (standing_of c, there.2, done)))))
 
-pub rendered_does : (served : Served) (request : Request) (json : Option (List ℕ)) (next : ℕ) (outcome : Outcome) (before after : Option (List ℕ)) (failed fails : ℕ)
-    → (context : Val) → HasContext request.command json (definitions_of request) context → request.command ≡ asked.Render
+pub rendered_does : (served : Served) (request : Request) (given : Given) (next : ℕ) (outcome : Outcome) (before after : Option (List ℕ)) (failed fails : ℕ)
+    → (context : Val) → HasGiven request.command given (definitions_of request) context → request.command ≡ asked.Render
     → (e : Registry) (t : Standing) (id : ℕ) → id ≡ next + 1 → Rendered served.brought e t context id outcome before after failed fails
-    → Does served asked.Render e t request json next outcome before after failed fails
-rendered_does served request json next outcome before after failed fails context has is e t id counted rendered =
-    let read = subst (λ (command : Command). HasContext command json (definitions_of request) context) is has in
+    → Does served asked.Render e t request given next outcome before after failed fails
+rendered_does served request given next outcome before after failed fails context has is e t id counted rendered =
+    let read = subst (λ (command : Command). HasGiven command given (definitions_of request) context) is has in
     (context, read.1, subst (λ (i : ℕ). Rendered served.brought e t context i outcome before after failed fails) counted rendered)

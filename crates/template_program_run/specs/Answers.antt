@@ -21,10 +21,10 @@ use Rattle.template_environment_settings.specs.Sources.{tree_in}
 use Rattle.template_environment_settings.specs.Isolated.{AgreeAmong}
 use Rattle.template_environment_settings.specs.Registry.{Registry}
 use Rattle.template_environment_settings.specs.Standing.{setting_of}
-use Rattle.template_program_parts.specs.Asked.{HasContext, IsRefusedContext}
-use Rattle.template_program_parts.specs.Context.{IsContextOf, text_pairs}
+use Rattle.template_program_parts.specs.Context.{text_pairs}
 use Rattle.template_program_run.specs.Additions.{AllAreAccepted, IsRefusedAddition}
 use Rattle.template_program_run.specs.Environments.{IsMade}
+use Rattle.template_program_run.specs.Given.{Given, HasGiven, IsContextFrom, IsJsonAlone, IsRefusedGiven}
 use Rattle.template_program_run.specs.History.{source_under, standing}
 use Rattle.template_program_run.specs.Ids.{IsLastId}
 use Rattle.template_program_run.specs.Lines.{told_names}
@@ -94,39 +94,40 @@ TellsNames brought as_json e t (Template kinds) before after failed fails =
 TellsNames brought as_json e t _ before after failed fails = ⊥
 
 -- what is done with the main template
-abbrev pub Does : Served → Command → Registry → Standing → Request → Option (List ℕ) → ℕ → Outcome
+abbrev pub Does : Served → Command → Registry → Standing → Request → Given → ℕ → Outcome
     → Option (List ℕ) → Option (List ℕ) → ℕ → ℕ → Type 0
-Does served asked.Render e t request json next outcome before after failed fails =
-    (context : Val) × IsContextOf json (definitions_of request) context
+Does served asked.Render e t request given next outcome before after failed fails =
+    (context : Val) × IsContextFrom given (definitions_of request) context
     × Rendered served.brought e t context (next + 1) outcome before after failed fails
-Does served asked.Names e t request json next outcome before after failed fails =
+Does served asked.Names e t request given next outcome before after failed fails =
     TellsNames served.brought served.names_as_json e t outcome before after failed fails
 
 -- The main template stands, in an environment of the request that took the next id, and that is done with it.
-abbrev pub Performed : Served → Command → Request → List (List ℕ × List ℕ) → Option (List ℕ) → ℕ → Outcome
+abbrev pub Performed : Served → Command → Request → List (List ℕ × List ℕ) → Given → ℕ → Outcome
     → Option (List ℕ) → Option (List ℕ) → ℕ → ℕ → Type 0
-Performed served command request additions json next outcome before after failed fails =
+Performed served command request additions given next outcome before after failed fails =
     (e : Registry) × IsMade served request additions next e
     × ((text : List ℕ) × (standing additions (string_bytes request.main) ≡ Some text)
     × ((t : Standing) × IsTemplateOf served (string_bytes request.main) text t
-    × Does served command e t request json next outcome before after failed fails))
+    × Does served command e t request given next outcome before after failed fails))
 
 -- The context of a render is refused; or else the additions are, or the main template does not stand; or else
 -- what is asked is done. With no state id left, or no memory for the environment, the additions are refused.
-abbrev pub AnswersWith : Served → Request → List (List ℕ × List ℕ) → Option (List ℕ) → ℕ → Outcome
+abbrev pub AnswersWith : Served → Request → List (List ℕ × List ℕ) → Given → ℕ → Outcome
     → Option (List ℕ) → Option (List ℕ) → ℕ → ℕ → Type 0
-AnswersWith served request additions json next outcome before after failed fails =
-    ((kinds : List ErrorKind) × (outcome ≡ Context kinds) × IsRefusedContext request.command json kinds
+AnswersWith served request additions given next outcome before after failed fails =
+    ((kinds : List ErrorKind) × (outcome ≡ Context kinds) × IsRefusedGiven request.command given kinds
     × IsUntouched before after failed fails)
-    ⊎ (((context : Val) × HasContext request.command json (definitions_of request) context)
+    ⊎ (((context : Val) × HasGiven request.command given (definitions_of request) context)
     × (((kinds : List ErrorKind) × (outcome ≡ Template kinds) × IsRefusedAddition served additions next kinds
     × IsUntouched before after failed fails)
     ⊎ (¬ IsLastId next × AllAreAccepted served additions
     × (((outcome ≡ Template (TemplateNotFound ∷ [])) × (standing additions (string_bytes request.main) ≡ None)
     × IsUntouched before after failed fails)
-    ⊎ Performed served request.command request additions json next outcome before after failed fails))))
+    ⊎ Performed served request.command request additions given next outcome before after failed fails))))
 
--- the same where it is served with nothing beside its templates and its context
+-- the same where it is served with nothing beside its templates and its context, and that is made of these bytes of JSON, if any
 abbrev pub AnswersRequest : Request → List (List ℕ × List ℕ) → Option (List ℕ) → ℕ → Outcome
     → Option (List ℕ) → Option (List ℕ) → ℕ → ℕ → Type 0
-AnswersRequest = AnswersWith plainly_served
+AnswersRequest request additions json next outcome before after failed fails =
+    (given : Given) × IsJsonAlone json given × AnswersWith plainly_served request additions given next outcome before after failed fails

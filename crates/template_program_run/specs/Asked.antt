@@ -31,6 +31,7 @@ syntax_set words = record {
   trim_blocks = words.trim_blocks;
   lstrip_blocks = words.lstrip_blocks;
   keep_trailing_newline = words.keep_trailing_newline;
+  scoped_blocks = words.scoped_blocks;
 }
 
 -- no delimiter and no prefix is set
@@ -48,11 +49,13 @@ pub record SetNoText (words : SyntaxWords) : Type 0 where
 abbrev pub syntax_words : Words → SyntaxWords
 syntax_words (asks.Render read) = read.syntax
 syntax_words (asks.Names read) = read.syntax
+syntax_words (asks.Check read) = read.syntax
 
 -- the path of the file that is written in place of the output, if the words name one
 abbrev pub output_word : Words → Option (List ℕ)
 output_word (asks.Render read) = option_map (λ path. path.now) read.output
 output_word (asks.Names read) = option_map (λ path. path.now) read.output
+output_word (asks.Check read) = None
 
 -- the rule of escapes that the word names
 abbrev pub rule_named : EscapeWord → EscapeRule
@@ -67,10 +70,19 @@ served_by (asks.Render read) = record {
   syntax = syntax_set read.syntax;
   escapes = rule_under (rule_named read.autoescape);
   names_as_json = false;
+  tells_where = read.tells_where;
 }
 served_by (asks.Names read) = record {
   brought = brought_if read.builtins;
   syntax = syntax_set read.syntax;
   escapes = ByName;
   names_as_json = read.json;
+  tells_where = read.tells_where;
+}
+served_by (asks.Check read) = record {
+  brought = brought_if read.builtins;
+  syntax = syntax_set read.syntax;
+  escapes = ByName;
+  names_as_json = false;
+  tells_where = false;
 }

@@ -8,17 +8,18 @@ use Rattle.template_environment_settings.specs.Extras.{Brought, nothing_brought}
 use Rattle.template_program_run.specs.Brought.{brought_under}
 use Rattle.template_program_run.specs.declared.options.Options.{Options}
 
--- what is brought to its environment; how its templates are read: under which syntax, and by which rule of escapes; and whether
--- names are told as JSON
+-- what is brought to its environment; how its templates are read: under which syntax, and by which rule of escapes; whether
+-- names are told as JSON; and whether the places of a fault are told
 pub record Served : Type 0 where
   pub brought : Brought
   pub syntax : Syntax
   pub escapes : EscapeRule
   pub names_as_json : Bool
+  pub tells_where : Bool
 
--- with nothing brought, under the default syntax, with escapes by name, and names one a line
+-- with nothing brought, under the default syntax, with escapes by name, names one a line, and faults without places
 abbrev pub plainly_served : Served
-plainly_served = record { brought = nothing_brought; syntax = default_syntax; escapes = ByName; names_as_json = false }
+plainly_served = record { brought = nothing_brought; syntax = default_syntax; escapes = ByName; names_as_json = false; tells_where = false }
 
 -- the syntax of the options, or else the default one
 abbrev pub syntax_under : Options → Syntax
@@ -36,4 +37,5 @@ served_under options = record {
   syntax = syntax_under options;
   escapes = rule_under options.escapes;
   names_as_json = options.names_as_json;
+  tells_where = options.tells_where;
 }

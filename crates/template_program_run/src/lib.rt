@@ -3,20 +3,33 @@
 #![tactic(auto)]
 
 mod additions;
+mod checking;
+mod documents;
+mod evaluating;
 mod extension;
+mod folder;
 mod inputs;
+mod lacking;
+mod named;
 mod names;
+mod naming;
 mod options;
+mod origins;
+mod parts;
 mod performing;
 mod placing;
+mod refusals;
 mod request;
 mod running;
 mod serving;
 mod starting;
 mod syntax;
 mod telling;
+mod values;
 
+pub use evaluating::{Expression, evaluate_with};
 pub use options::Options;
+pub use parts::ContextParts;
 pub use request::Request;
 pub use running::{run, run_with};
 pub use starting::{refuse_arguments, start};

@@ -15,21 +15,30 @@ pub struct Options<'a> {
     pub syntax: Option<&'a SyntaxConfig>,
     /// Whether names are told as a JSON list of texts on one line, and not one a line.
     pub names_as_json: bool,
+    /// Whether the places of a fault follow its line.
+    pub tells_where: bool,
+    /// Whether what the context holds is left in memory after the run, as where the process ends then. Giving it up takes as long as
+    /// a third of reading it.
+    pub leaves_context: bool,
 }
 
 impl Options<'_> {
-    /// No builtins, escapes by name, the default syntax, and names one a line.
+    /// No builtins, escapes by name, the default syntax, names one a line, faults without places, and a context that is given up.
     pub fn new() -> Options<'static>
         ensures builtins { result.builtins ≡ false }
         ensures escapes { result.escapes ≡ EscapeRule.ByName }
         ensures syntax { result.syntax ≡ None }
         ensures names { result.names_as_json ≡ false }
+        ensures places { result.tells_where ≡ false }
+        ensures given_up { result.leaves_context ≡ false }
     {
         Options {
             builtins: false,
             escapes: EscapeRule::ByName,
             syntax: None,
             names_as_json: false,
+            tells_where: false,
+            leaves_context: false,
         }
     }
 }

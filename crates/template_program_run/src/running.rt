@@ -1,5 +1,5 @@
 //! The run of a request.
-ghost use Rattle.std.specs.Prelude.{◌≡◌, ℕ, List, Some, option_copied, string_bytes, IfOk, IfErr};
+ghost use Rattle.std.specs.Prelude.{◌≡◌, ℕ, List, Some, option_copied, option_to_list, string_bytes, IfOk, IfErr};
 ghost use Rattle.template_program_parts.specs.Context.{text_pairs};
 ghost use Rattle.template_machine_surroundings.specs.Rule.{IsEscapeOf};
 ghost use Rattle.template_environment_settings.specs.Compiled.{standing_of};
@@ -7,9 +7,9 @@ ghost use Rattle.template_environment_settings.specs.Isolation.{AskNoNames};
 ghost use Rattle.template_environment_settings.specs.Plain.{IsPlain, text_kept};
 ghost use Rattle.template_environment_settings.specs.Reading.{brought_of, callables_of, registry_of};
 ghost use Rattle.template_environment_settings.specs.Views.{compiled_in, environment_of as place_of, name_of, source_of};
-ghost use Rattle.template_program_parts.specs.Asked.{HasContext, IsRefusedContext};
 ghost use Rattle.template_program_run.specs.Answers.{AnswersRequest, AnswersWith, Rendered, TellsNames, definitions_of};
 ghost use Rattle.template_program_run.specs.Brought.{program_answers};
+ghost use Rattle.template_program_run.specs.Given.{AreJson, HasGiven, IsRefusedGiven, given_in};
 ghost use Rattle.template_program_run.specs.History.{source_for, source_under, standing};
 ghost use Rattle.template_program_run.specs.Ids.{behind_one, behind_request};
 ghost use Rattle.template_program_run.specs.Plain.{WritesOnDone, WritesOnRender};
@@ -19,13 +19,16 @@ use crate::additions::environment_of;
 use crate::extension::Program;
 use crate::names::write_names;
 use crate::options::Options;
+use crate::parts::ContextParts;
 use crate::request::Request;
 use std::alloc::Global;
+use std::mem;
 use template_builtins::builtins_ask_no_names;
 use template_environment_settings::{Environment, Template, every_render_ends};
 use template_machine_output::Sink;
 use template_machine_surroundings::StateIds;
-use template_program_parts::{Command, Outcome, context_for};
+use template_program_contexts::{Document, Form, context_with};
+use template_program_parts::{Command, Outcome};
 use template_values_core::Value;
 use template_values_errors::Error;
 
@@ -59,18 +62,20 @@ pub fn run<S: Sink>(
         → IsPlain (source_for text) →
         WritesOnRender request.now.command (S.taken sink.old) (S.taken sink.new) (text_kept (source_for text)) result }
 {
+    let document = json_document(context);
     run_with(
         alloc,
         request,
         Options::new(),
         templates,
-        context,
+        ContextParts::of_documents(document.as_slice()),
         ids,
         sink,
     )
 }
 
-/// The same with options, which say what else stands in the environment, how templates are read, and how names are written.
+/// The same with options, which say what else stands in the environment, how templates are read, and how names are written; and
+/// with a context that is made of several documents and of values.
 ///
 /// # Errors
 ///
@@ -80,11 +85,11 @@ pub fn run_with<S: Sink>(
     request: &Request,
     options: Options<'_>,
     templates: &[(String, String)],
-    context: Option<&[u8]>,
+    context: ContextParts<'_>,
     ids: &mut StateIds,
     sink: &mut S,
 ) -> Outcome
-    ensures answers { AnswersWith (served_under options.entry) request.now (text_pairs templates.now) (option_copied context.entry)
+    ensures answers { AnswersWith (served_under options.entry) request.now (text_pairs templates.now) (given_in context.entry)
         ids.old result (S.taken sink.old) (S.taken sink.new) (S.failures sink.old) (S.failures sink.new) }
     ensures counted { ids.new ≡ behind_request request.now.command result ids.old }
 
@@ -97,6 +102,7 @@ pub fn run_with<S: Sink>(
         Ok(context) => context,
         Err(error) => return Outcome::Context(error),
     };
+    leave(&context, options.leaves_context);
     let environment = match environment_of(alloc, templates, request, options, ids) {
         Ok(environment) => environment,
         Err(error) => return Outcome::Template(error),
@@ -112,12 +118,45 @@ pub fn run_with<S: Sink>(
     }
 }
 
-// The context that the request asks for.
-fn context_of(alloc: Global, request: &Request, context: Option<&[u8]>) -> Result<Value, Error>
-    ensures has { IfOk result (HasContext request.now.command (option_copied context.entry) (definitions_of request.now)) }
-    ensures refused { IfErr result (IsRefusedContext request.now.command (option_copied context.entry)) }
+// The bytes as a document of JSON.
+fn json_document<'a>(context: Option<&'a [u8]>) -> Option<Document<'a>>
+    ensures { AreJson (option_copied context.entry) (option_to_list result) }
 {
-    context_for(alloc, request.command, context, &request.texts)
+    match context {
+        Some(bytes) => Some(Document {
+            bytes,
+            form: Form::Json,
+        }),
+        None => None,
+    }
+}
+
+/// The context that the request asks for.
+pub(crate) fn context_of(
+    alloc: Global,
+    request: &Request,
+    parts: ContextParts<'_>,
+) -> Result<Value, Error>
+    ensures has { IfOk result (HasGiven request.now.command (given_in parts.entry) (definitions_of request.now)) }
+    ensures refused { IfErr result (IsRefusedGiven request.now.command (given_in parts.entry)) }
+{
+    match request.command {
+        Command::Render => context_with(
+            alloc,
+            parts.documents,
+            &request.texts,
+            parts.values,
+            parts.floats,
+        ),
+        Command::Names => Ok(Value::undefined()),
+    }
+}
+
+/// Leaves what the context holds in memory, where that is asked for: a share of it is never given up.
+pub(crate) fn leave(context: &Value, leaves: bool) {
+    if leaves {
+        mem::forget(context.copy());
+    }
 }
 
 // Renders the main template.

@@ -33,7 +33,8 @@ pub(crate) fn syntax_of(
 fn set_nothing(words: &SyntaxWords<'_>) -> bool
     ensures { IsTrue result → syntax_set words.now ≡ default_syntax }
 {
-    let flags = words.trim_blocks || words.lstrip_blocks || words.keep_trailing_newline;
+    let spaces = words.trim_blocks || words.lstrip_blocks || words.keep_trailing_newline;
+    let flags = spaces || words.scoped_blocks;
     !flags && set_no_text(words)
 }
 
@@ -63,6 +64,7 @@ fn built(alloc: Global, words: &SyntaxWords<'_>) -> Result<SyntaxConfig, Error>
     builder.trim_blocks(words.trim_blocks);
     builder.lstrip_blocks(words.lstrip_blocks);
     builder.keep_trailing_newline(words.keep_trailing_newline);
+    builder.scoped_blocks(words.scoped_blocks);
     builder.build()
 }
 

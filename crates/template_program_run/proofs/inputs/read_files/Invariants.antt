@@ -1,7 +1,7 @@
 -- The templates so far have the paths so far as their names, and hold the files.
 use Rattle.std.proofs.Common.{◌≡◌, All, map, take}
 use Rattle.template_program_parts.specs.Context.{text_pairs}
-use Rattle.template_program_run.specs.Starts.{IsReadFrom, addition_names}
+use Rattle.template_program_run.specs.Templates.{IsReadFrom, addition_names}
 use Rattle.template_program_run.proofs.inputs.read_files.Given as goal
 
 abbrev pub invariant-loop-path : goal.invariant-loop-path

@@ -1,4 +1,4 @@
-use Rattle.std.proofs.Common.{◌≡◌, ◌∙◌, ap, sym, subst, rules, List, ℕ, option_copied}
+use Rattle.std.proofs.Common.{◌≡◌, ◌∙◌, ap, sym, subst, rules, List, ℕ}
 use Rattle.template_machine_surroundings.specs.Rule.{IsEscapeOf}
 use Rattle.template_environment_settings.specs.Compiled.{standing_of}
 use Rattle.template_environment_settings.specs.Extras.{Brought}
@@ -9,6 +9,7 @@ use Rattle.template_program_parts.specs.Context.{text_pairs}
 use Rattle.template_program_run.specs.Answers.{Rendered, TellsNames}
 use Rattle.template_program_run.specs.Brought.{program_answers}
 use Rattle.template_program_run.specs.Environments.{IsMade}
+use Rattle.template_program_run.specs.Given.{given_in}
 use Rattle.template_program_run.specs.Served.{served_under}
 use Rattle.template_program_parts.specs.declared.command.Command.TheVariants as asked
 use Rattle.template_program_run.proofs.Bringing.{asks_none}
@@ -33,11 +34,11 @@ returns-in-Render-clause-answers g c =
     ap (brought_of program_answers) t.ensures.here ∙ e.ensures.brought in
     let rendered = subst (λ (b : Brought). Rendered b (registry_of (environment_of t.template)) (standing_of (compiled_in t.template.compiled))
     c.in-Ok.context c.environment_of.new.ids c.render.result (g.S.Sink.taken c.args.sink.now) (g.S.Sink.taken c.render.new.sink) (g.S.Sink.failures c.args.sink.now) (g.S.Sink.failures c.render.new.sink)) brought c.render.ensures.rendered in
-    answers_done served c.args.request.now (text_pairs c.args.templates.now) (option_copied c.args.context) c.args.ids.now c.render.result _ _ _ _
+    answers_done served c.args.request.now (text_pairs c.args.templates.now) (given_in c.args.context) c.args.ids.now c.render.result _ _ _ _
     c.in-Ok.context c.in-Ok.ensures.has e.ensures.had_one e.ensures.accepted (registry_of (environment_of t.template)) made (compiled_in t.template.compiled)
     (t.ensures.named ∙ main) (search rules) (subst (λ (n : List ℕ). IsEscapeOf (source_of t.template).escapes n (compiled_in t.template.compiled).escape) (t.ensures.named ∙ main) c.render.ensures.rule)
     asked.Render (search rules)
-    (rendered_does served c.args.request.now (option_copied c.args.context) c.args.ids.now c.render.result _ _ _ _ c.in-Ok.context c.in-Ok.ensures.has (search rules)
+    (rendered_does served c.args.request.now (given_in c.args.context) c.args.ids.now c.render.result _ _ _ _ c.in-Ok.context c.in-Ok.ensures.has (search rules)
     (registry_of (environment_of t.template)) (standing_of (compiled_in t.template.compiled)) c.environment_of.new.ids
     (e.ensures.counted ∙ one_more c.args.ids.now e.ensures.had_one) rendered)
 
@@ -49,7 +50,7 @@ returns-in-Names-clause-answers g c =
     let served = served_under c.args.options in
     let told = subst (λ (b : Brought). TellsNames b c.args.options.names_as_json (registry_of e.environment) (standing_of (compiled_in t.template.compiled))
     c.tell_names.result (g.S.Sink.taken c.args.sink.now) (g.S.Sink.taken c.tell_names.new.sink) (g.S.Sink.failures c.args.sink.now) (g.S.Sink.failures c.tell_names.new.sink)) e.ensures.brought c.tell_names.ensures.told in
-    answers_done served c.args.request.now (text_pairs c.args.templates.now) (option_copied c.args.context) c.args.ids.now c.tell_names.result _ _ _ _
+    answers_done served c.args.request.now (text_pairs c.args.templates.now) (given_in c.args.context) c.args.ids.now c.tell_names.result _ _ _ _
     c.in-Ok.context c.in-Ok.ensures.has e.ensures.had_one e.ensures.accepted (registry_of e.environment) e.ensures.made (compiled_in t.template.compiled)
     (t.ensures.named ∙ main) (search rules) (subst (λ (n : List ℕ). IsEscapeOf (source_of t.template).escapes n (compiled_in t.template.compiled).escape) (t.ensures.named ∙ main) c.tell_names.ensures.rule)
     asked.Names (search rules) told

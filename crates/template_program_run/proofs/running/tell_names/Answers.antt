@@ -5,7 +5,7 @@ use Rattle.template_environment_settings.specs.Compiled.{standing_of}
 use Rattle.template_environment_settings.specs.Reading.{brought_of, registry_of}
 use Rattle.template_environment_settings.specs.Views.{compiled_in}
 use Rattle.template_program_run.specs.Brought.{program_answers}
-use Rattle.template_program_run.proofs.Naming.{has_names}
+use Rattle.template_program_run.proofs.NeededNames.{has_names}
 use Rattle.template_program_run.proofs.running.tell_names.Goals as goal
 
 pub returns-in-Ok-write_names-clause-told : goal.returns-in-Ok-write_names-clause-told

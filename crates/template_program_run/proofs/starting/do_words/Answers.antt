@@ -1,36 +1,37 @@
-use Rattle.std.proofs.Common.{Err, List, Option, ℕ, ap, inl, inr, option_map, refl, subst}
-use Rattle.template_program_parts.specs.Context.{text_pairs}
-use Rattle.template_program_run.specs.Asked.{served_by}
-use Rattle.template_program_run.specs.Served.{Served}
-use Rattle.template_program_run.specs.Starts.{PerformsTo}
-use Rattle.template_program_run.proofs.Refusing.{refuses_inputs}
+use Rattle.std.proofs.Common.{◌≡◌, subst, sym}
+use Rattle.template_program_words.specs.declared.words.Words.{Words}
+use Rattle.template_program_run.specs.Starts.{DoesWords, RunsWords}
+use Rattle.template_program_run.specs.Told.{told_by}
 use Rattle.template_program_run.proofs.starting.do_words.Goals as goal
 
-pub returns-in-Ok : goal.returns-in-Ok
-returns-in-Ok g c =
-    let inputs = c.in-Ok.inputs in
-    let additions = text_pairs inputs.templates.items in
-    let json = option_map (λ bytes. bytes.items) inputs.context in
+-- what holds of words holds of what they are
+turned : {A : Type 0} (P Q : A → Type 0) (x y : A) → x ≡ y → (P y → Q y) → P x → Q x
+turned P Q x y is step holds = subst Q (sym is) (step (subst P is holds))
+
+pub returns-in-Render : goal.returns-in-Render
+returns-in-Render g c =
+    let told = told_by (g.R.Folders.entries c.args.rt.now) (g.R.FileSystem.content c.args.rt.now) (g.I.Reader.may_fail c.args.input.now)
+    (g.I.Reader.remaining c.args.input.now) in
     let fresh = g.R.Placing.fresh c.args.rt.now in
     let placed = g.R.Placing.placed c.args.rt.now in
     let out = g.O.Output.shown c.args.out in
-    let out_after = g.O.Output.shown c.perform_to.result.1 in
+    let out_after = g.O.Output.shown c.run_words.result.1 in
     let fault = g.F.Output.shown c.args.fault.now in
-    let fault_after = g.F.Output.shown c.perform_to.new.fault in
-    let served = subst (λ (s : Served). PerformsTo (option_map (λ path. path.now) c.output_of.result) fresh placed inputs.request s additions json
-    out out_after fault fault_after c.perform_to.result.0) c.requires c.perform_to.ensures in
-    let performs = subst (λ (path : Option (List ℕ)). PerformsTo path fresh placed inputs.request (served_by c.args.words.now) additions json
-    out out_after fault fault_after c.perform_to.result.0) c.output_of.ensures served in
-    inr (inputs.request, additions, json, c.in-Ok.ensures.asked, c.in-Ok.ensures.read, performs)
+    let fault_after = g.F.Output.shown c.run_words.new.fault in
+    turned (λ (w : Words). RunsWords w told fresh placed out out_after fault fault_after c.run_words.result.0)
+    (λ (w : Words). DoesWords w told fresh placed out out_after fault fault_after c.run_words.result.0) _ _ c.in-Render.is (λ runs. runs)
+    c.run_words.ensures
 
-pub returns-in-Err : goal.returns-in-Err
-returns-in-Err g c =
-    let refused = c.in-Err.refused in
-    inl (
-      refused,
-      refuses_inputs (g.R.FileSystem.content c.args.rt.now) (g.I.Reader.may_fail c.args.input.now) (g.I.Reader.remaining c.args.input.now)
-          c.args.words.now refused (λ is. c.in-Err.ensures.refused (ap Err is)),
-      c.refuse_file.ensures.status,
-      refl,
-      c.refuse_file.ensures.told,
-    )
+pub returns-in-Names : goal.returns-in-Names
+returns-in-Names g c =
+    let told = told_by (g.R.Folders.entries c.args.rt.now) (g.R.FileSystem.content c.args.rt.now) (g.I.Reader.may_fail c.args.input.now)
+    (g.I.Reader.remaining c.args.input.now) in
+    let fresh = g.R.Placing.fresh c.args.rt.now in
+    let placed = g.R.Placing.placed c.args.rt.now in
+    let out = g.O.Output.shown c.args.out in
+    let out_after = g.O.Output.shown c.run_words-in-Names.result.1 in
+    let fault = g.F.Output.shown c.args.fault.now in
+    let fault_after = g.F.Output.shown c.run_words-in-Names.new.fault in
+    turned (λ (w : Words). RunsWords w told fresh placed out out_after fault fault_after c.run_words-in-Names.result.0)
+    (λ (w : Words). DoesWords w told fresh placed out out_after fault fault_after c.run_words-in-Names.result.0) _ _ c.in-Names.is (λ runs. runs)
+    c.run_words-in-Names.ensures

@@ -3,7 +3,7 @@ use Rattle.template_compiler_syntax.specs.Syntax.{IsUsable}
 use Rattle.template_program_words.specs.declared.syntax.SyntaxWords.{SyntaxWords}
 use Rattle.template_program_run.specs.Asked.{syntax_set}
 use Rattle.template_program_run.specs.Starts.{RefusesSyntax}
-use Rattle.template_program_run.proofs.starting.follow_words.Goals as goal
+use Rattle.template_program_run.proofs.starting.do_under_syntax.Goals as goal
 
 pub returns-in-Ok : goal.returns-in-Ok
 returns-in-Ok g c =
