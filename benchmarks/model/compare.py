@@ -1,4 +1,4 @@
-"""Compares the model with stored rows: compare.py STDOUT [builtins]   (with `builtins` the table is that of template_builtins_rows)"""
+"""Compares the model with stored rows: compare.py STDOUT [builtins]   (with `builtins` on those of the builtins alone)"""
 import json
 import sys
 import model
@@ -7,7 +7,8 @@ import model
 def main():
     path = sys.argv[1]
     answer = model.answer
-    if sys.argv[2:] == ["builtins"]:
+    of_builtins = sys.argv[2:] == ["builtins"]
+    if of_builtins:
         import builtin_answers
 
         answer = builtin_answers.answer
@@ -21,6 +22,8 @@ def main():
             case, at = decoder.raw_decode(line)
         except ValueError:
             skipped += 1
+            continue
+        if ("s" in case) != of_builtins:
             continue
         assert line[at:at + 3] == " = ", line
         wanted = line[at + 3:]

@@ -86,7 +86,8 @@ def main():
             heading = l
         elif l:
             case, at = decoder.raw_decode(l)
-            cases.append((heading, case, l[at + 3:]))
+            if "s" not in case:
+                cases.append((heading, case, l[at + 3:]))
     seen = {}
     skipped = set(sys.argv[2].split(";")) if len(sys.argv) > 2 else set()
     for name, pairs in MUTANTS.items():

@@ -104,7 +104,8 @@ def main():
                 case, at = decoder.raw_decode(l)
             except ValueError:
                 continue
-            cases.append((heading, case, l[at + 3:]))
+            if "s" not in case:
+                cases.append((heading, case, l[at + 3:]))
     if "--all" in sys.argv[2:]:
         right = wrong_of("own", ())
         cases = [(h, c, s) for h, c, s in cases if ran(right, c) == s]

@@ -652,7 +652,8 @@ def cases_of(files):
         for l in open(f, encoding="utf-8").read().split("\n"):
             if l.startswith("{"):
                 case, at = decoder.raw_decode(l)
-                out.append((l[:at], case, l[at + 3:]))
+                if "s" not in case:
+                    out.append((l[:at], case, l[at + 3:]))
     return sorted(out, key=lambda c: len(c[0]))
 
 

@@ -3,7 +3,7 @@ ghost use Rattle.std.specs.Prelude.{IfOk};
 ghost use Rattle.template_tree.specs.View.{expression_of};
 ghost use Rattle.template_tree_statements.specs.View.{statement_of};
 ghost use Rattle.template_walk.specs.Runnable.{IsRunnable};
-ghost use Rattle.template_compiler_statement_codegen.specs.Listed.{IsRunnableTree};
+ghost use Rattle.template_compiler_generator.specs.Alone.{CanStand};
 
 use crate::NAME;
 use crate::code::write_instructions;
@@ -18,7 +18,7 @@ use template_values_errors::Error;
 
 /// What kind of stream the code of a template is, and its instructions.
 pub(crate) fn checked_template(alloc: Global, tree: &Stmt<'_>, out: &mut Report)
-    requires { IsRunnableTree (statement_of tree.now) }
+    requires { CanStand (statement_of tree.now) }
 {
     write_checked(&verified_template(alloc, NAME, "", tree), out)
 }

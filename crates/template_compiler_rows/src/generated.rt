@@ -1,6 +1,6 @@
 //! Instructions that calls of a generator make, one behind the other.
 ghost use Rattle.template_tree_statements.specs.View.{statement_of};
-ghost use Rattle.template_compiler_statement_codegen.specs.Listed.{IsRunnableTree};
+ghost use Rattle.template_compiler_generator.specs.Alone.{CanStand};
 
 use crate::NAME;
 use crate::code::write_instructions;
@@ -24,7 +24,7 @@ pub(crate) fn generated<'line>(
     entries: &'line Map<String, Json>,
     out: &mut Report,
 )
-    requires { IsRunnableTree (statement_of tree.now) }
+    requires { CanStand (statement_of tree.now) }
 {
     match (entries.get("calls"), entries.get("places")) {
         (Some(Json::Array(calls)), Some(Json::Array(places))) => {
@@ -50,7 +50,7 @@ fn generate<'line>(
     ask_numbers: bool,
     out: &mut Report,
 )
-    requires { IsRunnableTree (statement_of tree.now) }
+    requires { CanStand (statement_of tree.now) }
 {
     let mut generator = CodeGenerator::new(alloc, NAME, "");
     make_all(&mut generator, tree, calls, out);
@@ -82,7 +82,7 @@ fn make_all<'line>(
     calls: &'line [Json],
     out: &mut Report,
 )
-    requires { IsRunnableTree (statement_of tree.now) }
+    requires { CanStand (statement_of tree.now) }
 {
     for call in calls {
         if let Err(error) = make(generator, tree, call) {
@@ -99,7 +99,7 @@ fn make<'line>(
     tree: &Stmt<'line>,
     call: &'line Json,
 ) -> Result<(), Error>
-    requires { IsRunnableTree (statement_of tree.now) }
+    requires { CanStand (statement_of tree.now) }
 {
     match call {
         Json::String(name) => make_named(generator, tree, name.as_str()),
@@ -113,7 +113,7 @@ fn make_named<'line>(
     tree: &Stmt<'line>,
     name: &str,
 ) -> Result<(), Error>
-    requires { IsRunnableTree (statement_of tree.now) }
+    requires { CanStand (statement_of tree.now) }
 {
     match name {
         "template" => generator.compile_stmt(tree),

@@ -9,7 +9,7 @@
 //!   where none stands; `stream`: the same, as a stream shows them before it passes them, behind the name and the text
 //!   of what it reads;
 //! - `syntax`: what the syntax has: the delimiters of blocks, prints and comments, the prefixes of line statements and
-//!   line comments, and the answers to `trim_blocks`, `lstrip_blocks` and `keep_trailing_newline`;
+//!   line comments, and the answers to `trim_blocks`, `lstrip_blocks`, `keep_trailing_newline` and `scoped_blocks`;
 //!
 //! and of the template under the default syntax for
 //!
@@ -52,8 +52,10 @@
 //!   in that line and has nothing else, or `"drop"`, which drops the last one;
 //! - `many` and `pairs`, two counts: how many numbers lie on one another, from 0 on, and how many values or pairs of them
 //!   are taken: what was taken, the lowest first, then the number on top, if there is one, each with a `;` behind it;
-//! - `stream`, an array of instructions, words or words with the place to which they lead: of what it is a stream, or
-//!   why it is none, and how many instructions come back;
+//! - `stream`, an array of instructions: of what it is a stream, or why it is none, and how many instructions come back;
+//!   `references`, such an array: the names that those up to each one refer to, and up to one past the last, the latest first, as
+//!   `( name ..)`. An instruction is a word, or an array of a word and a number: the place where it leads, a count (`null` for a
+//!   counted run), or a name's letter. The words stand in `words.rt`;
 //! - `fuel`, a number and an array of instructions, as of a `stream`: whether the fuel lets each of them run, then what
 //!   remains of it and what was consumed, each with a `;` behind it;
 //! - `names`, two sources: the names that they use, put into one set;
@@ -80,6 +82,7 @@ mod syntax;
 mod tokens;
 mod trees;
 mod unit_names;
+mod words;
 
 use crate::calls::answers_of_stream;
 use crate::checked::checked_expression;
@@ -89,7 +92,7 @@ use crate::listed::listed;
 use crate::made::{chain, write_description};
 use crate::operands::about_operands;
 use crate::report::Report;
-use crate::streams::verified;
+use crate::streams::{referenced, verified};
 use crate::syntax::{parts_of_syntax, syntax_of};
 use crate::tokens::{first_token, place_behind, place_of_many, streamed_tokens, tokens_of};
 use crate::trees::{about_template, names_of_both, value};
@@ -215,6 +218,7 @@ fn about_entry(alloc: Global, name: &str, value: &Json, out: &mut Report) {
             about_operands(alloc, name, counts.as_slice(), out)
         }
         ("stream", Json::Array(steps)) => verified(alloc, steps.as_slice(), out),
+        ("references", Json::Array(steps)) => referenced(alloc, steps.as_slice(), out),
         ("attributes", count) => chain(alloc, count.as_u64().unwrap_or(0), out),
         (name, Json::Array(parts)) => about_parts(alloc, name, parts.as_slice(), out),
         _ => out.refuse(ErrorKind::SyntaxError),
@@ -234,7 +238,7 @@ fn about_parts(alloc: Global, name: &str, parts: &[Json], out: &mut Report) {
             listed(alloc, steps.as_slice(), places.as_slice(), out)
         }
         [fuel, Json::Array(steps)] if name == "fuel" => {
-            tracked(fuel.as_u64().unwrap_or(0), steps.as_slice(), out)
+            tracked(alloc, fuel.as_u64().unwrap_or(0), steps.as_slice(), out)
         }
         _ => out.refuse(ErrorKind::SyntaxError),
     }

@@ -1,23 +1,17 @@
-//! Streams of instructions that are listed one by one, and what the check of streams says of them.
+//! Streams of instructions that are listed one by one, what the check of streams says of them, and which names they refer to.
 use crate::listed::added;
-use crate::report::{Report, unreadable};
+use crate::report::Report;
+use crate::words::instruction;
 use serde_json::Value as Json;
 use std::alloc::Global;
-use std::borrow::CowStr;
-use template_code::{
-    CaptureMode, Instruction, Instructions, LOOP_FLAG_RECURSIVE, LOOP_FLAG_WITH_LOOP_VAR,
-};
+use template_code::Instructions;
 use template_code_checked::verify;
-use template_values_core::Value;
+use template_code_references::get_referenced_names;
 use template_values_errors::Error;
 
 /// What the steps are a stream of, or why they are refused, and how many of them come back.
 pub(crate) fn verified(alloc: Global, steps: &[Json], out: &mut Report) {
-    let mut code = Instructions::new(alloc, "t.txt", "");
-    for step in steps {
-        out.done(add(&mut code, step))
-    }
-    match &verify(alloc, code) {
+    match &verify(alloc, stream_of(alloc, steps, out)) {
         Ok(checked) => {
             out.tell("", &checked.kind());
             out.tell(" ", &checked.instructions().len())
@@ -29,60 +23,41 @@ pub(crate) fn verified(alloc: Global, steps: &[Json], out: &mut Report) {
     }
 }
 
-fn add(code: &mut Instructions<'static>, step: &Json) -> Result<(), Error> {
-    match instruction(step) {
-        Some(instruction) => added(code.add(instruction)),
-        None => unreadable(),
+/// The names that the steps up to each place refer to, and up to one past the last.
+pub(crate) fn referenced(alloc: Global, steps: &[Json], out: &mut Report) {
+    let code = stream_of(alloc, steps, out);
+    for index in 0..code.len() as u32 {
+        about_names(alloc, &code, index, out)
+    }
+    about_names(alloc, &code, u32::MAX, out)
+}
+
+fn stream_of(alloc: Global, steps: &[Json], out: &mut Report) -> Instructions<'static> {
+    let mut code = Instructions::new(alloc, "t.txt", "");
+    for step in steps {
+        out.done(add(alloc, &mut code, step))
+    }
+    code
+}
+
+fn add(alloc: Global, code: &mut Instructions<'static>, step: &Json) -> Result<(), Error> {
+    match instruction(alloc, step) {
+        Ok(instruction) => added(code.add(instruction)),
+        Err(error) => Err(error),
     }
 }
 
-// The instruction that a word says, or a word and the place to which it leads.
-pub(crate) fn instruction(step: &Json) -> Option<Instruction<'static>> {
-    match step {
-        Json::String(step) => plain(step.as_str()),
-        Json::Array(pair) => match pair.as_slice() {
-            [Json::String(step), to] => leading(step.as_str(), to),
-            _ => None,
-        },
-        _ => None,
+fn about_names(alloc: Global, code: &Instructions<'_>, index: u32, out: &mut Report) {
+    match &get_referenced_names(alloc, code, index) {
+        Ok(names) => write_names(names.as_slice(), out),
+        Err(error) => out.refuse(error.kind()),
     }
 }
 
-// A place that is no number is the first one.
-fn leading(step: &str, to: &Json) -> Option<Instruction<'static>> {
-    let to = u32::try_from(to.as_u64().unwrap_or(0)).unwrap_or(0);
-    match step {
-        "jump" => Some(Instruction::Jump(to)),
-        "jump_if_false" => Some(Instruction::JumpIfFalse(to)),
-        "jump_if_true_or_pop" => Some(Instruction::JumpIfTrueOrPop(to)),
-        "iterate" => Some(Instruction::Iterate(to)),
-        _ => None,
+fn write_names(names: &[&str], out: &mut Report) {
+    out.push('(');
+    for name in names {
+        out.word(name)
     }
-}
-
-fn plain(step: &str) -> Option<Instruction<'static>> {
-    match step {
-        "text" => Some(Instruction::EmitRaw(CowStr::Borrowed("text"))),
-        "name" => Some(Instruction::Lookup(CowStr::Borrowed("name"))),
-        "none" => Some(Instruction::LoadConst(Value::none())),
-        "emit" => Some(Instruction::Emit),
-        "discard" => Some(Instruction::DiscardTop),
-        _ => around(step),
-    }
-}
-
-// What opens or closes something.
-fn around(step: &str) -> Option<Instruction<'static>> {
-    match step {
-        "with" => Some(Instruction::PushWith),
-        "end_frame" => Some(Instruction::PopFrame),
-        "escape" => Some(Instruction::PushAutoEscape),
-        "end_escape" => Some(Instruction::PopAutoEscape),
-        "capture" => Some(Instruction::BeginCapture(CaptureMode::Capture)),
-        "loop" => Some(Instruction::PushLoop(0)),
-        "loop_with_variable" => Some(Instruction::PushLoop(LOOP_FLAG_WITH_LOOP_VAR)),
-        "recursive_loop" => Some(Instruction::PushLoop(LOOP_FLAG_RECURSIVE)),
-        "end_loop" => Some(Instruction::PopLoopFrame),
-        _ => None,
-    }
+    out.push_str(" )")
 }

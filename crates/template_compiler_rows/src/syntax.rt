@@ -69,6 +69,7 @@ fn set_option(builder: &mut SyntaxConfigBuilder, name: &str, yes: bool) -> Resul
         "trim_blocks" => builder.trim_blocks(yes),
         "lstrip_blocks" => builder.lstrip_blocks(yes),
         "keep_trailing_newline" => builder.keep_trailing_newline(yes),
+        "scoped_blocks" => builder.scoped_blocks(yes),
         _ => return unreadable(),
     }
     Ok(())
@@ -97,5 +98,6 @@ fn write_parts(syntax: &SyntaxConfig, out: &mut Report) {
     out.tell(" ", &syntax.trim_blocks());
     out.tell(" ", &syntax.lstrip_blocks());
     out.tell(" ", &syntax.keep_trailing_newline());
+    out.tell(" ", &syntax.scoped_blocks());
     out.push(')')
 }

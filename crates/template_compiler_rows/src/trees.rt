@@ -1,7 +1,7 @@
 //! What is asked of trees: the names that they use, what is generated of one, and what a constant one is.
 ghost use Rattle.std.specs.Prelude.{IfOk};
 ghost use Rattle.template_tree_statements.specs.View.{statement_of};
-ghost use Rattle.template_compiler_statement_codegen.specs.Listed.{IsRunnableTree};
+ghost use Rattle.template_compiler_generator.specs.Alone.{CanStand};
 
 use crate::NAME;
 use crate::checked::checked_template;
@@ -38,7 +38,7 @@ fn about_read<'line>(
     entries: &'line Map<String, Json>,
     out: &mut Report,
 )
-    requires { IfOk read.now (λ tree. IsRunnableTree (statement_of tree)) }
+    requires { IfOk read.now (λ tree. CanStand (statement_of tree)) }
 {
     match read {
         Ok(tree) => about_tree(alloc, tree, ask, entries, out),
@@ -53,7 +53,7 @@ fn about_tree<'line>(
     entries: &'line Map<String, Json>,
     out: &mut Report,
 )
-    requires { IsRunnableTree (statement_of tree.now) }
+    requires { CanStand (statement_of tree.now) }
 {
     match ask {
         "generated" => generated(alloc, tree, entries, out),

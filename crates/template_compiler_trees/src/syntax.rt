@@ -72,6 +72,7 @@ fn set_option(builder: &mut SyntaxConfigBuilder, name: &str, yes: bool) -> Resul
         "trim_blocks" => builder.trim_blocks(yes),
         "lstrip_blocks" => builder.lstrip_blocks(yes),
         "keep_trailing_newline" => builder.keep_trailing_newline(yes),
+        "scoped_blocks" => builder.scoped_blocks(yes),
         _ => return unreadable(),
     }
     Ok(())

@@ -10,7 +10,6 @@ use std::borrow::CowStr;
 use template_callables::Extension;
 use template_compiler_syntax::{SyntaxConfig, SyntaxConfigBuilder};
 use template_environment::Environment;
-use template_machine_rows_brought::Brought;
 use template_machine_surroundings::StateIds;
 use template_rows::unreadable;
 use template_values_core::{Entry, Value};
@@ -90,20 +89,27 @@ fn context_of(alloc: Global, case: &Case<'_>) -> Result<Value, Error> {
     if held.is_empty() {
         return case.context.copy();
     }
+    let entries = entries_of(alloc, case.context.entries().unwrap_or(&[]), held)?;
+    Value::from_map(alloc, entries)
+}
+
+fn entries_of(alloc: Global, told: &[Entry], held: &[Entry]) -> Result<Vec<Entry>, Error> {
     let mut entries = Vec::new(alloc);
-    for entry in case.context.entries().unwrap_or(&[]) {
-        entries.push(Entry {
-            key: entry.key.copy()?,
-            value: entry.value.copy()?,
-        })?;
+    for entry in told {
+        entries.push(entry_of(&entry.key, entry.value.copy())?)?;
     }
     for entry in held {
-        entries.push(Entry {
-            key: entry.key.copy()?,
-            value: held_of(&entry.value)?,
-        })?;
+        entries.push(entry_of(&entry.key, held_of(&entry.value))?)?;
     }
-    Value::from_map(alloc, entries)
+    Ok(entries)
+}
+
+fn entry_of(key: &Value, value: Result<Value, Error>) -> Result<Entry, Error> {
+    let value = value?;
+    Ok(Entry {
+        key: key.copy()?,
+        value,
+    })
 }
 
 // The function of a list of two numbers, that of its environment and its own; or the namespace, the macro or the loop of such a
@@ -160,33 +166,72 @@ fn bring<E: Made>(
     brings: &Brings<'_>,
 ) -> Result<(), Error> {
     bring_globals(environment, brings)?;
-    for (name, brought) in described(alloc, &brings.filters)? {
-        environment.add_filter(name, E::callable(brought))?;
-    }
-    for (name, brought) in described(alloc, &brings.tests)? {
-        environment.add_test(name, E::callable(brought))?;
-    }
-    for (name, brought) in described(alloc, &brings.functions)? {
-        environment.add_function(name, E::callable(brought))?;
-    }
-    for (_name, brought) in described(alloc, &brings.method)? {
-        environment.set_unknown_method_callback(E::method(brought));
-    }
+    bring_filters(alloc, environment, entries_in(&brings.filters))?;
+    bring_tests(alloc, environment, entries_in(&brings.tests))?;
+    bring_functions(alloc, environment, entries_in(&brings.functions))?;
     bring_callbacks(alloc, environment, brings)?;
     remove(environment, brings);
     Ok(())
 }
 
-// Sets what says how values are printed, and what names mean.
+fn entries_in(map: &Value) -> &[Entry] {
+    map.entries().unwrap_or(&[])
+}
+
+fn bring_filters<E: Made>(
+    alloc: Global,
+    environment: &mut Environment<'_, E>,
+    filters: &[Entry],
+) -> Result<(), Error> {
+    for entry in filters {
+        if let Some(name) = entry.key.as_str() {
+            environment.add_filter(name, E::callable(brought_of(alloc, &entry.value)?))?;
+        }
+    }
+    Ok(())
+}
+
+fn bring_tests<E: Made>(
+    alloc: Global,
+    environment: &mut Environment<'_, E>,
+    tests: &[Entry],
+) -> Result<(), Error> {
+    for entry in tests {
+        if let Some(name) = entry.key.as_str() {
+            environment.add_test(name, E::callable(brought_of(alloc, &entry.value)?))?;
+        }
+    }
+    Ok(())
+}
+
+fn bring_functions<E: Made>(
+    alloc: Global,
+    environment: &mut Environment<'_, E>,
+    functions: &[Entry],
+) -> Result<(), Error> {
+    for entry in functions {
+        if let Some(name) = entry.key.as_str() {
+            environment.add_function(name, E::callable(brought_of(alloc, &entry.value)?))?;
+        }
+    }
+    Ok(())
+}
+
+// Sets what answers for methods, what says how values are printed, and what names mean.
 fn bring_callbacks<E: Made>(
     alloc: Global,
     environment: &mut Environment<'_, E>,
     brings: &Brings<'_>,
 ) -> Result<(), Error> {
-    for (_name, brought) in described(alloc, &brings.formatter)? {
+    for entry in entries_in(&brings.method) {
+        let brought = brought_of(alloc, &entry.value)?;
+        environment.set_unknown_method_callback(E::method(brought));
+    }
+    for entry in entries_in(&brings.formatter) {
+        let brought = brought_of(alloc, &entry.value)?;
         environment.set_formatter(E::formatter(brought));
     }
-    for entry in brings.join.entries().unwrap_or(&[]) {
+    for entry in entries_in(&brings.join) {
         let joined = joined_of(alloc, &entry.value)?;
         environment.set_path_join_callback(E::join(alloc, joined));
     }
@@ -198,7 +243,7 @@ fn bring_globals<E: Extension>(
     environment: &mut Environment<'_, E>,
     brings: &Brings<'_>,
 ) -> Result<(), Error> {
-    for entry in brings.globals.entries().unwrap_or(&[]) {
+    for entry in entries_in(&brings.globals) {
         if let Some(name) = entry.key.as_str() {
             environment.add_global(name, entry.value.copy()?)?;
         }
@@ -216,17 +261,6 @@ fn remove<E: Extension>(environment: &mut Environment<'_, E>, brings: &Brings<'_
     for name in &brings.removed_tests {
         environment.remove_test(*name);
     }
-}
-
-// What a map describes, by order of the names.
-fn described(alloc: Global, map: &Value) -> Result<Vec<(&str, Brought)>, Error> {
-    let mut described = Vec::new(alloc);
-    for entry in map.entries().unwrap_or(&[]) {
-        if let Some(name) = entry.key.as_str() {
-            described.push((name, brought_of(alloc, &entry.value)?))?;
-        }
-    }
-    Ok(described)
 }
 
 // Takes the steps, tells which additions are refused, and whether the case goes on behind them.

@@ -1,6 +1,7 @@
 //! What a line asks for.
 use crate::report::Report;
 use crate::steps::{Step, first_name, steps_of};
+use crate::writers::Taking;
 use serde_json::{Map, Value as Json};
 use std::alloc::Global;
 use template_rows::{behavior_of, count_of, expect_names, number_of, text_of, texts_of};
@@ -156,6 +157,8 @@ pub(crate) enum Place {
     Text,
     /// A writer of so many bytes.
     Room(usize),
+    /// A writer that takes a few bytes a call, and may fail.
+    Writer(Taking),
     Nowhere,
 }
 
@@ -399,12 +402,16 @@ fn call_of(entries: &Map<String, Json>, out: &mut Report) -> Call {
 }
 
 fn place_of(room: Option<&Json>, out: &mut Report) -> Place {
-    if let Some(Json::Null) = room {
-        return Place::Nowhere;
-    }
-    match out.or(count_of(room), None) {
-        None => Place::Text,
-        Some(room) => Place::Room(room),
+    match room {
+        Some(Json::Null) => Place::Nowhere,
+        Some(Json::Object(_)) => {
+            let said = out.or(object_of(out.alloc(), room), Value::none());
+            Place::Writer(Taking::of(Some(&said), out))
+        }
+        _ => match out.or(count_of(room), None) {
+            None => Place::Text,
+            Some(room) => Place::Room(room),
+        },
     }
 }
 
@@ -418,8 +425,8 @@ fn escapes_of(escapes: Option<&Json>, out: &mut Report) -> Escapes {
     }
 }
 
-// The map that an object is; an empty one, if none stands.
-fn object_of(alloc: Global, object: Option<&Json>) -> Result<Value, Error> {
+/// The map that an object is; an empty one, if none stands.
+pub(crate) fn object_of(alloc: Global, object: Option<&Json>) -> Result<Value, Error> {
     match object {
         None => context_from_json(alloc, b"{}"),
         Some(object) => context_from_json(alloc, object.to_vec(alloc)?.as_slice()),

@@ -112,18 +112,28 @@ fn what_at(alloc: Global, word: &str, said: &Value) -> Result<What, Error> {
 }
 
 fn what_by_name(alloc: Global, word: &str, name: &str) -> Result<What, Error> {
+    if word == "answer" {
+        return what_by_word(name);
+    }
+    what_named(word, String::from_str(alloc, name)?)
+}
+
+// The answer that asks for what has a name.
+fn what_named(word: &str, name: String) -> Result<What, Error> {
     match word {
-        "answer" => what_by_word(name),
-        "keyword" => Ok(What::Keyword(String::from_str(alloc, name)?)),
-        "filter" => Ok(What::Filter(String::from_str(alloc, name)?)),
-        "test" => Ok(What::Test(String::from_str(alloc, name)?)),
-        "lookup" => Ok(What::Lookup(String::from_str(alloc, name)?)),
-        "macro" => Ok(What::Macro(String::from_str(alloc, name)?)),
-        "rendered" => Ok(What::Rendered(String::from_str(alloc, name)?)),
-        "get" => Ok(What::Get(String::from_str(alloc, name)?)),
-        "temp" => Ok(What::First(First::Temp(String::from_str(alloc, name)?))),
-        "down" => Ok(What::First(First::Down(String::from_str(alloc, name)?))),
-        _ => unreadable(),
+        "keyword" => Ok(What::Keyword(name)),
+        "filter" => Ok(What::Filter(name)),
+        "test" => Ok(What::Test(name)),
+        "lookup" => Ok(What::Lookup(name)),
+        "macro" => Ok(What::Macro(name)),
+        "rendered" => Ok(What::Rendered(name)),
+        "get" => Ok(What::Get(name)),
+        "temp" => Ok(What::First(First::Temp(name))),
+        "down" => Ok(What::First(First::Down(name))),
+        _ => {
+            drop(name);
+            unreadable()
+        }
     }
 }
 

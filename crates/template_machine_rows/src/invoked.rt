@@ -2,8 +2,13 @@
 use crate::described::text_at;
 use crate::report::Report;
 use crate::tellings::{tell_state, tell_temp};
+use crate::writers::{Taker, Taking};
+use std::alloc::Global;
 use template_callables::Extension;
-use template_environment::{State, Template};
+use template_environment::{State, Template, escape_formatter};
+use template_machine_operations::{dict, range};
+use template_machine_output::WriteWrapper;
+use template_rows::unreadable;
 use template_values_core::Value;
 use template_values_errors::{Error, ErrorKind};
 
@@ -53,13 +58,90 @@ fn tell_call<E: Extension>(state: &mut State<'_, '_, E>, call: &Value, out: &mut
     } else if let Some(value) = call.value_at("format") {
         out.text(&state.format(value))
     } else if let Some(name) = text_at(call, "render_block") {
-        out.text(&state.render_block(name))
+        tell_block(state, name, call.value_at("room"), out)
+    } else if let Some(value) = call.value_at("escape") {
+        tell_escaped(state, value, call.value_at("room"), out)
     } else if let Some(name) = text_at(call, "get_template") {
         tell_name(&state.get_template(name), out)
+    } else {
+        tell_other(state, call, out)
+    }
+}
+
+fn tell_other<E: Extension>(state: &mut State<'_, '_, E>, call: &Value, out: &mut Report) {
+    let alloc = out.alloc();
+    if call.value_at("range").is_some() {
+        tell_value(&range_of(alloc, items_at(call, "range")), out)
+    } else if call.value_at("dict").is_some() {
+        tell_value(&dict(alloc, items_at(call, "dict")), out)
     } else if call.value_at("current_block").is_some() {
         out.push_str(state.current_block().unwrap_or("-"))
     } else {
         set_temp(state, call, out)
+    }
+}
+
+// The text of a block, or what a writer of so many bytes took of it.
+fn tell_block<E: Extension>(
+    state: &mut State<'_, '_, E>,
+    name: &str,
+    room: Option<&Value>,
+    out: &mut Report,
+) {
+    if room.is_none() {
+        return out.text(&state.render_block(name));
+    }
+    let taking = Taking::of(room, out);
+    let mut sink = WriteWrapper::new(Taker::new(out.alloc(), taking));
+    let ended = state.render_block_to_write(name, &mut sink);
+    tell_taken(&sink, &ended, out)
+}
+
+// The text of a value under the escape in force, or what a writer of so many bytes took of it.
+fn tell_escaped<E: Extension>(
+    state: &State<'_, '_, E>,
+    value: &Value,
+    room: Option<&Value>,
+    out: &mut Report,
+) {
+    let taking = Taking::of(room, out);
+    let mut sink = WriteWrapper::new(Taker::new(out.alloc(), taking));
+    let ended = escape_formatter(&mut sink, state, value);
+    tell_taken(&sink, &ended, out)
+}
+
+fn tell_taken(sink: &WriteWrapper<Taker>, ended: &Result<(), Error>, out: &mut Report) {
+    out.quoted(sink.w.bytes.as_slice());
+    if let Err(error) = ended {
+        out.push(' ');
+        out.fault(error);
+    }
+}
+
+// The range of one, two or three numbers.
+fn range_of(alloc: Global, args: &[Value]) -> Result<Value, Error> {
+    match args {
+        [upper] => range(alloc, whole(upper)?, None, None),
+        [lower, upper] => range(alloc, whole(lower)?, Some(whole(upper)?), None),
+        [lower, upper, step] => {
+            range(
+                alloc,
+                whole(lower)?,
+                Some(whole(upper)?),
+                Some(whole(step)?),
+            )
+        }
+        _ => unreadable(),
+    }
+}
+
+fn whole(said: &Value) -> Result<i64, Error> {
+    match said.as_int() {
+        Some(whole) => match i64::try_from(whole) {
+            Ok(whole) => Ok(whole),
+            Err(_) => unreadable(),
+        },
+        None => unreadable(),
     }
 }
 

@@ -17,8 +17,10 @@
 //!   of a state, and its own;
 //! - `calls`: calls on a state in place of a render, an array of objects: `apply_filter` or `perform_test`, a name, with
 //!   `args`, an array, and so `call_macro`; `lookup`, a name; `get_temp`, a name; `set_temp`, a name, with a `value`; `format`, a
-//!   value; `render_block`, a name; `get_template`, a name; `current_block`; or `tell`, which tells the state. The state is a new
-//!   one of the template `main`, where this is named, else one without a template;
+//!   value; `render_block`, a name; `escape`, a value; `range`, one, two or three numbers; `dict`, an array of arguments;
+//!   `get_template`, a name; `current_block`; or `tell`, which tells the state. With a `room` beside it, a writer as below,
+//!   `render_block` and `escape` write into that. The state is a new one of the template `main`, where this is named, else one
+//!   without a template;
 //! - `after`: such calls on the state that a render left;
 //! - `temps`: the names of the temps that are told behind a render, an array of texts;
 //! - `templates`: what is done before the render, in order: `[name, source]` adds a template, `[name, null]` removes
@@ -30,8 +32,10 @@
 //! - `call`: what is asked of the template in place of a render into `room`: `render`, `render_captured`, `states` (a new
 //!   state of it, then one without a template), `undeclared_variables`, `initial_auto_escape` or `templates`; of an
 //!   expression `undeclared_variables` alone; or `globals`, which is asked of the environment;
-//! - `room`: how many bytes the writer takes that the text goes to, or `null` where it goes nowhere; left out, it goes
-//!   to a text;
+//! - `room`: how many bytes the writer takes that the text goes to; or an object, each entry of which may be left out: that number
+//!   under `room`, how many bytes a call takes at most under `takes`, the number of the call that takes nothing under `stops`, and
+//!   of the one that fails as interrupted under `fails`, the first call being 1; or `null` where the text goes nowhere; left out,
+//!   it goes to a text;
 //! - `context`: the context, an object; empty, if left out;
 //! - `fuel`: a number; none, if left out;
 //! - `limit`: the recursion limit; 500, if left out;
@@ -90,6 +94,18 @@
 //!   its number, with `, fuel N + M` before `exports` under a fuel: what was consumed, and what remains;
 //! - `? Kind` where the line is no case.
 //!
+//! A render with the builtins installed:
+//!
+//! - `s`: the source;
+//! - `c`: its context, an object; empty, if left out;
+//! - `n`: its name, whose ending says the escape; `t.txt`, if left out;
+//! - `u`: what undefined values may do, as `undefined` above;
+//! - `t`: the templates that stand beside it, an object of names and sources.
+//!
+//! It gives the text as JSON, or `fault: Kind: Kind` with the kinds of the fault, outermost first. Its stored rows are written from the
+//! description of the builtins, and where Jinja2 is to do the same, with that. `benchmarks/builtins` renders the pages, the lines
+//! behind the heading `pages`, by Jinja2, and compares.
+//!
 //! A time: `time`, the name of a task of additions and renders of templates. It gives the microseconds that its calls took,
 //! without what was made ready for them. These are no part of the stored run.
 //!
@@ -99,6 +115,7 @@
 #![tactic(auto)]
 
 mod answers;
+mod builtins;
 mod calls;
 mod case;
 mod described;
@@ -109,8 +126,10 @@ mod report;
 mod steps;
 mod tellings;
 mod times;
+mod writers;
 
 use crate::answers::answer;
+use crate::builtins::about_builtins;
 use crate::case::{Case, truth_of};
 use crate::report::Report;
 use crate::times::about_time;
@@ -152,10 +171,16 @@ fn report_of(rt: &HostRuntime, line: &str) -> Report {
     out
 }
 
-// The time of a task, or what comes of the case.
+// The time of a task, what a render with the builtins writes, or what comes of the case.
 fn about_entries(rt: &HostRuntime, entries: &Map<String, Json>, out: &mut Report) {
-    match entries.get("time") {
-        Some(Json::String(task)) => about_time(rt, task.as_str(), out),
+    match (entries.get("time"), entries.get("s")) {
+        (Some(Json::String(task)), _) => about_time(rt, task.as_str(), out),
+        (_, Some(Json::String(source))) => about_builtins(
+            rt.alloc(),
+            source.as_str(),
+            entries,
+            out,
+        ),
         _ => about_case(rt.alloc(), entries, out),
     }
 }

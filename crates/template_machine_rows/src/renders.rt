@@ -3,6 +3,7 @@ use crate::case::{Case, Place};
 use crate::invoked::call_in;
 use crate::report::Report;
 use crate::tellings::{tell_state, tell_temps};
+use crate::writers::{Taker, Taking};
 use template_callables::Extension;
 use template_environment::{Captured, Template};
 use template_machine_output::{NullWriter, WriteWrapper};
@@ -21,6 +22,7 @@ pub(crate) fn tell_render<E: Extension>(
     match case.setting.place {
         Place::Text => tell_text(template, ids, case, context, out),
         Place::Room(room) => tell_room(template, ids, case, context, room, out),
+        Place::Writer(taking) => tell_taken(template, ids, case, context, taking, out),
         Place::Nowhere => tell_nowhere(template, ids, case, context, out),
     }
 }
@@ -88,6 +90,21 @@ fn fill<'template, 'line, E: Extension>(
     let mut sink = WriteWrapper::new(bytes);
     let ended = template.render_captured_to(ids, context, &mut sink);
     (sink.w.len(), ended)
+}
+
+// Renders into a writer that takes a few bytes a call.
+fn tell_taken<E: Extension>(
+    template: &Template<'_, '_, E>,
+    ids: &mut StateIds,
+    case: &Case<'_>,
+    context: Value,
+    taking: Taking,
+    out: &mut Report,
+) {
+    let mut sink = WriteWrapper::new(Taker::new(out.alloc(), taking));
+    let ended = template.render_captured_to(ids, context, &mut sink);
+    out.quoted(sink.w.bytes.as_slice());
+    tell_end(ended, case, out);
 }
 
 // What follows the text: what the render took of its fuel and left, or how it ended.

@@ -73,10 +73,15 @@ impl Report {
         self.note(written);
     }
 
+    /// The kinds of a fault, behind words.
+    pub(crate) fn told(&mut self, words: &str, error: &Error) {
+        let written = write!(self.text, "{words}{error}");
+        self.note(written);
+    }
+
     /// The kinds of a fault, and behind them its places where they are told.
     pub(crate) fn fault(&mut self, error: &Error) {
-        let written = write!(self.text, "! {error}");
-        self.note(written);
+        self.told("! ", error);
         if self.tells_places {
             self.push_str(" at");
             self.places(error);

@@ -2,24 +2,47 @@
 use crate::report::Report;
 use serde_json::{Map, Value as Json};
 use std::fs;
-use template_values_errors::ErrorKind;
+use std::os::unix::fs::symlink;
 
-/// Writes each file to its path.
+/// Writes each file to its path, in folders that are made where they do not stand.
 pub(crate) fn write_files(rt: &HostRuntime, files: &Map<String, Json>, out: &mut Report) {
     for (path, bytes) in files {
         let bytes = out.bytes_of(bytes);
-        if fs::write(rt, path.as_str(), bytes.as_slice()).is_err() {
-            out.refuse(ErrorKind::WriteFailure);
+        make_folders(rt, path.as_str(), out);
+        out.did(fs::write(rt, path.as_str(), bytes.as_slice()).is_ok())
+    }
+}
+
+// Makes the folders that a path is in.
+fn make_folders(rt: &HostRuntime, path: &str, out: &mut Report) {
+    if let Some((folder, _)) = path.rsplit_once('/') {
+        out.did(fs::create_dir_all(rt, folder).is_ok())
+    }
+}
+
+/// Makes links, an object of paths with what they lead to, if there are any.
+pub(crate) fn make_links(rt: &HostRuntime, links: Option<&Json>, out: &mut Report) {
+    let Some(Json::Object(links)) = links else {
+        return;
+    };
+    for (path, original) in links {
+        if let Json::String(original) = original {
+            out.did(symlink(rt, original.as_str(), path.as_str()).is_ok())
         }
     }
 }
 
-/// Removes them again.
+/// Removes a folder with what is in it, if one is named.
+pub(crate) fn remove_folder(rt: &HostRuntime, folder: Option<&Json>, out: &mut Report) {
+    if let Some(Json::String(folder)) = folder {
+        out.did(fs::remove_dir_all(rt, folder.as_str()).is_ok())
+    }
+}
+
+/// Removes the files again.
 pub(crate) fn remove_files(rt: &HostRuntime, files: &Map<String, Json>, out: &mut Report) {
     for (path, _) in files {
-        if fs::remove_file(rt, path.as_str()).is_err() {
-            out.refuse(ErrorKind::WriteFailure);
-        }
+        out.did(fs::remove_file(rt, path.as_str()).is_ok())
     }
 }
 

@@ -4,6 +4,8 @@
 //! - `words`: the words behind the program's name, an array of texts;
 //! - `files`: the files that stand meanwhile, an object of paths with what they have: a text, a number for a byte of
 //!   that value, or an array of both;
+//! - `links`: links that stand meanwhile, an object of paths with what they lead to;
+//! - `folder`: the folder that some of these are in, which does not stand before;
 //! - `input`: what the input has, told as that of a file;
 //! - `input_fails`: how the input fails once at its end, `Other`, `Interrupted` or `OutOfMemory`;
 //! - `output_room`: how many bytes the output takes; all, if left out;
@@ -27,23 +29,54 @@
 //!
 //! Requests at size: `size`, the name of a work. It gives how many bytes came out, and whether they are the right ones.
 //!
+//! A document as a context: `d`, a text, or an array of texts and bytes. It gives what comes of the document where floats are
+//! refused, ` | `, and what comes of it where they are kept as they are spelled: the map as it is printed, or `fault: ` with the
+//! error, its kinds and its place.
+//!
+//! The context of several documents, of whose entries each may be left out:
+//!
+//! - `documents`: the documents, an array; each is JSON, told as the one above, or an object with the entry `toml`, which is so too;
+//! - `definitions`: an array of `[name, text]`;
+//! - `values`: an array of `[name, JSON]`.
+//!
+//! It gives the context where floats are refused, ` | `, and the context where they are kept as they are spelled: as it is printed,
+//! or `! ` and the kinds of the refusal. And whether a text is JSON: `is_json`, the text.
+//!
+//! A file that is written whole:
+//!
+//! - `write`: the name of the file, in a folder that is made for the line;
+//! - `text`: the text that is written, and `status`: the status that the writer ends with; 0, if left out;
+//! - `files`: the files that stand before, an array of `[name, text]`;
+//! - `protected`: the names of those that may not be written;
+//! - `folders`: the names of the folders that stand before;
+//! - `links`: the links that stand before, an array of `[name, target]`.
+//!
+//! It gives `status N`, or why no file was written, and behind it what stands in the folder: `name "text"` for a file,
+//! with `protected` behind it where it may not be written, `name/` for a folder, and for a link `name -> "text"` with the
+//! text that it leads to.
+//!
 //! The line is written as it stands, then ` = `, then what came of it, or `? ` and a word where the line is of no kind, or
 //! where memory is refused. A line that begins with `#` is a heading. To add a row, write its line into `stdout`, and the
 //! object that it begins with into `stdin`.
 #![tactic(auto)]
 
 mod answers;
+mod contexts;
 mod files;
 mod report;
 mod sizes;
 mod starts;
 mod works;
+mod writer;
+mod written;
 
 use crate::answers::about_request;
-use crate::files::{remove_files, write_files};
+use crate::contexts::{about_document, about_documents, about_json};
+use crate::files::{make_links, remove_files, remove_folder, write_files};
 use crate::report::Report;
 use crate::sizes::about_size;
 use crate::starts::about_start;
+use crate::written::about_written;
 use serde_json::{Map, Value as Json};
 use std::io;
 use template_values_errors::ErrorKind;
@@ -87,10 +120,12 @@ fn about_entries(rt: &HostRuntime, entries: &Map<String, Json>, out: &mut Report
         None => about_kind(rt, entries, out),
         Some(Json::Object(files)) => {
             write_files(rt, files, out);
+            make_links(rt, entries.get("links"), out);
             about_kind(rt, entries, out);
-            remove_files(rt, files, out)
+            remove_files(rt, files, out);
+            remove_folder(rt, entries.get("folder"), out)
         }
-        Some(_) => out.refuse(ErrorKind::SyntaxError),
+        Some(_) => about_part(rt, entries, out),
     }
 }
 
@@ -103,6 +138,20 @@ fn about_kind(rt: &HostRuntime, entries: &Map<String, Json>, out: &mut Report) {
     } else if let Some(templates) = entries.get("templates") {
         about_request(rt.alloc(), templates, entries, out)
     } else {
-        out.refuse(ErrorKind::SyntaxError)
+        about_part(rt, entries, out)
+    }
+}
+
+// What comes of one of the program's parts; a context may leave out each of its entries.
+fn about_part(rt: &HostRuntime, entries: &Map<String, Json>, out: &mut Report) {
+    let alloc = rt.alloc();
+    if let Some(document) = entries.get("d") {
+        about_document(alloc, document, entries, out)
+    } else if let Some(Json::String(name)) = entries.get("write") {
+        about_written(rt, name.as_str(), entries, out)
+    } else if let Some(Json::String(text)) = entries.get("is_json") {
+        about_json(alloc, text.as_str(), entries, out)
+    } else {
+        about_documents(alloc, entries, out)
     }
 }

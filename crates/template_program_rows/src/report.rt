@@ -1,9 +1,11 @@
 //! What comes of a line, as it is written.
 use serde_json::{Map, Value as Json};
 use std::alloc::{AllocError, Global};
-use std::fmt::Debug;
+use std::fmt::{Debug, Display};
 use template_rows::{bytes_of, count_of, expect_names, quoted};
+use template_values_core::Value;
 use template_values_errors::{Error, ErrorKind};
+use template_values_text::{NoRecords, print_to};
 
 /// What comes of a line, as far as it is written. What is refused on the way is kept, so that what writes need not ask.
 #[derive(Drop)]
@@ -33,6 +35,13 @@ impl Report {
     pub(crate) fn note(&mut self, done: Result<(), AllocError>) {
         if done.is_err() {
             self.refuse(ErrorKind::OutOfMemory);
+        }
+    }
+
+    /// Keeps that a file could not be had, where it was not.
+    pub(crate) fn did(&mut self, is_done: bool) {
+        if !is_done {
+            self.refuse(ErrorKind::WriteFailure);
         }
     }
 
@@ -85,10 +94,17 @@ impl Report {
         self.note(written)
     }
 
-    /// The kinds of an error, behind words.
-    pub(crate) fn error(&mut self, words: &str, error: &Error) {
+    /// The kinds of an error, and what else it shows, behind words.
+    pub(crate) fn error<E: Display>(&mut self, words: &str, error: &E) {
         let written = write!(self.text, "{words}{error}");
         self.note(written)
+    }
+
+    /// A value of no state, as it prints.
+    pub(crate) fn value(&mut self, value: &Value) {
+        if let Err(error) = print_to(value, &NoRecords, &mut self.text) {
+            self.refuse(error.kind());
+        }
     }
 
     /// Bytes as a text of JSON.

@@ -23,6 +23,8 @@ pub(crate) fn about_start(
             "output_room",
             "flush_fails",
             "leaves",
+            "links",
+            "folder",
         ],
     );
     let words = out.or(texts_of(rt.alloc(), words), Vec::new(rt.alloc()));

@@ -8,25 +8,43 @@ use template_code::{
 use template_values_core::Value;
 use template_values_errors::{Error, ErrorKind};
 
-/// The instruction that a word says, or a word and a number.
+/// The instruction that a word says, or a word with a number or a name's letter.
 pub(crate) fn instruction(alloc: Global, step: &Json) -> Result<Instruction<'static>, Error> {
-    let instruction = match step {
-        Json::String(word) => plain(word.as_str()),
+    match step {
+        Json::String(word) => known(plain(word.as_str())),
         Json::Array(pair) => match pair.as_slice() {
-            [Json::String(word), Json::String(name)] => named(word.as_str(), name.as_str()),
-            [Json::String(word), number] => match word.as_str() {
-                "names" => return Ok(Instruction::LoadConst(names(alloc, count_in(number))?)),
-                "mixed" => return Ok(Instruction::LoadConst(mixed(alloc)?)),
-                "tuple_of_names" => return Ok(Instruction::LoadConst(names_in_tuple(alloc)?)),
-                _ => leading(word.as_str(), number),
-            },
-            _ => None,
+            [Json::String(word), Json::String(name)] => known(named(word.as_str(), name.as_str())),
+            [Json::String(word), number] => numbered(alloc, word.as_str(), number),
+            _ => known(None),
         },
-        _ => None,
-    };
+        _ => known(None),
+    }
+}
+
+fn known(instruction: Option<Instruction<'static>>) -> Result<Instruction<'static>, Error> {
     match instruction {
         Some(instruction) => Ok(instruction),
         None => Err(Error::new(ErrorKind::SyntaxError)),
+    }
+}
+
+// A list of so many values, or one with a place or a count.
+fn numbered(alloc: Global, word: &str, number: &Json) -> Result<Instruction<'static>, Error> {
+    match word {
+        "names" | "ones" | "mixed" | "tuple_of_names" => {
+            let list = list(alloc, word, count_in(number))?;
+            Ok(Instruction::LoadConst(list))
+        }
+        _ => known(leading(word, number)),
+    }
+}
+
+fn list(alloc: Global, word: &str, count: usize) -> Result<Value, Error> {
+    match word {
+        "names" => names(alloc, count),
+        "ones" => ones(alloc, count),
+        "mixed" => mixed(alloc),
+        _ => Value::from_tuple(alloc, Vec::new(alloc)),
     }
 }
 
@@ -63,17 +81,21 @@ fn names(alloc: Global, count: usize) -> Result<Value, Error> {
     Value::from_list(alloc, items)
 }
 
+// A list of so many ones.
+fn ones(alloc: Global, count: usize) -> Result<Value, Error> {
+    let mut items = Vec::new(alloc);
+    for _one in 0..count {
+        items.push(Value::from_int(1))?;
+    }
+    Value::from_list(alloc, items)
+}
+
 // A list of a text and a number.
 fn mixed(alloc: Global) -> Result<Value, Error> {
     let mut items = Vec::new(alloc);
     items.push(Value::from_str(alloc, "n")?)?;
     items.push(Value::from_int(1))?;
     Value::from_list(alloc, items)
-}
-
-fn names_in_tuple(alloc: Global) -> Result<Value, Error> {
-    let items = Vec::new(alloc);
-    Value::from_tuple(alloc, items)
 }
 
 // One with a name: a letter.
@@ -134,6 +156,7 @@ fn plain(word: &str) -> Option<Instruction<'static>> {
         "text" => Some(Instruction::EmitRaw(CowStr::Borrowed("text"))),
         "name" => Some(Instruction::Lookup(CowStr::Borrowed("name"))),
         "none" => Some(Instruction::LoadConst(Value::none())),
+        "zero" => Some(Instruction::LoadConst(Value::from_int(0))),
         "one" => Some(Instruction::LoadConst(Value::from_int(1))),
         "two" => Some(Instruction::LoadConst(Value::from_int(2))),
         "true" => Some(Instruction::LoadConst(Value::from_bool(true))),
@@ -150,14 +173,34 @@ fn operating(word: &str) -> Option<Instruction<'static>> {
         "set_attribute" => Some(Instruction::SetAttr(CowStr::Borrowed("a"))),
         "item" => Some(Instruction::GetItem),
         "slice" => Some(Instruction::Slice),
-        "add" => Some(Instruction::Add),
-        "sub" => Some(Instruction::Sub),
-        "in" => Some(Instruction::In),
+        "negate" => Some(Instruction::Neg),
         "not" => Some(Instruction::Not),
         "undefined" => Some(Instruction::IsUndefined),
         "compare" => Some(Instruction::CompareAndPreserve(CompareOp::Lt)),
         "swap" => Some(Instruction::Swap),
         "dup" => Some(Instruction::DupTop),
+        _ => joining(word),
+    }
+}
+
+// What makes one of two values.
+fn joining(word: &str) -> Option<Instruction<'static>> {
+    match word {
+        "add" => Some(Instruction::Add),
+        "sub" => Some(Instruction::Sub),
+        "mul" => Some(Instruction::Mul),
+        "div" => Some(Instruction::Div),
+        "int_div" => Some(Instruction::IntDiv),
+        "rem" => Some(Instruction::Rem),
+        "pow" => Some(Instruction::Pow),
+        "equal" => Some(Instruction::Eq),
+        "unequal" => Some(Instruction::Ne),
+        "greater" => Some(Instruction::Gt),
+        "at_least" => Some(Instruction::Gte),
+        "less" => Some(Instruction::Lt),
+        "at_most" => Some(Instruction::Lte),
+        "concat" => Some(Instruction::StringConcat),
+        "in" => Some(Instruction::In),
         _ => around(word),
     }
 }
