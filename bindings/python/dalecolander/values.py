@@ -1,0 +1,18 @@
+"""Contexts of Python values, as JSON."""
+import collections.abc
+import json
+from typing import Any
+
+
+def _other(value: Any) -> Any:
+    """What stands for a value that `json` does not know."""
+    if isinstance(value, collections.abc.Mapping):
+        return dict(value)
+    if isinstance(value, collections.abc.Iterable) and not isinstance(value, (bytes, bytearray, memoryview)):
+        return list(value)
+    raise TypeError(f"a {type(value).__name__} is no value of a context")
+
+
+def json_of(value: Any) -> str:
+    """The JSON of a value."""
+    return json.dumps(value, ensure_ascii=False, separators=(",", ":"), default=_other, allow_nan=False)
