@@ -1,3 +1,4 @@
+pub mod Adjacent
 pub mod Documented
 pub mod Documents
 pub mod Last

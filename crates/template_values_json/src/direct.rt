@@ -5,12 +5,14 @@ ghost use Rattle.json.specs.Json.{items, members, read_key, value};
 ghost use Rattle.json.specs.Reads.{token_of};
 ghost use Rattle.json.specs.Token.{begin_array, begin_object};
 ghost use Rattle.serde_json.specs.Read.{converted};
-ghost use Rattle.template_values_model.specs.Val.{vals_of};
+ghost use Rattle.template_values_model.specs.Val.{map, vals_of};
+ghost use Rattle.template_values_core.specs.Maps.{collected};
 ghost use Rattle.template_values_core.specs.Shape.{pairs_in};
 ghost use Rattle.template_values_json.specs.Whole.{leaf_of, pairs_of_text, whole_pairs, whole_value, whole_values};
 
-use crate::likeness::{entries_of, entry_like, first_of, key_in, text_of, value_in};
+use crate::likeness::{entries_of, first_of, found_at, text_of};
 use crate::numbers::whole_in;
+use crate::ordered::are_rising;
 use json::{Reader, Scratch, Token};
 use std::alloc::Global;
 use template_values_core::{Entry, Value};
@@ -123,7 +125,19 @@ fn read_map(
         return Err(unread());
     }
     let entries = read_entries(alloc, reader, depth - 1, entries_of(like))?;
-    Value::from_map(alloc, entries)
+    map_of(alloc, entries)
+}
+
+// The map of entries, which mostly stand in the order of their keys.
+#[inline(always)]
+fn map_of(alloc: Global, entries: Vec<Entry>) -> Result<Value, Error>
+    ensures { IfOk result (λ v. v ≡ map (collected (pairs_in entries.items))) }
+{
+    if are_rising(&entries) {
+        Value::from_rising_entries(alloc, entries)
+    } else {
+        Value::from_map(alloc, entries)
+    }
 }
 
 // The items up to the bracket that closes their list. Each is like the one before, the first like `like`.
@@ -164,10 +178,12 @@ fn read_entries(
 {
     let mut entries = Vec::with_capacity(alloc, like.len())?;
     'members: while let Some(name) = next_name(reader)? {
-        let before = entry_like(like, entries.len(), name);
-        let key = text_of(alloc, name, key_in(before))?;
-        let value = read_value(alloc, reader, depth, value_in(before))?;
-        entries.push(Entry { key, value })?;
+        let found = found_at(alloc, like, entries.len(), name)?;
+        let value = read_value(alloc, reader, depth, found.like)?;
+        entries.push(Entry {
+            key: found.key,
+            value,
+        })?;
     }
     Ok(entries)
 }

@@ -5,6 +5,7 @@ mod direct;
 mod likeness;
 mod members;
 mod numbers;
+mod ordered;
 mod values;
 
 pub use members::{context_from_json, entries_from_json};

@@ -24,21 +24,47 @@ pub(crate) fn text_of(alloc: Global, bytes: &str, like: Option<&Value>) -> Resul
     Value::from_str(alloc, bytes)
 }
 
-/// The entry of a name in a map whose entries these are: mostly the one at this place.
-#[inline(always)]
-pub(crate) fn entry_like<'a>(entries: &'a [Entry], place: usize, name: &str) -> Option<&'a Entry> {
-    let entry = entries.get(place)?;
-    if is_named(entry, name) {
-        return Some(entry);
-    }
-    entry_named(entries, name)
+/// The key of a member, and the value that is like the member's own.
+#[derive(Drop)]
+pub(crate) struct Found<'a> {
+    pub(crate) key: Value,
+    pub(crate) like: Option<&'a Value>,
 }
 
-fn is_named(entry: &Entry, name: &str) -> bool {
-    match entry.key.as_str() {
-        Some(key) => is_same(key, name),
-        None => false,
+/// The key of a name, shared with the entry of the name among these, where one is: mostly the one at this place.
+#[inline(always)]
+pub(crate) fn found_at<'a>(
+    alloc: Global,
+    entries: &'a [Entry],
+    place: usize,
+    name: &str,
+) -> Result<Found<'a>, Error>
+    ensures { IfOk result (λ found. found.key ≡ text name.now) }
+{
+    if let Some(entry) = entries.get(place) {
+        if let Content::Text(key) = entry.key.content() {
+            if is_same(key, name) {
+                let key = entry.key.copy()?;
+                return Ok(Found {
+                    key,
+                    like: Some(&entry.value),
+                });
+            }
+        }
     }
+    found_elsewhere(alloc, entries, name)
+}
+
+#[inline(never)]
+fn found_elsewhere<'a>(alloc: Global, entries: &'a [Entry], name: &str) -> Result<Found<'a>, Error>
+    ensures { IfOk result (λ found. found.key ≡ text name.now) }
+{
+    let entry = entry_named(entries, name);
+    let key = text_of(alloc, name, key_in(entry))?;
+    Ok(Found {
+        key,
+        like: value_in(entry),
+    })
 }
 
 // Takes log n comparisons for n entries.
@@ -73,18 +99,16 @@ pub(crate) fn first_of(like: Option<&Value>) -> Option<&Value> {
     }
 }
 
-/// The key of an entry.
-#[inline(always)]
-pub(crate) fn key_in(like: Option<&Entry>) -> Option<&Value> {
+// The key of an entry.
+fn key_in(like: Option<&Entry>) -> Option<&Value> {
     match like {
         Some(entry) => Some(&entry.key),
         None => None,
     }
 }
 
-/// The value of an entry.
-#[inline(always)]
-pub(crate) fn value_in(like: Option<&Entry>) -> Option<&Value> {
+// The value of an entry.
+fn value_in(like: Option<&Entry>) -> Option<&Value> {
     match like {
         Some(entry) => Some(&entry.value),
         None => None,

@@ -34,8 +34,8 @@ pub read_map-returns-clause-is : goal.read_map-returns-clause-is
 read_map-returns-clause-is t c =
     let ts = c.args.reader.now in
     let r = c.read_entries.new.reader in
-    IfOk-weaker c.from_map.result _ _
-    (λ v made. map_read c.args.depth ts r (pairs_in c.in_ok-entries.entries.items) (omega arith) c.in_ok-entries.ensures.are ∙ ap (λ (w : Val). Some (w, r)) (sym made)) c.from_map.ensures.made
+    IfOk-weaker c.map_of.result _ _
+    (λ v made. map_read c.args.depth ts r (pairs_in c.in_ok-entries.entries.items) (omega arith) c.in_ok-entries.ensures.are ∙ ap (λ (w : Val). Some (w, r)) (sym made)) c.map_of.ensures
 
 pub read_values-items-init : goal.read_values-items-init
 read_values-items-init t c =
@@ -83,11 +83,11 @@ read_entries-members-preserved t c =
     let named : read_key l.reader ≡ Some (Some k, s) = grind arith in
     let done = c.in_ok-value.ensures in
     let v = c.in_ok-value.value in
-    let e : Entry = record { key = c.in_ok-key.key; value = v } in
+    let e : Entry = record { key = c.in_ok-found.found.key; value = v } in
     let r = c.read_value.new.reader in
     let less = read_key-shorter l.reader (Some k) s named in
     let lesser = done.shorter in
-    let pair : pairs_in (l.entries.items ++ e ∷ []) ≡ pairs_in l.entries.items ++ (text k, v) ∷ [] = pairs_in-append l.entries.items e ∙ ap (λ (w : Val). pairs_in l.entries.items ++ (w, v) ∷ []) c.in_ok-key.ensures.made in (
+    let pair : pairs_in (l.entries.items ++ e ∷ []) ≡ pairs_in l.entries.items ++ (text k, v) ∷ [] = pairs_in-append l.entries.items e ∙ ap (λ (w : Val). pairs_in l.entries.items ++ (w, v) ∷ []) c.in_ok-found.ensures in (
       n - 1,
       omega (arith, l.invariant.1),
       l.invariant.2 ∙ ap (parse_map (λ later. pairs_in l.entries.items ++ later)) (member_read p n k l.reader s r v (omega (arith, l.invariant.1)) named done.is)
