@@ -1,6 +1,7 @@
 -- The value that a representation stands for.
 use Rattle.std.specs.Prelude.{List, [], ◌∷◌}
 use Rattle.std.specs.Rc.{rc_str_bytes}
+use Rattle.std.specs.String.{string_bytes}
 use Rattle.template_values_model.specs.Val.{Val, undefined, silent_undefined, none, truth, int, text, safe_text, bytes, list, tuple, map, keyword_map, «module», function, namespace, loop_record, macro_record, vals_of}
 use Rattle.template_values_core.specs.Maps.{pairs_of}
 use Rattle.template_values_core.specs.declared.value.Entry.{Entry}
@@ -18,8 +19,8 @@ repr_view SilentUndefined = silent_undefined
 repr_view None = none
 repr_view (Truth b) = truth b
 repr_view (Int n) = int n
-repr_view (Text s) = text (rc_str_bytes s)
-repr_view (SafeText s) = safe_text (rc_str_bytes s)
+repr_view (Text s) = text (string_bytes s.value)
+repr_view (SafeText s) = safe_text (string_bytes s.value)
 repr_view (Bytes s) = bytes s.value.items
 repr_view (Listed v) = list (vals_of v.value.items)
 repr_view (Tuple v) = tuple (vals_of v.value.items)

@@ -103,8 +103,8 @@ fn parts_of(value: &Value) -> Parts<'_>
         Repr::Truth(false) => number(Rank::Number as u8, 0, 0),
         Repr::Truth(true) => number(Rank::Number as u8, 1, 0),
         Repr::Int(value) => number(Rank::Number as u8, *value, 0),
-        Repr::Text(value) => text(Rank::Text as u8, value.as_str().as_bytes()),
-        Repr::SafeText(value) => text(Rank::Text as u8, value.as_str().as_bytes()),
+        Repr::Text(value) => text(Rank::Text as u8, value.as_ref().as_bytes()),
+        Repr::SafeText(value) => text(Rank::Text as u8, value.as_ref().as_bytes()),
         Repr::Bytes(value) => text(Rank::Bytes as u8, value.as_ref().as_slice()),
         Repr::List(value) => items(value),
         Repr::Tuple(value) => items(value),
@@ -125,7 +125,7 @@ fn compare(a: &Value, b: &Value) -> Ordering
 {
     match (&a.repr, &b.repr) {
         (Repr::Int(a), Repr::Int(b)) => a.cmp(b),
-        (Repr::Text(a), Repr::Text(b)) => a.as_str().as_bytes().cmp(b.as_str().as_bytes()),
+        (Repr::Text(a), Repr::Text(b)) => a.as_ref().as_bytes().cmp(b.as_ref().as_bytes()),
         _ => compare_parts(parts_of(a), parts_of(b)),
     }
 }
@@ -136,7 +136,7 @@ pub(crate) fn compare_to_text(value: &Value, name: &str) -> Ordering
     ensures { result ≡ val_cmp value.now (Val.text name.now) }
 {
     match &value.repr {
-        Repr::Text(value) => value.as_str().as_bytes().cmp(name.as_bytes()),
+        Repr::Text(value) => value.as_ref().as_bytes().cmp(name.as_bytes()),
         _ => compare_parts(parts_of(value), text(Rank::Text as u8, name.as_bytes())),
     }
 }

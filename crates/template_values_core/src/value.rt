@@ -31,8 +31,8 @@ pub(crate) enum Repr {
     None,
     Truth(bool),
     Int(i128),
-    Text(RcStr),
-    SafeText(RcStr),
+    Text(Rc<String>),
+    SafeText(Rc<String>),
     Bytes(Rc<Vec<u8>>),
     List(Rc<Vec<Value>>),
     Tuple(Rc<Vec<Value>>),
@@ -143,7 +143,7 @@ impl Value {
     {
         Ok(Value {
             levels: 0,
-            repr: Repr::Text(RcStr::from_string(text)?),
+            repr: Repr::Text(shared(text)?),
         })
     }
 
@@ -170,7 +170,7 @@ impl Value {
     {
         Ok(Value {
             levels: 0,
-            repr: Repr::SafeText(RcStr::from_string(text)?),
+            repr: Repr::SafeText(shared(text)?),
         })
     }
 
@@ -259,11 +259,39 @@ impl Value {
         ensures { option_copied result ≡ text_in self.now }
     {
         match &self.repr {
-            Repr::Text(text) => Some(text.as_str()),
-            Repr::SafeText(text) => Some(text.as_str()),
+            Repr::Text(text) => Some(text.as_ref().as_str()),
+            Repr::SafeText(text) => Some(text.as_ref().as_str()),
             _ => None,
         }
     }
+
+    /// The text of a plain text that no other value shares, with the room that it has; else the value as it was. Takes constant
+    /// time.
+    pub fn into_text(self) -> Result<String, Value>
+        ensures taken { IfOk result (λ text. self ≡ Val.text (string_bytes text)) }
+        ensures kept { IfErr result (λ v. v ≡ self) }
+    {
+        let Value { levels, repr } = self;
+        match repr {
+            Repr::Text(text) => match Rc::try_unwrap(text) {
+                Ok(text) => Ok(text),
+                Err(text) => Err(Value {
+                    levels,
+                    repr: Repr::Text(text),
+                }),
+            },
+            repr => Err(Value { levels, repr }),
+        }
+    }
+}
+
+// A text that values can share. Its bytes are not copied.
+fn shared(text: String) -> Result<Rc<String>, Error>
+    ensures made { IfOk result (λ rc. rc.value ≡ text) }
+    ensures refused { IfErr result NoMemory }
+{
+    let alloc = *text.allocator();
+    Ok(Rc::new(alloc, text)?)
 }
 
 impl Repr {

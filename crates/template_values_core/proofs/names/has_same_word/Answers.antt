@@ -1,4 +1,4 @@
-use Rattle.std.proofs.Common.{take, length, ap, ◌∙◌}
+use Rattle.std.proofs.Common.{take}
 use Rattle.std.proofs.lemmas.List.{length-take-le}
 use Rattle.template_values_core.proofs.Words.{same_word, small_taken}
 use Rattle.template_values_core.proofs.names.has_same_word.Goals as goal

@@ -1,6 +1,6 @@
 use Rattle.std.proofs.Common.{◌∙◌, sym, ap, arith}
 use Rattle.std.specs.Ordering.{nat_cmp}
-use Rattle.std.specs.Rc.{rc_str_bytes}
+use Rattle.std.specs.String.{string_bytes}
 use Rattle.std.specs.Cmp.Lexicographic.{slice_cmp}
 use Rattle.template_values_core.specs.Order.{key_cmp, val_cmp}
 use Rattle.template_values_core.specs.Shape.{repr_view}
@@ -38,9 +38,9 @@ pub compare-returns-in-Text-Text : goal.compare-returns-in-Text-Text
 compare-returns-in-Text-Text t c =
     let left = sym (ap repr_view c.in-Text-Text.is-0) ∙ c.a.view_is in
     let right = sym (ap repr_view c.in-Text-Text.is-1) ∙ c.b.view_is in
-    let first = c.as_bytes.ensures.value ∙ c.as_str.ensures.value in
-    let second = c.as_bytes-in-Text-Text.ensures.value ∙ c.as_str-in-Text-Text.ensures.value in
-    c.cmp-in-Text-Text.ensures ∙ (λ i. slice_cmp nat_cmp (first i) (second i)) ∙ texts_by_bytes (rc_str_bytes c.in-Text-Text.a) (rc_str_bytes c.in-Text-Text.b) ∙ (λ i. val_cmp (left i) (right i))
+    let first = c.as_bytes.ensures.value ∙ ap string_bytes c.as_ref.ensures in
+    let second = c.as_bytes-in-Text-Text.ensures.value ∙ ap string_bytes c.as_ref-in-Text-Text.ensures in
+    c.cmp-in-Text-Text.ensures ∙ (λ i. slice_cmp nat_cmp (first i) (second i)) ∙ texts_by_bytes (string_bytes c.in-Text-Text.a.value) (string_bytes c.in-Text-Text.b.value) ∙ (λ i. val_cmp (left i) (right i))
 
 pub compare-returns-in_default : goal.compare-returns-in_default
 compare-returns-in_default t c =

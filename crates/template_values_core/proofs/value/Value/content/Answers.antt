@@ -28,13 +28,13 @@ pub returns-in-Macro : goal.returns-in-Macro
 returns-in-Macro c = sym c.self.view_is ∙ ap repr_view c.in-Macro.is
 
 pub returns-in-Text : goal.returns-in-Text
-returns-in-Text c = rw c.as_str.ensures.value (sym c.self.view_is ∙ ap repr_view c.in-Text.is)
+returns-in-Text c = rw c.as_str.ensures.value (rw c.as_ref.ensures (sym c.self.view_is ∙ ap repr_view c.in-Text.is))
 
 pub returns-in-SafeText : goal.returns-in-SafeText
-returns-in-SafeText c = rw c.as_str-in-SafeText.ensures.value (sym c.self.view_is ∙ ap repr_view c.in-SafeText.is)
+returns-in-SafeText c = rw c.as_str-in-SafeText.ensures.value (rw c.as_ref-in-SafeText.ensures (sym c.self.view_is ∙ ap repr_view c.in-SafeText.is))
 
 pub returns-in-Bytes : goal.returns-in-Bytes
-returns-in-Bytes c = rw (c.as_slice.ensures.value, c.as_ref.ensures) (sym c.self.view_is ∙ ap repr_view c.in-Bytes.is)
+returns-in-Bytes c = rw (c.as_slice.ensures.value, c.as_ref-in-Bytes.ensures) (sym c.self.view_is ∙ ap repr_view c.in-Bytes.is)
 
 pub returns-in-List : goal.returns-in-List
 returns-in-List c = rw (c.as_slice-in-List.ensures.value, c.as_ref-in-List.ensures) (sym c.self.view_is ∙ ap repr_view c.in-List.is)
