@@ -6,7 +6,7 @@ mod escape;
 mod print;
 mod truth;
 
-pub use concat::string_concat;
+pub use concat::{string_append, string_concat};
 pub use escape::escape_to;
 pub use print::print_to;
 pub use template_values_forms::{LoopView, MacroView, NoRecords, Records};
