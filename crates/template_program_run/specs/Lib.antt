@@ -20,4 +20,3 @@ pub mod Inputs
 pub mod Values
 pub mod Expressions
 pub mod Starts
-pub mod Runs

@@ -8,9 +8,8 @@ ghost use Rattle.template_program_output.specs.Lines.{error_line};
 ghost use Rattle.template_program_output.specs.Shown.{Puts};
 ghost use Rattle.template_program_run.specs.Asked.{served_by};
 ghost use Rattle.template_program_run.specs.Inputs.{AskForRun};
-ghost use Rattle.template_program_run.specs.Runs.{RunsProgram};
 ghost use Rattle.template_program_run.specs.Served.{served_under};
-ghost use Rattle.template_program_run.specs.Starts.{DoesUnderSyntax, DoesWords, FollowsWords, RunsWords, TellsLine, TellsWords, arguments_line, file_line, words_status};
+ghost use Rattle.template_program_run.specs.Starts.{DoesUnderSyntax, DoesWords, FollowsWords, RunsWords, Starts, TellsLine, TellsWords, arguments_line, file_line, words_status};
 ghost use Rattle.template_program_run.specs.Told.{told_by};
 ghost use Rattle.template_program_run.specs.Status.{arguments_status, file_status, syntax_status};
 
@@ -64,7 +63,6 @@ use template_values_errors::{Error, ErrorKind};
 ///
 /// Gives the output back behind the status. Holds all templates, the context and the output's buffer of 8 KiB in
 /// memory.
-#[tactic(auto, unfolding(crate::specs::Runs::RunsProgram))]
 pub fn start<R: FileSystem + Folders + Placing + AllocGlobal, I: Reader, O: Output, F: Output>(
     rt: &R,
     words: &[&str],
@@ -72,7 +70,7 @@ pub fn start<R: FileSystem + Folders + Placing + AllocGlobal, I: Reader, O: Outp
     out: O,
     fault: &mut F,
 ) -> (u8, O)
-    ensures { RunsProgram (fault_of program (map (λ word. word.now) words.now)) (subcommand_of program (map (λ word. word.now) words.now))
+    ensures { Starts (fault_of program (map (λ word. word.now) words.now)) (subcommand_of program (map (λ word. word.now) words.now))
         (told_by (R.entries rt.now) (R.content rt.now) (I.may_fail input.old) (I.remaining input.old))
         (R.fresh rt.now) (R.placed rt.now)
         (O.shown out) (O.shown result.1) (F.shown fault.old) (F.shown fault.new) result.0 }
