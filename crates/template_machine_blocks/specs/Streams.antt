@@ -3,12 +3,13 @@ use Rattle.std.specs.Prelude.{ℕ, List, Option, None, Some, option_copied}
 use Rattle.template_machine_meaning.specs.Keys as keys
 use Rattle.template_machine_meaning.specs.Keys.{own, block_of}
 use Rattle.template_machine_blocks.specs.declared.home.Home.{Home}
-use Rattle.template_machine_blocks.specs.declared.home.Home.TheVariants.{Rendered, Standing}
+use Rattle.template_machine_blocks.specs.declared.home.Home.TheVariants.{Kept, Rendered, Standing}
 use Rattle.template_machine_blocks.specs.declared.home.Stream.{Stream}
 
 abbrev pub home_of : Home → keys.Home
 home_of Rendered = keys.rendered
 home_of (Standing name) = keys.standing name.now
+home_of (Kept number) = keys.kept number
 
 -- a home's own stream, or that of a block
 abbrev pub stream_at : keys.Home → Option (List ℕ) → keys.Stream

@@ -11,16 +11,19 @@ pub enum Home<'env> {
     Rendered,
     /// The one that stands under this name.
     Standing(&'env str),
+    /// None: the stream was handed in by itself, as the one of this number among such.
+    Kept(usize),
 }
 
 impl<'env> Home<'env> {
-    /// Its name, where that of the one that is rendered is `rendered`.
+    /// Its name, where that of the one that is rendered, and of streams that were handed in, is `rendered`.
     pub fn name<'a>(&'a self, rendered: &'a str) -> &'a str
         ensures { (a : Around) → result.now ≡ name_at (record a { name = rendered.now }) (home_of self.now) }
     {
         match *self {
             Home::Rendered => rendered,
             Home::Standing(name) => name,
+            Home::Kept(_) => rendered,
         }
     }
 }

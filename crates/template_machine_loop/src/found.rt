@@ -121,6 +121,7 @@ fn template_at<'env, T: Templates>(
     match home {
         Home::Rendered => program.root,
         Home::Standing(name) => program.templates.get(name),
+        Home::Kept(_) => None,
     }
 }
 
