@@ -10,6 +10,9 @@ use std::mem;
 use template_values_core::Value;
 use template_values_errors::{AutoEscape, Error};
 
+// The bytes that a capture has room for from its beginning: most texts that are kept are short.
+const FIRST_ROOM: usize = 64;
+
 /// A capture: the text that was written in it so far; or it drops what is written.
 #[derive(Drop)]
 pub(crate) struct Capture {
@@ -29,12 +32,12 @@ impl Model for Capture {
 }
 
 impl Capture {
-    /// A capture in which nothing was written, and whose text is kept or dropped.
+    /// A capture in which nothing was written, and whose text is kept or dropped. One that keeps it has room for a short one.
     pub(crate) fn new(alloc: Global, keep: bool) -> Capture
         ensures { result ≡ capture_begun keep }
     {
         if keep {
-            Capture::of(String::new(alloc))
+            Capture::of(empty_text(alloc))
         } else {
             Capture { text: None }
         }
@@ -122,5 +125,15 @@ impl Capture {
             (Some(text), AutoEscape::None) => Value::from_text(text),
             (Some(text), _) => Value::from_safe_text(text),
         }
+    }
+}
+
+// An empty text, with room for a short one where memory is given for it.
+fn empty_text(alloc: Global) -> String
+    ensures { string_bytes result ≡ [] }
+{
+    match String::with_capacity(alloc, FIRST_ROOM) {
+        Ok(text) => text,
+        Err(_refused) => String::new(alloc),
     }
 }
