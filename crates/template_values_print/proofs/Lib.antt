@@ -1,4 +1,5 @@
 pub mod PrintLemmas
 pub mod JsonLemmas
 pub mod PieceLemmas
+pub mod Digits
 mod HtmlTexts

@@ -3,11 +3,13 @@
 #![tactic(auto)]
 
 mod html;
+mod numbers;
 mod pieces;
 mod print;
 mod serial;
 
 pub use html::{HTML_BLOCK, SHORT_TEXT, put_html};
+pub use numbers::format_number;
 pub use pieces::{Markup, Quoting, push, push_bytes, push_quoted};
 pub use print::print_outer;
 pub use serial::json_outer;

@@ -7,6 +7,7 @@ ghost use Rattle.template_values_forms.specs.Answers.{joined};
 ghost use Rattle.template_values_print.specs.Pieces.{Writes};
 ghost use Rattle.template_values_forms.specs.Printed.{enclosed, flat_text, inner_text, level_limit, loop_text, macro_text, map_text, namespace_text, nested_text, pair_text, pairs_text, place_text, printed, tuple_end, vals_text};
 
+use crate::numbers::push_number;
 use crate::{Markup, Quoting, push, push_bytes, push_quoted};
 use itoa::Buffer;
 use template_values_core::{Content, Entry, Value};
@@ -36,6 +37,7 @@ pub fn print_outer<R: Records>(
         Content::SilentUndefined => push(out, markup, ""),
         Content::Text(text) => push(out, markup, text),
         Content::SafeText(text) => push(out, markup, text),
+        Content::Int(number) => push_number(out, markup, number),
         _ => {
             let inside = Inside {
                 markup,
@@ -244,7 +246,7 @@ fn print_flat<R: Records>(
         Content::None => push(out, markup, "none"),
         Content::Truth(true) => push(out, markup, "true"),
         Content::Truth(false) => push(out, markup, "false"),
-        Content::Int(number) => push(out, markup, Buffer::new().format(number)),
+        Content::Int(number) => push_number(out, markup, number),
         Content::Text(text) => push_quoted(out, markup, Quoting::Printed, text),
         Content::SafeText(text) => push_quoted(out, markup, Quoting::Printed, text),
         Content::Bytes(bytes) => push_bytes(out, markup, bytes),
