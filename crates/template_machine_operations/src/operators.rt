@@ -14,29 +14,29 @@ use template_values_errors::{Error, UndefinedBehavior};
 use template_values_forms::Records;
 use template_values_operations as values;
 
-/// What the operator gives for its operands. As dear as [`values::operate`].
+/// What the operator gives for its operands, of which the left one is given up. As dear as [`values::operate_owned`].
 ///
 /// # Errors
 ///
 /// [`ErrorKind::UndefinedError`] where the mode forbids to compare, join or seek an undefined operand;
-/// else those of [`values::operate`].
+/// else those of [`values::operate_owned`].
 ///
 /// [`ErrorKind::UndefinedError`]: template_values_errors::ErrorKind::UndefinedError
 pub fn operate<R: Records>(
     alloc: Global,
     mode: UndefinedBehavior,
     op: BinOpKind,
-    left: &Value,
+    left: Value,
     right: &Value,
     records: &R,
 ) -> Result<Value, Error>
-    ensures { let forbidden = forbids_operator mode op left.now right.now in
-        Answers result (guarded forbidden (kinded (operated (R.known records.now) op left.now right.now))) }
+    ensures { let forbidden = forbids_operator mode op left right.now in
+        Answers result (guarded forbidden (kinded (operated (R.known records.now) op left right.now))) }
 {
-    if forbids_operator(mode, op, left, right) {
+    if forbids_operator(mode, op, &left, right) {
         return refusal();
     }
-    values::operate(alloc, op, left, right, records)
+    values::operate_owned(alloc, op, left, right, records)
 }
 
 /// Whether a comparison of a chain holds, as a truth value. As dear as [`values::compare`].
