@@ -317,7 +317,7 @@ fn fold_constant_choice<'source>(
     let jump = push_leap(code, leap, None)?;
     let constant = fold_expr(alloc, code, right, None)?;
     let choice = Choice { begins, jump, leap };
-    let folded = end_choice(alloc, code, choice, op, value, constant)?;
+    let folded = end_choice(alloc, code, choice, op, value.take(), constant)?;
     hold(value, folded);
     Ok(())
 }
@@ -371,7 +371,7 @@ fn fold_constant_operator<'source>(
     let begins = code.len();
     load_copy(code, value, from)?;
     let constant = fold_expr(alloc, code, right, None)?;
-    let folded = end_operator(alloc, code, begins, op, value, constant)?;
+    let folded = end_operator(alloc, code, begins, op, value.take(), constant)?;
     hold(value, folded);
     Ok(())
 }

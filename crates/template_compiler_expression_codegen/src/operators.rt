@@ -12,7 +12,7 @@ use crate::leaves::{hold, unless_refused};
 use std::alloc::Global;
 use template_code::Instructions;
 use template_compiler_emission::{Leap, land, load, operator_instruction, push, unary_instruction};
-use template_compiler_folding::{fold_binary, fold_unary};
+use template_compiler_folding::{fold_binary, fold_unary, joins};
 use template_tree::{BinOpKind, Span, UnaryOpKind};
 use template_values_core::Value;
 use template_values_errors::ErrorKind;
@@ -77,10 +77,10 @@ pub(crate) fn end_choice<'source>(
     code: &mut Instructions<'source>,
     choice: Choice,
     op: BinOpKind,
-    left: &Option<Value>,
+    left: Option<Value>,
     right: Option<Value>,
 ) -> Result<Option<Value>, ErrorKind>
-    ensures constant { IfOk result (λ o. o ≡ binary_folded op left.now right) }
+    ensures constant { IfOk result (λ o. o ≡ binary_folded op left right) }
     ensures put { IfOk result
         (λ o. CutOr choice.begins o code.old code.new (Lands choice.jump choice.leap (held right) code.old code.new)) }
     ensures refused { IfErr result (λ kind. TakesNoMore (code_in code.new) (kind ∷ [])) }
@@ -105,14 +105,19 @@ pub(crate) fn end_operator<'source>(
     code: &mut Instructions<'source>,
     begins: usize,
     op: BinOpKind,
-    left: &Option<Value>,
+    left: Option<Value>,
     right: Option<Value>,
 ) -> Result<Option<Value>, ErrorKind>
     requires { IsNone (leap_of op) }
-    ensures constant { IfOk result (λ o. o ≡ binary_folded op left.now right) }
+    ensures constant { IfOk result (λ o. o ≡ binary_folded op left right) }
     ensures put { IfOk result (λ o. CutOr begins o code.old code.new (Puts (behind right (one (operate op))) code.old code.new)) }
     ensures refused { IfErr result (λ kind. TakesNoMore (code_in code.new) (kind ∷ [])) }
 {
+    if matches!(op, BinOpKind::Concat) && joins(&left, &right) {
+        // The load of the left value goes first, so that nothing shares its text.
+        code.truncate(begins);
+        return unless_refused(fold_binary(alloc, op, left, &right));
+    }
     match unless_refused(fold_binary(alloc, op, left, &right))? {
         Some(value) => {
             code.truncate(begins);

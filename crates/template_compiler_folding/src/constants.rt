@@ -79,7 +79,7 @@ fn operator_constant(
         return Ok(None);
     }
     let right = as_const(alloc, right)?;
-    fold_binary(alloc, op, &left, &right)
+    fold_binary(alloc, op, left, &right)
 }
 
 // The value of a chain's comparisons behind its first operand: that of the first one that is false, else of the last

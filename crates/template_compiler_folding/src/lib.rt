@@ -7,4 +7,4 @@ mod operators;
 
 pub use constants::as_const;
 pub use containers::{fold_list, fold_map, fold_tuple};
-pub use operators::{fold_binary, fold_comparison, fold_unary, goes_on};
+pub use operators::{fold_binary, fold_comparison, fold_unary, goes_on, joins};
