@@ -1,5 +1,6 @@
 //! Texts and values on their way into a sink.
 ghost use Rattle.std.specs.Prelude.{◌≡◌, ◌≤◌, [], Ok, IfSome, length, option_copied, string_bytes};
+ghost use Rattle.std.specs.Fmt.{signed_decimal};
 ghost use Rattle.template_values_forms.specs.Answers.{AppendsOrRefuses};
 ghost use Rattle.template_values_forms.specs.Escaped.{escaped};
 ghost use Rattle.template_values_forms.specs.Escapes.{html};
@@ -9,6 +10,7 @@ ghost use Rattle.template_machine_meaning.specs.Replies.{guarded, kinded};
 ghost use Rattle.template_machine_operations.specs.Outcomes.{TellsFailures, Writes, Prints};
 ghost use Rattle.template_machine_operations.specs.Texts.{safe_text_in};
 
+use itoa::Buffer;
 use std::str;
 use template_machine_output::{Sink, write_text};
 use template_machine_undefined::{forbids_printing, refusal};
@@ -82,6 +84,9 @@ fn print_escaped<R: Records, S: Sink>(
     if let Some(text) = short_text(value, escape) {
         return write_html(text, sink);
     }
+    if let Some(number) = standing_number(value, escape) {
+        return write_number(number, sink);
+    }
     print_at_length(escape, value, records, scratch, sink)
 }
 
@@ -125,6 +130,27 @@ fn write_html<S: Sink>(text: &str, sink: &mut S) -> Result<(), Error>
     let used = put_html(&mut block, text);
     // References stand for whole characters.
     write(unsafe { str::from_utf8_unchecked(&block[..used]) }, sink)
+}
+
+/// A whole number that is written by its digits alone under an escape, whatever is known of records: HTML reads none of them as
+/// markup.
+#[inline(always)]
+fn standing_number(value: &Value, escape: AutoEscape) -> Option<i128>
+    ensures { IfSome result (λ n. (known : Known) → escaped escape known value.now ≡ Ok (signed_decimal n)) }
+{
+    match (value.content(), escape) {
+        (Content::Int(number), AutoEscape::None | AutoEscape::Html) => Some(number),
+        _ => None,
+    }
+}
+
+/// Puts the digits of a whole number into a sink. They need no memory.
+#[inline(never)]
+fn write_number<S: Sink>(number: i128, sink: &mut S) -> Result<(), Error>
+    ensures written { Writes (signed_decimal number) result (S.taken sink.old) (S.taken sink.new) }
+    ensures failures { TellsFailures result (S.failures sink.old) (S.failures sink.new) }
+{
+    write(Buffer::new().format(number), sink)
 }
 
 /// The text of a value that stands as it is under an escape, whatever is known of records: a safe text,
