@@ -182,11 +182,11 @@ pub temps_places : (w v : World) → OnlyTemps w v → KeepsBodies w.blocks v.bl
 temps_places w v only = subst (KeepsBodies w.blocks) (sym (ap (λ (x : World). x.blocks) only)) (bodies_stay w.blocks)
 
 pub reached_frames : (came : Reached) (w v : World) → KeptUnlessValue (Ok came) w v → v.frames ≡ w.frames
-reached_frames (reached.Value u turnings) w v kept = kept.0
+reached_frames (reached.Value u turnings) w v kept = ap (λ (x : World). x.frames) kept
 reached_frames (reached.Enters entry) w v kept = temps_frames w v kept
 
 pub reached_places : (came : Reached) (w v : World) → KeptUnlessValue (Ok came) w v → KeepsBodies w.blocks v.blocks
-reached_places (reached.Value u turnings) w v kept = subst (KeepsBodies w.blocks) (sym kept.1) (bodies_stay w.blocks)
+reached_places (reached.Value u turnings) w v kept = subst (KeepsBodies w.blocks) (sym (ap (λ (x : World). x.blocks) kept)) (bodies_stay w.blocks)
 reached_places (reached.Enters entry) w v kept = temps_places w v kept
 
 -- behind a call that goes on from there

@@ -111,10 +111,12 @@ only_temps_on u v w first second = second ∙ ap (λ (x : World). record x { tem
 
 -- what is open is as it was then
 pub temps_open : (w after : World) → OnlyTemps w after → IsOpenAlike w after
-temps_open w after only = (ap (λ (x : World). x.frames) only, ap (λ (x : World). x.blocks) only)
+temps_open w after only =
+    only ∙ ap (λ (x : World). record w { namespaces = x.namespaces; given = x.given; temps = x.temps; held = x.held }) (sym only)
 
 pub open_behind : (u v w : World) → OnlyTemps u v → IsOpenAlike v w → IsOpenAlike u w
-open_behind u v w first second = (second.0 ∙ ap (λ (x : World). x.frames) first, second.1 ∙ ap (λ (x : World). x.blocks) first)
+open_behind u v w first second =
+    second ∙ ap (λ (x : World). record x { namespaces = w.namespaces; given = w.given; temps = w.temps; held = w.held }) first
 
 -- a plan by another name
 pub planned_as : {X : Type 0} (on : X → World → Plan) (plan same : Plan) (result : Result X Stop) (after : World)

@@ -5,12 +5,16 @@ use Rattle.template_machine_meaning.specs.World.{World}
 use Rattle.template_machine_meaning.proofs.RunsKept.{rest_of, all_kept}
 use Rattle.template_machine_going.specs.declared.stop.Stop.{Stop}
 use Rattle.template_machine_state.specs.Changes.{OnlyTemps}
-use Rattle.template_machine_calls.specs.Left.{KeptUnlessValue}
+use Rattle.template_machine_calls.specs.Left.{IsOpenAlike, KeptUnlessValue}
 use Rattle.template_machine_calls.specs.declared.reached.Reached.{Reached}
 
 -- a world in which nothing else is other keeps what every run keeps
 pub temps_keep : (w after : World) → OnlyTemps w after → KeepsWorld w after
 temps_keep w after is = all_kept w after (ap rest_of is) (ap (λ (t : World). t.frames) is)
+
+-- so it is where what is open is as it was
+pub open_keeps : (w after : World) → IsOpenAlike w after → KeepsWorld w after
+open_keeps w after is = all_kept w after (ap rest_of is) (ap (λ (t : World). t.frames) is)
 
 -- a failed call leaves such a world
 pub kept_err : (stop : Stop) (w after : World) → KeptUnlessValue (Err stop) w after → OnlyTemps w after

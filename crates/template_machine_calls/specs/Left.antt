@@ -104,9 +104,9 @@ abbrev pub Replied : {X : Type 0} → (X → World → Reply World) → Reply Wo
 Replied on reply (Ok x) after = reply ≡ on x after
 Replied on reply (Err stop) after = FaultsSo (λ kinds. reply ≡ told after (fails kinds)) stop
 
--- the frames that are open are as they were, and so are the bodies of blocks
+-- what is open is as it was: nothing is other but what namespaces hold, what `changed` was called with, and what callables have set
 abbrev pub IsOpenAlike : World → World → Type 0
-IsOpenAlike w after = (after.frames ≡ w.frames) × (after.blocks ≡ w.blocks)
+IsOpenAlike w after = after ≡ record w { namespaces = after.namespaces; given = after.given; temps = after.temps; held = after.held }
 
 -- Where a call came to no value yet, or failed, nothing but what callables have set is other; where it came to one, what is open
 -- is as it was.

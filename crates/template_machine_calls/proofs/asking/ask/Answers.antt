@@ -70,7 +70,7 @@ returns-in_ok-lookup-in-Lookup-clause-comes g c a pending go =
     ∙ (λ i. replies (told w (tells (value (value_named (sym c.as_str-in-Lookup.ensures.value i) w))))) ∙ ap (λ v. replies (told w (tells (value v)))) (sym c.in_ok-lookup-in-Lookup.ensures.found)
 
 pub returns-in_ok-lookup-in-Lookup-clause-kept : goal.returns-in_ok-lookup-in-Lookup-clause-kept
-returns-in_ok-lookup-in-Lookup-clause-kept g c = (refl, refl)
+returns-in_ok-lookup-in-Lookup-clause-kept g c = refl
 
 pub returns-in_err-found-in-Macro-clause-comes : goal.returns-in_err-found-in-Macro-clause-comes
 returns-in_err-found-in-Macro-clause-comes g c a pending go =

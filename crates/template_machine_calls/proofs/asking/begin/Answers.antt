@@ -21,7 +21,7 @@ returns-in-Value-clause-comes g c a pending go came comes =
     ap (called_plan around pending go c.args.state.now) (subst (λ (k : Called). Comes (Ok k) c.args.args.items came) c.in-Value.is comes)
 
 pub returns-in-Value-clause-kept : goal.returns-in-Value-clause-kept
-returns-in-Value-clause-kept g c = (refl, refl)
+returns-in-Value-clause-kept g c = refl
 
 pub returns-in_err-make_namespace-in-Namespace-clause-comes : goal.returns-in_err-make_namespace-in-Namespace-clause-comes
 returns-in_err-make_namespace-in-Namespace-clause-comes g c a pending go came comes =
