@@ -13,7 +13,7 @@ ghost use Rattle.template_machine_meaning.specs.World.{Loop, depth_of, empty_fra
 ghost use Rattle.template_code_blocks.specs.Streams.{heads_of, streams_in};
 ghost use Rattle.template_machine_blocks.specs.Streams.{home_of, stream_of};
 ghost use Rattle.template_machine_frames.specs.Rounds.{rounds_in};
-ghost use Rattle.template_machine_state.specs.Changes.{bound_to, caller_named, found_as, macro_at, with_parent};
+ghost use Rattle.template_machine_state.specs.Changes.{bound_to, caller_named, found_as, macro_at, stream_begun, with_parent};
 
 use crate::caller::Caller;
 use crate::capture::Capture;
@@ -218,6 +218,34 @@ impl<'env> State<'env> {
         let caller = self.give_way(alloc, blocks, frames, writes, floor, captures);
         self.here = Stream::of_block(home, name);
         self.block = Some(name);
+        self.parent = None;
+        self.first = self.escape;
+        Ok(caller)
+    }
+
+    /// Begins a stream that was handed in, by its number, in a frame of its own, and gives what is put back behind it, but for the
+    /// blocks, which stay. No block runs in it.
+    ///
+    /// # Errors
+    ///
+    /// [`ErrorKind::OutOfMemory`]; the state is then as it was.
+    #[tactic(auto, using(crate::proofs::Room::bare_room))]
+    pub fn enter_stream(&mut self, alloc: Global, number: usize) -> Result<Caller<'env>, Error>
+        requires { depth_of self.old + 1 < 2 ^ 64 }
+        ensures within { OnOk result (self.new ≡ stream_begun number self.old) }
+        ensures kept { IfOk result (λ caller. caller ≡ record (caller_of self.old) { blocks = [] }) }
+        ensures refused { IfErr result NoMemory }
+        ensures unchanged { OnErr result (self.new ≡ self.old) }
+    {
+        let frames = self.ctx.frames();
+        let writes = self.ctx.writes();
+        let floor = self.ctx.floor();
+        self.ctx.enter_frame(Frame::bare(alloc))?;
+        let captures = self.captures.len();
+        let blocks = BlockStack::new(alloc);
+        let caller = self.give_way(alloc, blocks, frames, writes, floor, captures);
+        self.here = Stream::own(Home::Kept(number));
+        self.block = None;
         self.parent = None;
         self.first = self.escape;
         Ok(caller)
