@@ -23,16 +23,16 @@ use Rattle.template_machine_going.specs.declared.stop.Stop.TheVariants.{Fault, W
 use Rattle.template_machine_meaning.specs.Calls.{answered_by, beyond, call_plan, said, stated_plan, view_of}
 use Rattle.template_machine_meaning.specs.Captures.{captured}
 use Rattle.template_machine_meaning.specs.Functions.{Called, invokes, test_named, found_called}
-use Rattle.template_machine_meaning.specs.Keeps.{KeepsBodies}
+use Rattle.template_machine_meaning.specs.Keeps.{KeepsFrames, KeepsWorld}
 use Rattle.template_machine_meaning.specs.Keys.{Around}
-use Rattle.template_machine_meaning.specs.Plans.{Caller, Plan, Runners, caller_of, outermost, put_back, replies, settled, with_turning}
+use Rattle.template_machine_meaning.specs.Plans.{Caller, Plan, Runners, calls_block, caller_of, outermost, put_back, replies, settled, with_turning}
 use Rattle.template_machine_meaning.specs.Records.{known_of}
 use Rattle.template_machine_meaning.specs.Replies.{kinded, told}
 use Rattle.template_machine_meaning.specs.Surroundings.{Programs, runners}
 use Rattle.template_machine_meaning.specs.Turnings.{Turning, to_text, to_truth, decided, turned_by}
 use Rattle.template_machine_meaning.specs.World.{World, keeps, looked_up, depth_of}
 use Rattle.template_machine_meaning.proofs.Outermost.{outermost_all}
-use Rattle.template_machine_meaning.proofs.Placed.{bodies_on, bodies_stay}
+use Rattle.template_machine_meaning.proofs.RunsKept.{frames_stay, kept_back, world_on}
 use Rattle.template_machine_state.specs.Changes.{OnlyTemps}
 use Rattle.template_machine_calls.specs.Hosted.{around_under}
 use Rattle.template_machine_calls.specs.Left.{Planned, KeptUnlessValue, entry_plan, reached_by, value_left, with_turnings}
@@ -40,6 +40,7 @@ use Rattle.template_machine_calls.specs.declared.reached.Entry.{Entry}
 use Rattle.template_machine_calls.specs.declared.reached.Reached.{Reached}
 use Rattle.template_machine_calls.specs.declared.reached.Reached.TheVariants as reached
 use Rattle.template_machine_calls.specs.declared.rules.Rules.{Rules}
+use Rattle.template_machine_calls.proofs.Temps.{open_keeps, temps_keep}
 use Rattle.template_machine_loop.proofs.Itself.{put_back_itself}
 use Rattle.template_machine_loop.proofs.Turned.{settled_turning, turned_does, turned_halts}
 use Rattle.template_machine_renders.specs.Plans.{DoesPlan, PutsBack, replies_of, run_of}
@@ -174,27 +175,25 @@ temps_put_back w v only =
     subst (PutsBack w) (sym only)
     (record { within = record w { temps = v.temps; held = v.held }; is = put_back_itself (record w { temps = v.temps; held = v.held }) })
 
--- so are the frames; and the blocks run the bodies that they ran
+-- so are the frames
 pub temps_frames : (w v : World) → OnlyTemps w v → v.frames ≡ w.frames
 temps_frames w v only = ap (λ (x : World). x.frames) only
-
-pub temps_places : (w v : World) → OnlyTemps w v → KeepsBodies w.blocks v.blocks
-temps_places w v only = subst (KeepsBodies w.blocks) (sym (ap (λ (x : World). x.blocks) only)) (bodies_stay w.blocks)
 
 pub reached_frames : (came : Reached) (w v : World) → KeptUnlessValue (Ok came) w v → v.frames ≡ w.frames
 reached_frames (reached.Value u turnings) w v kept = ap (λ (x : World). x.frames) kept
 reached_frames (reached.Enters entry) w v kept = temps_frames w v kept
 
-pub reached_places : (came : Reached) (w v : World) → KeptUnlessValue (Ok came) w v → KeepsBodies w.blocks v.blocks
-reached_places (reached.Value u turnings) w v kept = subst (KeepsBodies w.blocks) (sym (ap (λ (x : World). x.blocks) kept)) (bodies_stay w.blocks)
-reached_places (reached.Enters entry) w v kept = temps_places w v kept
+-- and it keeps what every run keeps
+pub reached_keeps : (came : Reached) (w v : World) → KeptUnlessValue (Ok came) w v → KeepsWorld w v
+reached_keeps (reached.Value u turnings) w v kept = open_keeps w v kept
+reached_keeps (reached.Enters entry) w v kept = temps_keep w v kept
 
 -- behind a call that goes on from there
 pub frames_behind : (came : Reached) (w v after : World) → KeptUnlessValue (Ok came) w v → after.frames ≡ v.frames → after.frames ≡ w.frames
 frames_behind came w v after kept same = same ∙ reached_frames came w v kept
 
-pub places_behind : (came : Reached) (w v after : World) → KeptUnlessValue (Ok came) w v → KeepsBodies v.blocks after.blocks → KeepsBodies w.blocks after.blocks
-places_behind came w v after kept places = bodies_on w.blocks v.blocks after.blocks (reached_places came w v kept) places
+pub keeps_behind : (came : Reached) (w v after : World) → KeptUnlessValue (Ok came) w v → KeepsWorld v after → KeepsWorld w after
+keeps_behind came w v after kept later = world_on w v after (reached_keeps came w v kept) later
 
 -- and where all was put back behind it
 pub failed_frames : (w v after : World) (mark : Caller) → mark ≡ record (caller_of w) { blocks = [] } → after ≡ put_back mark v → v.frames ≡ w.frames
@@ -203,8 +202,13 @@ failed_frames w v after mark is same kept =
     ap (λ (x : World). x.frames) same ∙ ap (λ (c : Caller). outermost c.frames v.frames) is ∙ ap (outermost (length w.frames)) kept
     ∙ outermost_all (length w.frames) w.frames refl
 
-pub failed_places : (w v after : World) (mark : Caller) → after ≡ put_back mark v → KeepsBodies w.blocks v.blocks → KeepsBodies w.blocks after.blocks
-failed_places w v after mark same kept = subst (KeepsBodies w.blocks) (sym (ap (λ (x : World). x.blocks) same)) kept
+pub failed_keeps : (w v after : World) (mark : Caller) → mark ≡ record (caller_of w) { blocks = [] } → after ≡ put_back mark v → v.frames ≡ w.frames
+    → KeepsWorld w v → KeepsWorld w after
+failed_keeps w v after mark is same frames kept =
+    let back : outermost (length w.frames) v.frames ≡ w.frames = ap (outermost (length w.frames)) frames ∙ outermost_all (length w.frames) w.frames refl in
+    subst (KeepsWorld w) (sym (mark_back w v after mark is same))
+    (kept_back w v kept.loaded.0 kept.loaded.1 kept.id kept.globals calls_block
+    (λ many. subst (KeepsFrames w.floor w.frames) (sym back) (frames_stay w.floor w.frames many)) kept.blocks)
 
 pub mark_put_back : (w v after : World) (mark : Caller) → mark ≡ record (caller_of w) { blocks = [] } → after ≡ put_back mark v → PutsBack w after
 mark_put_back w v after mark is same = record { within = v; is = mark_back w v after mark is same }

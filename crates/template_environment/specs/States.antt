@@ -1,5 +1,5 @@
 -- What contracts see of a state.
-use Rattle.std.specs.Prelude.{◌≡◌, ◌⊎◌, ℕ, List, [], ◌∷◌, ◌++◌, Option, None, Result, Ok, Err, String, codes, option_copied, string_bytes}
+use Rattle.std.specs.Prelude.{◌≡◌, ◌⊎◌, ℕ, List, [], ◌∷◌, Option, None, Result, Ok, Err, String, codes, option_copied, string_bytes}
 use Rattle.std.specs.Global.{Global}
 use Rattle.std.specs.Option.{option_map, option_map_or}
 use Rattle.template_values_errors.specs.declared.ErrorKind.{ErrorKind}
@@ -147,10 +147,6 @@ module _ {E C M F J R : Type 0} where
   -- the name that is meant by a name in it, or the kinds of a fault
   abbrev pub joined_in : UserAnswers C M F J → State E C M F J R → List ℕ → Result (List ℕ) (List ErrorKind)
   joined_in says s name = (setting_in says (environment_in s)).joins name (name_in s)
-
--- the names of what was loaded are there, with others before them at most
-abbrev pub KeepsLoaded : World → World → Type 0
-KeepsLoaded before after = (more : List (List ℕ)) × (after.loaded ≡ more ++ before.loaded)
 
 -- The call gives the answer that is told, where the fuel lasts; else it answers with the fault. Or a growth was refused.
 abbrev pub GivesTold : {X : Type 0} → (X → Answer) → Option ℕ → Result X (List ErrorKind) → Reply World → Type 0

@@ -9,7 +9,7 @@ ghost use Rattle.template_process.specs.Process.{value};
 ghost use Rattle.template_values_model.specs.Val.{truth};
 ghost use Rattle.template_machine_meaning.specs.Calls.{with_temps};
 ghost use Rattle.template_machine_meaning.specs.Functions.{filter_named, test_named};
-ghost use Rattle.template_machine_meaning.specs.Keeps.{KeepsBodies};
+ghost use Rattle.template_machine_meaning.specs.Keeps.{KeepsWorld};
 ghost use Rattle.template_machine_meaning.specs.Plans.{put_back};
 ghost use Rattle.template_machine_meaning.specs.World.{looked_up};
 ghost use Rattle.template_machine_calls.specs.Formatted.{outside};
@@ -68,7 +68,7 @@ impl<'env, 'source, E: Extension> Drop for State<'env, 'source, E> {
 
 impl<'env, 'source, E: Extension> State<'env, 'source, E> {
     ghost use Rattle.template_environment.specs.Standing.{settings_of, source_at};
-    ghost use Rattle.template_environment.specs.States.{DoesThere, EndsIn, GivesPrinted, GivesTold, IsMissing, KeepsLoaded, KeepsRest, KeepsState, LeavesWorld, around_in, block_in, call_in, environment_in, format_in, frameless, fuel_left_in, fuel_set_in, head_of_template, id_in, joined_in, macro_in, name_in, template_in, worded_in, world_in};
+    ghost use Rattle.template_environment.specs.States.{DoesThere, EndsIn, GivesPrinted, GivesTold, IsMissing, KeepsRest, KeepsState, LeavesWorld, around_in, block_in, call_in, environment_in, format_in, frameless, fuel_left_in, fuel_set_in, head_of_template, id_in, joined_in, macro_in, name_in, template_in, worded_in, world_in};
     ghost use Rattle.template_environment.specs.Views.{environment_of, name_of, source_of};
 
     // A state without frames, of a template if one is given, with its escape and blocks, that has consumed no fuel.
@@ -206,9 +206,11 @@ impl<'env, 'source, E: Extension> State<'env, 'source, E> {
         ensures world { let called = call_in (user_answers E.Callable.answer E.Method.answer E.Formatter.answer E.Join.answer) self.old (filter_named name.now) args.now in
             (n : ℕ) → IsFinished (run_of (called n)).end → LeavesWorld (fuel_left_in self.old) (world_in self.old) result (called n) (world_in self.new) }
 
-        // Whatever its end, the frames are as before, and the blocks run the bodies that they ran, with others behind them at most.
+        // Whatever its end, the frames are as before, and so is what every run keeps: the state's number, what the environment gives, the
+        // block that runs, the names of what was loaded, with others before them at most, and the bodies that blocks run, with others behind
+        // them at most.
         ensures frames { (world_in self.new).frames ≡ (world_in self.old).frames }
-        ensures places { KeepsBodies (world_in self.old).blocks (world_in self.new).blocks }
+        ensures keeps { KeepsWorld (world_in self.old) (world_in self.new) }
 
         // Behind a fault what else was open is so again.
         ensures put_back { OnErr result (PutsBack (world_in self.old) (world_in self.new)) }
@@ -247,9 +249,11 @@ impl<'env, 'source, E: Extension> State<'env, 'source, E> {
         ensures world { let called = call_in (user_answers E.Callable.answer E.Method.answer E.Formatter.answer E.Join.answer) self.old (test_named name.now) args.now in
             (n : ℕ) → IsFinished (run_of (called n)).end → LeavesWorld (fuel_left_in self.old) (world_in self.old) result (called n) (world_in self.new) }
 
-        // Whatever its end, the frames are as before, and the blocks run the bodies that they ran, with others behind them at most.
+        // Whatever its end, the frames are as before, and so is what every run keeps: the state's number, what the environment gives, the
+        // block that runs, the names of what was loaded, with others before them at most, and the bodies that blocks run, with others behind
+        // them at most.
         ensures frames { (world_in self.new).frames ≡ (world_in self.old).frames }
-        ensures places { KeepsBodies (world_in self.old).blocks (world_in self.new).blocks }
+        ensures keeps { KeepsWorld (world_in self.old) (world_in self.new) }
 
         // Behind a fault what else was open is so again.
         ensures put_back { OnErr result (PutsBack (world_in self.old) (world_in self.new)) }
@@ -291,9 +295,11 @@ impl<'env, 'source, E: Extension> State<'env, 'source, E> {
         ensures world { let called = macro_in (user_answers E.Callable.answer E.Method.answer E.Formatter.answer E.Join.answer) self.old name.now args.now in
             (n : ℕ) → IsFinished (run_of (called n)).end → LeavesWorld (fuel_left_in self.old) (world_in self.old) result (called n) (world_in self.new) }
 
-        // Whatever its end, the frames are as before, and the blocks run the bodies that they ran, with others behind them at most.
+        // Whatever its end, the frames are as before, and so is what every run keeps: the state's number, what the environment gives, the
+        // block that runs, the names of what was loaded, with others before them at most, and the bodies that blocks run, with others behind
+        // them at most.
         ensures frames { (world_in self.new).frames ≡ (world_in self.old).frames }
-        ensures places { KeepsBodies (world_in self.old).blocks (world_in self.new).blocks }
+        ensures keeps { KeepsWorld (world_in self.old) (world_in self.new) }
 
         // Behind a fault what else was open is so again.
         ensures put_back { OnErr result (PutsBack (world_in self.old) (world_in self.new)) }
@@ -339,7 +345,7 @@ impl<'env, 'source, E: Extension> State<'env, 'source, E> {
         ensures does { let says = user_answers E.Callable.answer E.Method.answer E.Formatter.answer E.Join.answer in
             DoesThere says (reached_by (around_in says self.old) reached (world_in self.old)) self.old self.new result }
         ensures frames { (world_in self.new).frames ≡ (world_in self.old).frames }
-        ensures places { KeepsBodies (world_in self.old).blocks (world_in self.new).blocks }
+        ensures keeps { KeepsWorld (world_in self.old) (world_in self.new) }
         ensures spares { IfErr result SparesSink }
         ensures rest { KeepsState self.old self.new }
     {
@@ -361,7 +367,7 @@ impl<'env, 'source, E: Extension> State<'env, 'source, E> {
         ensures does { let says = user_answers E.Callable.answer E.Method.answer E.Formatter.answer E.Join.answer in
             DoesThere says (entry_plan (around_in says self.old) entry (world_in self.old)) self.old self.new result }
         ensures frames { (world_in self.new).frames ≡ (world_in self.old).frames }
-        ensures places { KeepsBodies (world_in self.old).blocks (world_in self.new).blocks }
+        ensures keeps { KeepsWorld (world_in self.old) (world_in self.new) }
         ensures spares { IfErr result SparesSink }
         ensures rest { KeepsState self.old self.new }
     {
@@ -482,12 +488,11 @@ impl<'env, 'source, E: Extension> State<'env, 'source, E> {
         ensures world { let ran = block_in (user_answers E.Callable.answer E.Method.answer E.Formatter.answer E.Join.answer) self.old block.now in
             (n : ℕ) → IsFinished (ran n).end → EndsIn (fuel_left_in self.old) result (ran n) (world_in self.new) }
 
-        // Whatever its end, the frames are as before, and the blocks run the bodies that they ran, with others behind them at most.
+        // Whatever its end, the frames are as before, and so is what every run keeps: the state's number, what the environment gives, the
+        // block that runs, the names of what was loaded, with others before them at most, and the bodies that blocks run, with others behind
+        // them at most.
         ensures frames { (world_in self.new).frames ≡ (world_in self.old).frames }
-        ensures places { KeepsBodies (world_in self.old).blocks (world_in self.new).blocks }
-
-        // The names of what was loaded before are kept, with others before them at most.
-        ensures loaded { KeepsLoaded (world_in self.old) (world_in self.new) }
+        ensures keeps { KeepsWorld (world_in self.old) (world_in self.new) }
 
         // What else was open is so again.
         ensures put_back { PutsBack (world_in self.old) (world_in self.new) }
@@ -525,12 +530,11 @@ impl<'env, 'source, E: Extension> State<'env, 'source, E> {
             S.failures sink.new ≡ S.failures sink.old →
             (n : ℕ) → IsFinished (ran n).end → EndsIn (fuel_left_in self.old) result (ran n) (world_in self.new) }
 
-        // Whatever its end, the frames are as before, and the blocks run the bodies that they ran, with others behind them at most.
+        // Whatever its end, the frames are as before, and so is what every run keeps: the state's number, what the environment gives, the
+        // block that runs, the names of what was loaded, with others before them at most, and the bodies that blocks run, with others behind
+        // them at most.
         ensures frames { (world_in self.new).frames ≡ (world_in self.old).frames }
-        ensures places { KeepsBodies (world_in self.old).blocks (world_in self.new).blocks }
-
-        // The names of what was loaded before are kept, with others before them at most.
-        ensures loaded { KeepsLoaded (world_in self.old) (world_in self.new) }
+        ensures keeps { KeepsWorld (world_in self.old) (world_in self.new) }
 
         // What else was open is so again.
         ensures put_back { PutsBack (world_in self.old) (world_in self.new) }

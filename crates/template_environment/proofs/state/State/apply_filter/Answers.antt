@@ -3,13 +3,14 @@ use Rattle.std.proofs.Common.{◌∙◌, Ok, Err, refl}
 use Rattle.template_machine_calls.specs.Hosted.{around_under}
 use Rattle.template_machine_meaning.specs.Calls.{call_plan}
 use Rattle.template_machine_meaning.specs.Functions.{filter_named, invokes}
-use Rattle.template_machine_meaning.proofs.Placed.{bodies_stay}
+use Rattle.template_machine_meaning.proofs.RunsKept.{world_stays}
 use Rattle.template_process.specs.Process.{value}
 use Rattle.template_values_model.specs.Val.{Val}
 use Rattle.template_environment.specs.Extras.{user_answers}
 use Rattle.template_environment.specs.Reading.{callables_of}
 use Rattle.template_environment.specs.States.{around_in, fuel_left_in}
-use Rattle.template_environment.proofs.Told.{around_there, failed_frames, failed_left, failed_places, failed_rest, failing_in, failing_left, failing_told, frames_behind, mark_back, mark_put_back, meant, on_err, places_behind, planned_there, reached_there, remains_there, rest_from, stopped_in, stopped_remains, stopped_told, temps_frames, temps_places, temps_put_back, told_there, want_left, want_told, want_world, world_there}
+use Rattle.template_machine_calls.proofs.Temps.{temps_keep}
+use Rattle.template_environment.proofs.Told.{around_there, failed_frames, failed_keeps, failed_left, failed_rest, failing_in, failing_left, failing_told, frames_behind, keeps_behind, mark_back, mark_put_back, meant, on_err, planned_there, reached_there, remains_there, rest_from, stopped_in, stopped_remains, stopped_told, temps_frames, temps_put_back, told_there, want_left, want_told, want_world, world_there}
 use Rattle.template_environment.proofs.state.State.apply_filter.Goals as goal
 
 -- no memory for the mark
@@ -39,8 +40,8 @@ returns-in_err-mark-clause-world g c = λ n finished.
 pub returns-in_err-mark-clause-put_back : goal.returns-in_err-mark-clause-put_back
 returns-in_err-mark-clause-put_back g c = on_err _ _ (temps_put_back c.args.self.now.machine c.args.self.now.machine refl)
 
-pub returns-in_err-mark-clause-places : goal.returns-in_err-mark-clause-places
-returns-in_err-mark-clause-places g c = bodies_stay _
+pub returns-in_err-mark-clause-keeps : goal.returns-in_err-mark-clause-keeps
+returns-in_err-mark-clause-keeps g c = world_stays _
 
 -- a call that is refused
 pub returns-in-Err-clause-told : goal.returns-in-Err-clause-told
@@ -82,8 +83,8 @@ returns-in-Err-clause-put_back g c = temps_put_back c.args.self.now.machine c.ca
 pub returns-in-Err-clause-frames : goal.returns-in-Err-clause-frames
 returns-in-Err-clause-frames g c = temps_frames c.args.self.now.machine c.call_filter.new.state c.in-Err.ensures.kept
 
-pub returns-in-Err-clause-places : goal.returns-in-Err-clause-places
-returns-in-Err-clause-places g c = temps_places c.args.self.now.machine c.call_filter.new.state c.in-Err.ensures.kept
+pub returns-in-Err-clause-keeps : goal.returns-in-Err-clause-keeps
+returns-in-Err-clause-keeps g c = temps_keep c.args.self.now.machine c.call_filter.new.state c.in-Err.ensures.kept
 
 -- one that fails
 pub returns-in-Err-come_to-clause-told : goal.returns-in-Err-come_to-clause-told
@@ -139,10 +140,11 @@ returns-in-Err-come_to-clause-frames g c =
     failed_frames c.args.self.now.machine c.come_to.new.self.machine c.failed.new.self.machine c.in_ok-mark.mark c.in_ok-mark.ensures.marked c.failed.ensures.put_back
     (frames_behind c.in-Ok.reached c.args.self.now.machine c.call_filter.new.state c.come_to.new.self.machine c.in-Ok.ensures.kept c.in-Err-come_to.ensures.frames)
 
-pub returns-in-Err-come_to-clause-places : goal.returns-in-Err-come_to-clause-places
-returns-in-Err-come_to-clause-places g c =
-    failed_places c.args.self.now.machine c.come_to.new.self.machine c.failed.new.self.machine c.in_ok-mark.mark c.failed.ensures.put_back
-    (places_behind c.in-Ok.reached c.args.self.now.machine c.call_filter.new.state c.come_to.new.self.machine c.in-Ok.ensures.kept c.in-Err-come_to.ensures.places)
+pub returns-in-Err-come_to-clause-keeps : goal.returns-in-Err-come_to-clause-keeps
+returns-in-Err-come_to-clause-keeps g c =
+    failed_keeps c.args.self.now.machine c.come_to.new.self.machine c.failed.new.self.machine c.in_ok-mark.mark c.in_ok-mark.ensures.marked c.failed.ensures.put_back
+    (frames_behind c.in-Ok.reached c.args.self.now.machine c.call_filter.new.state c.come_to.new.self.machine c.in-Ok.ensures.kept c.in-Err-come_to.ensures.frames)
+    (keeps_behind c.in-Ok.reached c.args.self.now.machine c.call_filter.new.state c.come_to.new.self.machine c.in-Ok.ensures.kept c.in-Err-come_to.ensures.keeps)
 
 -- its value
 pub returns-in-Ok-come_to-clause-told : goal.returns-in-Ok-come_to-clause-told
@@ -187,8 +189,8 @@ returns-in-Ok-come_to-clause-world g c = λ n finished.
 pub returns-in-Ok-come_to-clause-frames : goal.returns-in-Ok-come_to-clause-frames
 returns-in-Ok-come_to-clause-frames g c = frames_behind c.in-Ok.reached c.args.self.now.machine c.call_filter.new.state c.come_to.new.self.machine c.in-Ok.ensures.kept c.in-Ok-come_to.ensures.frames
 
-pub returns-in-Ok-come_to-clause-places : goal.returns-in-Ok-come_to-clause-places
-returns-in-Ok-come_to-clause-places g c = places_behind c.in-Ok.reached c.args.self.now.machine c.call_filter.new.state c.come_to.new.self.machine c.in-Ok.ensures.kept c.in-Ok-come_to.ensures.places
+pub returns-in-Ok-come_to-clause-keeps : goal.returns-in-Ok-come_to-clause-keeps
+returns-in-Ok-come_to-clause-keeps g c = keeps_behind c.in-Ok.reached c.args.self.now.machine c.call_filter.new.state c.come_to.new.self.machine c.in-Ok.ensures.kept c.in-Ok-come_to.ensures.keeps
 
 -- every call ends
 pub returns-in_err-mark-clause-finished : goal.returns-in_err-mark-clause-finished

@@ -10,12 +10,13 @@ use Rattle.template_machine_meaning.specs.Plans.{replies, with_turning}
 use Rattle.template_machine_meaning.specs.Replies.{told}
 use Rattle.template_machine_meaning.specs.Turnings.{to_text}
 use Rattle.template_machine_meaning.specs.World.{keeps}
-use Rattle.template_machine_meaning.proofs.Placed.{bodies_stay}
+use Rattle.template_machine_meaning.proofs.RunsKept.{world_stays}
 use Rattle.template_process.specs.Process.{fails}
 use Rattle.template_environment.specs.Extras.{user_answers}
 use Rattle.template_environment.specs.Reading.{callables_of}
 use Rattle.template_environment.specs.States.{around_in, found_in, fuel_left_in, worded_in}
-use Rattle.template_environment.proofs.Told.{around_there, failed_frames, failed_left, failed_places, failed_rest, failing_in, failing_left, failing_told, found_there, frames_behind, mark_back, mark_put_back, meant, on_err, places_behind, printed_there, reached_there, remains_there, rest_from, same_kinds, stopped_in, stopped_remains, stopped_told, temps_frames, temps_places, temps_put_back, text_failed, told_there, turned_spares, unprinted_there, want_left, want_told, want_world, worded_told, world_there}
+use Rattle.template_machine_calls.proofs.Temps.{temps_keep}
+use Rattle.template_environment.proofs.Told.{around_there, failed_frames, failed_keeps, failed_left, failed_rest, failing_in, failing_left, failing_told, found_there, frames_behind, keeps_behind, mark_back, mark_put_back, meant, on_err, printed_there, reached_there, remains_there, rest_from, same_kinds, stopped_in, stopped_remains, stopped_told, temps_frames, temps_put_back, text_failed, told_there, turned_spares, unprinted_there, want_left, want_told, want_world, worded_told, world_there}
 use Rattle.template_environment.proofs.state.State.call_macro.Goals as goal
 
 -- no memory for the arguments
@@ -47,8 +48,8 @@ returns-in_err-given-clause-world g c = λ n finished.
 pub returns-in_err-given-clause-put_back : goal.returns-in_err-given-clause-put_back
 returns-in_err-given-clause-put_back g c = on_err _ _ (temps_put_back c.args.self.now.machine c.args.self.now.machine refl)
 
-pub returns-in_err-given-clause-places : goal.returns-in_err-given-clause-places
-returns-in_err-given-clause-places g c = bodies_stay _
+pub returns-in_err-given-clause-keeps : goal.returns-in_err-given-clause-keeps
+returns-in_err-given-clause-keeps g c = world_stays _
 
 -- no memory for the mark
 pub returns-in_err-mark-clause-told : goal.returns-in_err-mark-clause-told
@@ -79,8 +80,8 @@ returns-in_err-mark-clause-world g c = λ n finished.
 pub returns-in_err-mark-clause-put_back : goal.returns-in_err-mark-clause-put_back
 returns-in_err-mark-clause-put_back g c = on_err _ _ (temps_put_back c.args.self.now.machine c.args.self.now.machine refl)
 
-pub returns-in_err-mark-clause-places : goal.returns-in_err-mark-clause-places
-returns-in_err-mark-clause-places g c = bodies_stay _
+pub returns-in_err-mark-clause-keeps : goal.returns-in_err-mark-clause-keeps
+returns-in_err-mark-clause-keeps g c = world_stays _
 
 -- a call that is refused
 pub returns-in-Err-clause-told : goal.returns-in-Err-clause-told
@@ -128,8 +129,8 @@ returns-in-Err-clause-put_back g c = temps_put_back c.args.self.now.machine c.ca
 pub returns-in-Err-clause-frames : goal.returns-in-Err-clause-frames
 returns-in-Err-clause-frames g c = temps_frames c.args.self.now.machine c.call_found.new.state c.in-Err.ensures.kept
 
-pub returns-in-Err-clause-places : goal.returns-in-Err-clause-places
-returns-in-Err-clause-places g c = temps_places c.args.self.now.machine c.call_found.new.state c.in-Err.ensures.kept
+pub returns-in-Err-clause-keeps : goal.returns-in-Err-clause-keeps
+returns-in-Err-clause-keeps g c = temps_keep c.args.self.now.machine c.call_found.new.state c.in-Err.ensures.kept
 
 -- one that fails
 pub returns-in-Err-come_to-clause-told : goal.returns-in-Err-come_to-clause-told
@@ -191,10 +192,11 @@ returns-in-Err-come_to-clause-frames g c =
     failed_frames c.args.self.now.machine c.come_to.new.self.machine c.failed.new.self.machine c.in_ok-mark.mark c.in_ok-mark.ensures.marked c.failed.ensures.put_back
     (frames_behind c.in-Ok.reached c.args.self.now.machine c.call_found.new.state c.come_to.new.self.machine c.in-Ok.ensures.kept c.in-Err-come_to.ensures.frames)
 
-pub returns-in-Err-come_to-clause-places : goal.returns-in-Err-come_to-clause-places
-returns-in-Err-come_to-clause-places g c =
-    failed_places c.args.self.now.machine c.come_to.new.self.machine c.failed.new.self.machine c.in_ok-mark.mark c.failed.ensures.put_back
-    (places_behind c.in-Ok.reached c.args.self.now.machine c.call_found.new.state c.come_to.new.self.machine c.in-Ok.ensures.kept c.in-Err-come_to.ensures.places)
+pub returns-in-Err-come_to-clause-keeps : goal.returns-in-Err-come_to-clause-keeps
+returns-in-Err-come_to-clause-keeps g c =
+    failed_keeps c.args.self.now.machine c.come_to.new.self.machine c.failed.new.self.machine c.in_ok-mark.mark c.in_ok-mark.ensures.marked c.failed.ensures.put_back
+    (frames_behind c.in-Ok.reached c.args.self.now.machine c.call_found.new.state c.come_to.new.self.machine c.in-Ok.ensures.kept c.in-Err-come_to.ensures.frames)
+    (keeps_behind c.in-Ok.reached c.args.self.now.machine c.call_found.new.state c.come_to.new.self.machine c.in-Ok.ensures.kept c.in-Err-come_to.ensures.keeps)
 
 -- what it comes to is printed
 pub returns-in-Err-print_to-clause-told : goal.returns-in-Err-print_to-clause-told
@@ -318,16 +320,17 @@ returns-in-Err-print_to-clause-frames g c =
     failed_frames c.args.self.now.machine c.come_to.new.self.machine c.failed-in-Err-print_to.new.self.machine c.in_ok-mark.mark c.in_ok-mark.ensures.marked c.failed-in-Err-print_to.ensures.put_back
     (frames_behind c.in-Ok.reached c.args.self.now.machine c.call_found.new.state c.come_to.new.self.machine c.in-Ok.ensures.kept c.in-Ok-come_to.ensures.frames)
 
-pub returns-in-Err-print_to-clause-places : goal.returns-in-Err-print_to-clause-places
-returns-in-Err-print_to-clause-places g c =
-    failed_places c.args.self.now.machine c.come_to.new.self.machine c.failed-in-Err-print_to.new.self.machine c.in_ok-mark.mark c.failed-in-Err-print_to.ensures.put_back
-    (places_behind c.in-Ok.reached c.args.self.now.machine c.call_found.new.state c.come_to.new.self.machine c.in-Ok.ensures.kept c.in-Ok-come_to.ensures.places)
+pub returns-in-Err-print_to-clause-keeps : goal.returns-in-Err-print_to-clause-keeps
+returns-in-Err-print_to-clause-keeps g c =
+    failed_keeps c.args.self.now.machine c.come_to.new.self.machine c.failed-in-Err-print_to.new.self.machine c.in_ok-mark.mark c.in_ok-mark.ensures.marked c.failed-in-Err-print_to.ensures.put_back
+    (frames_behind c.in-Ok.reached c.args.self.now.machine c.call_found.new.state c.come_to.new.self.machine c.in-Ok.ensures.kept c.in-Ok-come_to.ensures.frames)
+    (keeps_behind c.in-Ok.reached c.args.self.now.machine c.call_found.new.state c.come_to.new.self.machine c.in-Ok.ensures.kept c.in-Ok-come_to.ensures.keeps)
 
 pub returns-in-Ok-print_to-clause-frames : goal.returns-in-Ok-print_to-clause-frames
 returns-in-Ok-print_to-clause-frames g c = frames_behind c.in-Ok.reached c.args.self.now.machine c.call_found.new.state c.come_to.new.self.machine c.in-Ok.ensures.kept c.in-Ok-come_to.ensures.frames
 
-pub returns-in-Ok-print_to-clause-places : goal.returns-in-Ok-print_to-clause-places
-returns-in-Ok-print_to-clause-places g c = places_behind c.in-Ok.reached c.args.self.now.machine c.call_found.new.state c.come_to.new.self.machine c.in-Ok.ensures.kept c.in-Ok-come_to.ensures.places
+pub returns-in-Ok-print_to-clause-keeps : goal.returns-in-Ok-print_to-clause-keeps
+returns-in-Ok-print_to-clause-keeps g c = keeps_behind c.in-Ok.reached c.args.self.now.machine c.call_found.new.state c.come_to.new.self.machine c.in-Ok.ensures.kept c.in-Ok-come_to.ensures.keeps
 
 -- every call ends
 pub returns-in_err-given-clause-finished : goal.returns-in_err-given-clause-finished

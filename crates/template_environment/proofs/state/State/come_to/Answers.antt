@@ -1,4 +1,4 @@
-use Rattle.template_machine_meaning.proofs.Placed.{bodies_stay}
+use Rattle.template_machine_meaning.proofs.RunsKept.{world_stays}
 use Rattle.template_machine_calls.specs.Left.{turnings_in}
 use Rattle.template_environment.specs.Extras.{user_answers}
 use Rattle.template_environment.proofs.Told.{reached_as, turned_spares, turned_there}
@@ -20,5 +20,5 @@ returns-in-Enters-clause-does g c =
     let says = (user_answers g.E.Callable.Callable.answer g.E.Method.UnknownMethod.answer g.E.Formatter.Formatter.answer g.E.Join.PathJoin.answer) in
     reached_as says self c.enter.new.self _ c.args.reached c.enter.result c.in-Enters.is c.enter.ensures.does
 
-pub returns-in-Value-clause-places : goal.returns-in-Value-clause-places
-returns-in-Value-clause-places g c = bodies_stay _
+pub returns-in-Value-clause-keeps : goal.returns-in-Value-clause-keeps
+returns-in-Value-clause-keeps g c = world_stays _

@@ -19,5 +19,5 @@ returns-clause-spares g c = sink_spares 0 c.run_entry-told.result c.run_entry-to
 pub returns-clause-rest : goal.returns-clause-rest
 returns-clause-rest g c = record { environment = refl; template = refl; id = refl; fuel = c.spend-self.ensures.set }
 
-pub returns-clause-places : goal.returns-clause-places
-returns-clause-places g c = c.run_entry-told.ensures.keeps.blocks
+pub returns-clause-keeps : goal.returns-clause-keeps
+returns-clause-keeps g c = c.run_entry-told.ensures.keeps

@@ -31,11 +31,8 @@ returns-in-Ok-clause-failures g c = told_answers c.run_block-done.result (Ok tt)
 pub returns-in-Ok-clause-rest : goal.returns-in-Ok-clause-rest
 returns-in-Ok-clause-rest g c = record { environment = refl; template = refl; id = refl; fuel = c.spend-self.ensures.set }
 
-pub returns-in-Ok-clause-places : goal.returns-in-Ok-clause-places
-returns-in-Ok-clause-places g c = c.run_block-done.ensures.keeps.blocks
-
-pub returns-in-Ok-clause-loaded : goal.returns-in-Ok-clause-loaded
-returns-in-Ok-clause-loaded g c = c.run_block-done.ensures.keeps.loaded
+pub returns-in-Ok-clause-keeps : goal.returns-in-Ok-clause-keeps
+returns-in-Ok-clause-keeps g c = c.run_block-done.ensures.keeps
 
 pub returns-in-Ok-clause-world : goal.returns-in-Ok-clause-world
 returns-in-Ok-clause-world g c =
@@ -83,11 +80,8 @@ returns-clause-failures g c = told_answers c.run_block-done.result (Err c.into_e
 pub returns-clause-rest : goal.returns-clause-rest
 returns-clause-rest g c = record { environment = refl; template = refl; id = refl; fuel = c.spend-self.ensures.set }
 
-pub returns-clause-places : goal.returns-clause-places
-returns-clause-places g c = c.run_block-done.ensures.keeps.blocks
-
-pub returns-clause-loaded : goal.returns-clause-loaded
-returns-clause-loaded g c = c.run_block-done.ensures.keeps.loaded
+pub returns-clause-keeps : goal.returns-clause-keeps
+returns-clause-keeps g c = c.run_block-done.ensures.keeps
 
 -- every block ends
 pub returns-in-Ok-clause-finished : goal.returns-in-Ok-clause-finished
