@@ -22,7 +22,7 @@ use Rattle.template_machine_meaning.specs.Blocks.{is_required, lacks_body, body_
 use Rattle.template_machine_meaning.specs.Surroundings.{Programs, runners, answer}
 use Rattle.template_machine_calls.specs.declared.rules.Rules.{Rules}
 use Rattle.template_machine_loop.specs.Found.{IsRefused, RefusesBody, blocks_plan}
-use Rattle.template_machine_loop.specs.Programs.{Standing, programs_under, template_at, stream_at, block_at, head_of, part_in}
+use Rattle.template_machine_loop.specs.Programs.{Standing, programs_under, template_at, stream_at, block_at, head_of, part_in, Roots}
 
 -- the block of a name has this name
 name_step : (name : List ℕ) (c b : BlockStream) (later : Option BlockStream) (x : Bool) → bytes_eq c.name name ≡ x → (later ≡ Some b → b.name ≡ name)
@@ -115,11 +115,11 @@ nothing_behind s w name runs none named n =
     ap (λ o. settled (runners s n) w (super_from s.around w named o)) runs
     ∙ ap (settled (runners s n) w) (none_behind s w named name (bodies_at name w.blocks) none)
 
-module _ (standing : List ℕ → Option Standing) (joins : Joins) (callables : Callables) (root : Option Standing) (rules : Rules) where
+module _ (standing : List ℕ → Option Standing) (joins : Joins) (callables : Callables) (roots : Roots) (rules : Rules) where
   abbrev s : Programs
-  s = programs_under standing joins callables root rules
+  s = programs_under standing joins callables roots rules
 
-  unkeyed : (home : Home) (name : List ℕ) → block_at standing root home name ≡ None → (n : ℕ) → runners s n (whole_of (block_of home name)) ≡ None
+  unkeyed : (home : Home) (name : List ℕ) → block_at standing roots home name ≡ None → (n : ℕ) → runners s n (whole_of (block_of home name)) ≡ None
   unkeyed home name none n =
       keyless s (whole_of (block_of home name))
       (λ m. ap (λ (o : Option BlockStream). option_and_then (part_in m whole) (option_map (λ (b : BlockStream). b.code) o)) none) n
@@ -134,16 +134,16 @@ module _ (standing : List ℕ → Option Standing) (joins : Joins) (callables : 
             ∙ ap (body_plan s.around w name (λ there. room_for s.around.limit levels w (begin name there)) b) runs
 
       -- its template has no such block
-      pub block_absent : block_at standing root home name ≡ None → RefusesBody s w name (InvalidOperation ∷ [])
+      pub block_absent : block_at standing roots home name ≡ None → RefusesBody s w name (InvalidOperation ∷ [])
       block_absent none levels begin keys sets n =
           ap (settled (runners s n) w) (planned_so levels begin)
           ∙ either (runners s n) w (refused w InvalidOperation) (lacks_body s.around name home b.homes) (replies (refused w InvalidOperation))
           (room_for s.around.limit levels w (begin name home)) refl
           (unroomy s n levels w (begin name home) (sets name home) (ap (runners s n) (keys name home) ∙ unkeyed home name none n))
 
-      module _ (block : BlockStream) (there : block_at standing root home name ≡ Some block) where
+      module _ (block : BlockStream) (there : block_at standing roots home name ≡ Some block) where
         lacks_is : lacks_body s.around name home b.homes ≡ (length b.homes == 1 && block.required)
-        lacks_is = ap (λ asked. length b.homes == 1 && asked) (required_at name (template_at standing root home) block there)
+        lacks_is = ap (λ asked. length b.homes == 1 && asked) (required_at name (template_at standing roots home) block there)
 
         -- another one has to be given
         pub block_required : (length b.homes == 1 && block.required) ≡ true → RefusesBody s w name (InvalidOperation ∷ [])
@@ -157,22 +157,22 @@ module _ (standing : List ℕ → Option Standing) (joins : Joins) (callables : 
         block_found has levels begin =
             planned_so levels begin
             ∙ ap (λ x. if x then replies (refused w InvalidOperation) else room_for s.around.limit levels w (begin name home)) (lacks_is ∙ has)
-            ∙ ap (λ n. room_for s.around.limit levels w (begin n home)) (sym (found_name name (template_at standing root home) block there))
+            ∙ ap (λ n. room_for s.around.limit levels w (begin n home)) (sym (found_name name (template_at standing roots home) block there))
 
     module _ (behind : slice_get b.homes (suc b.place) ≡ Some home) (in_it : w.block ≡ Some name) where
       super_so : (named : Bool) → super_plan s.around w named ≡ room_for s.around.limit 1 w (super_within w named name b.place home)
       super_so named =
           ap (super_from s.around w named) in_it ∙ ap (super_in s.around w named name) at ∙ ap (behind_plan s.around w named name b.place) behind
 
-      pub behind_absent : block_at standing root home name ≡ None → (named : Bool) → IsRefused s (super_plan s.around w named) w (InvalidOperation ∷ [])
+      pub behind_absent : block_at standing roots home name ≡ None → (named : Bool) → IsRefused s (super_plan s.around w named) w (InvalidOperation ∷ [])
       behind_absent none named n = ap (settled (runners s n) w) (super_so named) ∙ unroomy s n 1 w (super_within w named name b.place home) refl (unkeyed home name none n)
 
-      pub behind_found : (place : ℕ) (block : BlockStream) → b.place ≡ place → block_at standing root home name ≡ Some block → (named : Bool)
+      pub behind_found : (place : ℕ) (block : BlockStream) → b.place ≡ place → block_at standing roots home name ≡ Some block → (named : Bool)
           → super_plan s.around w named ≡ room_for s.around.limit 1 w (super_within w named block.name place home)
       behind_found place block same there named =
           super_so named ∙ ap (λ k. room_for s.around.limit 1 w (super_within w named name k home)) same
-          ∙ ap (λ n. room_for s.around.limit 1 w (super_within w named n place home)) (sym (found_name name (template_at standing root home) block there))
+          ∙ ap (λ n. room_for s.around.limit 1 w (super_within w named n place home)) (sym (found_name name (template_at standing roots home) block there))
 
   -- its code stands under its name
-  pub block_stands : (home : Home) (name : List ℕ) (block : BlockStream) → block_at standing root home name ≡ Some block → block_at standing root home block.name ≡ Some block
-  block_stands home name block there = ap (block_at standing root home) (found_name name (template_at standing root home) block there) ∙ there
+  pub block_stands : (home : Home) (name : List ℕ) (block : BlockStream) → block_at standing roots home name ≡ Some block → block_at standing roots home block.name ≡ Some block
+  block_stands home name block there = ap (block_at standing roots home) (found_name name (template_at standing roots home) block there) ∙ there

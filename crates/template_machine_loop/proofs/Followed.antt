@@ -17,21 +17,21 @@ use Rattle.template_machine_going.specs.declared.stop.Stop.{Stop}
 use Rattle.template_machine_going.specs.declared.stop.Stop.TheVariants.{Fault, Want}
 use Rattle.template_machine_steps.specs.Performs.{spot}
 use Rattle.template_machine_calls.specs.declared.rules.Rules.{Rules}
-use Rattle.template_machine_loop.specs.Programs.{Standing, programs_under, code_at}
+use Rattle.template_machine_loop.specs.Programs.{Standing, programs_under, code_at, Roots}
 use Rattle.template_machine_loop.specs.Runs.{EndsOver, KeyRuns}
 use Rattle.template_machine_loop.proofs.Streams.{stream_stops}
 use Rattle.template_machine_loop.proofs.Restarts.{Reaches, reaches_itself, breaks_there, lacks_behind, over_there, lost_there, restarts_there}
 use Rattle.template_machine_loop.proofs.Within.{runs_code, keyed, unkeyed}
 
-module _ (standing : List ℕ → Option Standing) (joins : Joins) (callables : Callables) (root : Option Standing) (rules : Rules) where
+module _ (standing : List ℕ → Option Standing) (joins : Joins) (callables : Callables) (roots : Roots) (rules : Rules) where
   abbrev s : Programs
-  s = programs_under standing joins callables root rules
+  s = programs_under standing joins callables roots rules
 
   -- how far the run of a key has come: to the start of this code, from this world on
   abbrev pub ComesTo : Key → World → Option ℕ → Option (List ℕ) → List Code → World → Option ℕ → Option (List ℕ) → Type 0
-  ComesTo key w left taken code v mid reached = (later : Stream) × (code_at standing root later ≡ Some code) × Reaches s key w left taken (whole_of later) v mid reached
+  ComesTo key w left taken code v mid reached = (later : Stream) × (code_at standing roots later ≡ Some code) × Reaches s key w left taken (whole_of later) v mid reached
 
-  pub comes_itself : (here : Stream) (code : List Code) (w : World) (left : Option ℕ) (taken : Option (List ℕ)) → code_at standing root here ≡ Some code
+  pub comes_itself : (here : Stream) (code : List Code) (w : World) (left : Option ℕ) (taken : Option (List ℕ)) → code_at standing roots here ≡ Some code
       → ComesTo (whole_of here) w left taken code w left taken
   comes_itself here code w left taken at = (here, at, reaches_itself s (whole_of here) w left taken)
 
@@ -55,18 +55,18 @@ module _ (standing : List ℕ → Option Standing) (joins : Joins) (callables : 
     key_stops {X} stop (Err told) after rest written h is =
         subst (λ t. KeyRuns {X = X} s key w left taken (Err t) after rest written) (sym is)
         (breaks_there s key w left taken (whole_of come.0) v mid reached come.2 stop after rest written
-        (stream_stops s (whole_of come.0) code (runs_code standing joins callables root rules come.0 code come.1) v mid rest reached written stop after h))
+        (stream_stops s (whole_of come.0) code (runs_code standing joins callables roots rules come.0 code come.1) v mid rest reached written stop after h))
 
     -- it comes to its end
     module _ (operands : List Operand) (after : World) (rest : Option ℕ) (written : Option (List ℕ)) (h : EndsOver (answer s) code (spot 0 [] v mid reached) operands after rest written) where
       pub key_ends : {X : Type 0} (x : X) → after.parent ≡ None → KeyRuns s key w left taken (Ok x) after rest written
       key_ends x alone =
-          over_there s key w left taken (whole_of come.0) v mid reached come.2 code (runs_code standing joins callables root rules come.0 code come.1) (values_in operands) after rest written
+          over_there s key w left taken (whole_of come.0) v mid reached come.2 code (runs_code standing joins callables roots rules come.0 code come.1) (values_in operands) after rest written
           h.items h.least h.bound h.is h.pays h.text alone
 
       pub key_lacks : (X : Type 0) (kinds : List ErrorKind) → NoMemory kinds → KeyRuns {X = X} s key w left taken (Err (Want kinds)) after rest written
       key_lacks X kinds why =
-          lacks_behind s key w left taken (whole_of come.0) v mid reached come.2 code (runs_code standing joins callables root rules come.0 code come.1) (values_in operands) after rest written
+          lacks_behind s key w left taken (whole_of come.0) v mid reached come.2 code (runs_code standing joins callables roots rules come.0 code come.1) (values_in operands) after rest written
           h.items h.least h.bound h.is h.pays h.text kinds why
 
       pub key_lost : (X : Type 0) (name : List ℕ) (kinds : List ErrorKind) (then : World) → after.parent ≡ Some name → standing name ≡ None → kinds ≡ TemplateNotFound ∷ [] → then ≡ restarted name after
@@ -74,18 +74,18 @@ module _ (standing : List ℕ → Option Standing) (joins : Joins) (callables : 
       key_lost X name kinds then extends none is same =
           subst (λ ks. KeyRuns {X = X} s key w left taken (Err (Fault ks)) then rest written) (sym is)
           (subst (λ (v : World). KeyRuns {X = X} s key w left taken (Err (Fault (TemplateNotFound ∷ []))) v rest written) (sym same)
-          (lost_there s key w left taken (whole_of come.0) v mid reached come.2 code (runs_code standing joins callables root rules come.0 code come.1) (values_in operands) after rest written
+          (lost_there s key w left taken (whole_of come.0) v mid reached come.2 code (runs_code standing joins callables roots rules come.0 code come.1) (values_in operands) after rest written
           h.items h.least h.bound h.is h.pays h.text name extends
-          (unkeyed standing joins callables root rules (own (keys.standing name)) (ap (option_map (λ (t : Standing). t.code)) none))))
+          (unkeyed standing joins callables roots rules (own (keys.standing name)) (ap (option_map (λ (t : Standing). t.code)) none))))
 
       pub key_restarts : (name : List ℕ) (t : Standing) (then : World) → after.parent ≡ Some name → standing name ≡ Some t → then ≡ restarted name after
           → ComesTo key w left taken t.code then rest written
       key_restarts name t then extends there same =
           let next : Stream = own (keys.standing name) in
-          let at : code_at standing root next ≡ Some t.code = ap (option_map (λ (u : Standing). u.code)) there in (
+          let at : code_at standing roots next ≡ Some t.code = ap (option_map (λ (u : Standing). u.code)) there in (
             next,
             at,
             subst (λ u. Reaches s key w left taken (whole_of next) u rest written) (sym same)
-                (restarts_there s key w left taken (whole_of come.0) v mid reached come.2 code (runs_code standing joins callables root rules come.0 code come.1) (values_in operands) after rest written
-                h.items h.least h.bound h.is h.pays h.text name extends (keyed standing joins callables root rules next t.code at)),
+                (restarts_there s key w left taken (whole_of come.0) v mid reached come.2 code (runs_code standing joins callables roots rules come.0 code come.1) (values_in operands) after rest written
+                h.items h.least h.bound h.is h.pays h.text name extends (keyed standing joins callables roots rules next t.code at)),
           )

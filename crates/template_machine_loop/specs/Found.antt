@@ -27,7 +27,7 @@ use Rattle.template_machine_loop.specs.declared.found.Found.{Found}
 use Rattle.template_machine_loop.specs.declared.macros.Begun as body
 use Rattle.template_machine_loop.specs.declared.rounds.Begun as rounds
 use Rattle.template_machine_loop.specs.Plans.{replies_of}
-use Rattle.template_machine_loop.specs.Programs.{Standing, block_at, code_at, head_of}
+use Rattle.template_machine_loop.specs.Programs.{Standing, block_at, code_at, head_of, Roots}
 
 -- under every bound the plan is refused with the kinds
 abbrev pub IsRefused : Programs → Plan → World → List ErrorKind → Type 0
@@ -37,8 +37,8 @@ abbrev pub name_in : Found → List ℕ
 name_in found = cow_str_bytes found.block.now.name
 
 -- the block stands at its home
-abbrev pub StandsThere : (List ℕ → Option Standing) → Option Standing → Found → Type 0
-StandsThere standing root found = block_at standing root (home_of found.home) (name_in found) ≡ Some (stream_in found.block.now)
+abbrev pub StandsThere : (List ℕ → Option Standing) → Roots → Found → Type 0
+StandsThere standing roots found = block_at standing roots (home_of found.home) (name_in found) ≡ Some (stream_in found.block.now)
 
 -- the plan of a call of a block, which runs so many levels deeper, and begins so
 abbrev pub blocks_plan : Programs → World → List ℕ → ℕ → (List ℕ → Home → Within) → Plan
@@ -46,10 +46,10 @@ blocks_plan s w name levels begin =
     bodies_plan s.around w name (λ home. room_for s.around.limit levels w (begin name home)) (bodies_at name w.blocks)
 
 -- whichever way a call of the block begins, it enters the body that was found, where there is room for it
-pub record FindsBody (s : Programs) (standing : List ℕ → Option Standing) (root : Option Standing) (w : World) (name : List ℕ) (found : Found) : Type 0 where
+pub record FindsBody (s : Programs) (standing : List ℕ → Option Standing) (roots : Roots) (w : World) (name : List ℕ) (found : Found) : Type 0 where
   pub planned : (levels : ℕ) (begin : List ℕ → Home → Within)
       → blocks_plan s w name levels begin ≡ room_for s.around.limit levels w (begin (name_in found) (home_of found.home))
-  pub stands : StandsThere standing root found
+  pub stands : StandsThere standing roots found
 
 -- it is refused with the kinds
 abbrev pub RefusesBody : Programs → World → List ℕ → List ErrorKind → Type 0
@@ -58,10 +58,10 @@ RefusesBody s w name kinds =
     → ((called : List ℕ) (home : Home) → as_set w (begin called home) ≡ w) → IsRefused s (blocks_plan s w name levels begin) w kinds
 
 -- `super()`, by its name or printed, enters the body that was found, where there is room for it
-pub record FindsBehind (s : Programs) (standing : List ℕ → Option Standing) (root : Option Standing) (w : World) (found : Found) : Type 0 where
+pub record FindsBehind (s : Programs) (standing : List ℕ → Option Standing) (roots : Roots) (w : World) (found : Found) : Type 0 where
   pub planned : (named : Bool)
       → super_plan s.around w named ≡ room_for s.around.limit 1 w (super_within w named (name_in found) found.place (home_of found.home))
-  pub stands : StandsThere standing root found
+  pub stands : StandsThere standing roots found
   pub fits : found.place + 1 < 2 ^ 64
 
 -- a template as it is found
@@ -78,7 +78,7 @@ FindsTemplateOrNone s standing w ignore v (Some t) = FindsTemplate s standing w 
 FindsTemplateOrNone s standing w ignore v None = include_plan (known_of w) s.around w ignore v ≡ replies (told w (tells done))
 
 -- the macro's body begins where it stands in its stream, over the arguments that were bound, where there is room for it
-pub record FindsMacro (s : Programs) (standing : List ℕ → Option Standing) (root : Option Standing) (w : World) (pending : ℕ) (p : Plan) (begun : body.Begun) : Type 0 where
+pub record FindsMacro (s : Programs) (standing : List ℕ → Option Standing) (roots : Roots) (w : World) (pending : ℕ) (p : Plan) (begun : body.Begun) : Type 0 where
   pub called : Macro
   pub over : Bound
   pub planned : p ≡ room_for s.around.limit (macro_levels + pending) w (macro_within w pending called over)
@@ -86,7 +86,7 @@ pub record FindsMacro (s : Programs) (standing : List ℕ → Option Standing) (
   pub stream : stream_of begun.stream ≡ called.stream
   pub closure : begun.closure ≡ called.closure
   pub locals : (bound_to begun.given).locals ≡ over.locals
-  pub there : code_at standing root called.stream ≡ Some (code_in begun.code.now)
+  pub there : code_at standing roots called.stream ≡ Some (code_in begun.code.now)
   pub place : MacroPlace
   pub stands : macro_at (code_in begun.code.now) called.number ≡ Some place
   pub begins : begun.place ≡ place.offset
@@ -94,9 +94,9 @@ pub record FindsMacro (s : Programs) (standing : List ℕ → Option Standing) (
   pub operands : operands_in begun.operands ≡ map single over.arguments
 
 -- the rounds of a loop that is called again begin where they stand in its stream, over the items of a value, where there is room for them
-pub record FindsRounds (s : Programs) (standing : List ℕ → Option Standing) (root : Option Standing) (w : World) (named : Bool) (l : Loop) (home : Rounds) (v : Val)
+pub record FindsRounds (s : Programs) (standing : List ℕ → Option Standing) (roots : Roots) (w : World) (named : Bool) (l : Loop) (home : Rounds) (v : Val)
     (begun : rounds.Begun) : Type 0 where
   pub planned : rounds_plan s.around w named v l ≡ room_for s.around.limit 1 w (rounds_within w named l home begun.items)
   pub room : has_room s.around.limit 1 w ≡ true
-  pub there : code_at standing root home.stream ≡ Some (code_in begun.code.now)
+  pub there : code_at standing roots home.stream ≡ Some (code_in begun.code.now)
   pub stands : rounds_at (code_in begun.code.now) home.number ≡ Some begun.place

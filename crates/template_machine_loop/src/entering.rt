@@ -1,10 +1,10 @@
 //! The instructions that may enter a run within, or that say which template is extended.
-ghost use Rattle.std.specs.Prelude.{◌≡◌, ◌==◌, length, option_map};
+ghost use Rattle.std.specs.Prelude.{◌≡◌, ◌==◌, length};
 ghost use Rattle.template_code.specs.View.{code_of};
 ghost use Rattle.template_machine_going.specs.Told.{CountsFailures};
 ghost use Rattle.template_machine_operands.specs.Operands.{operands_in};
 ghost use Rattle.template_machine_loop.specs.Entering.{Does};
-ghost use Rattle.template_machine_loop.specs.Programs.{programs_under, standing_of, task_of};
+ghost use Rattle.template_machine_loop.specs.Programs.{programs_under, roots_of, task_of};
 ghost use Rattle.template_machine_loop.specs.declared.tasks.Task.TheVariants.{Enters};
 
 use crate::blocks::{call_block, call_super, print_super};
@@ -42,8 +42,8 @@ pub(crate) fn enter<'env, T: Templates, S: Sink>(
     sink: &mut S,
 ) -> Result<(), Stop>
     requires { task_of (code_of instruction.now) ≡ Enters }
-    ensures does { let templates = program.entry.templates.now in let root = option_map standing_of program.entry.root in
-        Does (programs_under (T.standing templates) (T.joins templates) (T.callables templates) root program.entry.rules) (code_of instruction.now)
+    ensures does { let templates = program.entry.templates.now in let roots = roots_of program.entry in
+        Does (programs_under (T.standing templates) (T.joins templates) (T.callables templates) roots program.entry.rules) (code_of instruction.now)
         (operands_in operands.old) state.old left.old (S.taken sink.old) result (operands_in operands.new) state.new left.new (S.taken sink.new) }
     ensures failures { CountsFailures result (S.failures sink.old) (S.failures sink.new) }
 {

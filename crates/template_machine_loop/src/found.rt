@@ -1,5 +1,5 @@
 //! Which body of a block runs.
-ghost use Rattle.std.specs.Prelude.{◌≡◌, ◌==◌, ◌&&◌, ◌∷◌, [], Bool, IfErr, IfNone, IfOk, IfSome, option_map};
+ghost use Rattle.std.specs.Prelude.{◌≡◌, ◌==◌, ◌&&◌, ◌∷◌, [], Bool, IfErr, IfNone, IfOk, IfSome, option_and_then, option_map};
 ghost use Rattle.template_code.specs.Listing.{code_in};
 ghost use Rattle.template_code_blocks.specs.Streams.{stream_in};
 ghost use Rattle.template_values_errors.specs.declared.ErrorKind.TheVariants.{InvalidOperation};
@@ -7,7 +7,7 @@ ghost use Rattle.template_machine_blocks.specs.Streams.{home_of, stream_of};
 ghost use Rattle.template_machine_meaning.specs.Blocks.{super_plan};
 ghost use Rattle.template_machine_steps.specs.Performs.{SparesSink};
 ghost use Rattle.template_machine_loop.specs.Found.{FindsBehind, FindsBody, IsRefused, RefusesBody};
-ghost use Rattle.template_machine_loop.specs.Programs.{block_at, code_at, programs_under, standing_of, template_at};
+ghost use Rattle.template_machine_loop.specs.Programs.{block_at, code_at, kept_code, own_code, programs_under, roots_of, standing_of, template_at};
 
 use crate::templates::{Compiled, Program, Templates};
 use template_code::Instructions;
@@ -36,11 +36,11 @@ pub(crate) fn body_to_run<'env, T: Templates>(
     name: &str,
     state: &State<'env>,
 ) -> Result<Found<'env>, Error>
-    ensures found { let templates = program.entry.templates.now in let root = option_map standing_of program.entry.root in
-        let s = programs_under (T.standing templates) (T.joins templates) (T.callables templates) root program.entry.rules in
-        IfOk result (FindsBody s (T.standing templates) root state.now name.now) }
-    ensures refused { let templates = program.entry.templates.now in let root = option_map standing_of program.entry.root in
-        let s = programs_under (T.standing templates) (T.joins templates) (T.callables templates) root program.entry.rules in
+    ensures found { let templates = program.entry.templates.now in let roots = roots_of program.entry in
+        let s = programs_under (T.standing templates) (T.joins templates) (T.callables templates) roots program.entry.rules in
+        IfOk result (FindsBody s (T.standing templates) roots state.now name.now) }
+    ensures refused { let templates = program.entry.templates.now in let roots = roots_of program.entry in
+        let s = programs_under (T.standing templates) (T.joins templates) (T.callables templates) roots program.entry.rules in
         IfErr result (RefusesBody s state.now name.now) }
     ensures spares { IfErr result SparesSink }
 {
@@ -65,11 +65,11 @@ pub(crate) fn body_behind<'env, T: Templates>(
     program: Program<'env, '_, T>,
     state: &State<'env>,
 ) -> Option<Found<'env>>
-    ensures found { let templates = program.entry.templates.now in let root = option_map standing_of program.entry.root in
-        let s = programs_under (T.standing templates) (T.joins templates) (T.callables templates) root program.entry.rules in
-        IfSome result (FindsBehind s (T.standing templates) root state.now) }
-    ensures none { let templates = program.entry.templates.now in let root = option_map standing_of program.entry.root in
-        let s = programs_under (T.standing templates) (T.joins templates) (T.callables templates) root program.entry.rules in
+    ensures found { let templates = program.entry.templates.now in let roots = roots_of program.entry in
+        let s = programs_under (T.standing templates) (T.joins templates) (T.callables templates) roots program.entry.rules in
+        IfSome result (FindsBehind s (T.standing templates) roots state.now) }
+    ensures none { let templates = program.entry.templates.now in let roots = roots_of program.entry in
+        let s = programs_under (T.standing templates) (T.joins templates) (T.callables templates) roots program.entry.rules in
         IfNone result ((named : Bool) → IsRefused s (super_plan s.around state.now named) state.now (InvalidOperation ∷ [])) }
 {
     let Some(name) = state.block() else {
@@ -102,7 +102,7 @@ fn block_at<'env, T: Templates>(
     name: &str,
 ) -> Option<&'env CompiledBlock<'env>>
     ensures { option_map (λ b. stream_in b.now) result ≡
-        block_at (T.standing program.entry.templates.now) (option_map standing_of program.entry.root) (home_of home.entry) name.now }
+        block_at (T.standing program.entry.templates.now) (roots_of program.entry) (home_of home.entry) name.now }
 {
     match template_at(program, home) {
         Some(template) => block_among(template.blocks, name),
@@ -116,12 +116,44 @@ fn template_at<'env, T: Templates>(
     home: Home<'env>,
 ) -> Option<Compiled<'env>>
     ensures { option_map standing_of result ≡
-        template_at (T.standing program.entry.templates.now) (option_map standing_of program.entry.root) (home_of home.entry) }
+        template_at (T.standing program.entry.templates.now) (roots_of program.entry) (home_of home.entry) }
 {
     match home {
         Home::Rendered => program.root,
         Home::Standing(name) => program.templates.get(name),
         Home::Kept(_) => None,
+    }
+}
+
+// The code of a home's own stream.
+fn own_code<'env, T: Templates>(
+    program: Program<'env, '_, T>,
+    home: Home<'env>,
+) -> Option<&'env Instructions<'env>>
+    ensures { option_map (λ code. code_in code.now) result ≡
+        own_code (T.standing program.entry.templates.now) (roots_of program.entry) (home_of home.entry) }
+{
+    if let Home::Kept(number) = home {
+        return kept_code(program, number);
+    }
+    match template_at(program, home) {
+        Some(template) => Some(template.code),
+        None => None,
+    }
+}
+
+// The code of the stream that was handed in, if it has this number.
+fn kept_code<'env, T: Templates>(
+    program: Program<'env, '_, T>,
+    number: usize,
+) -> Option<&'env Instructions<'env>>
+    ensures { option_map (λ code. code_in code.now) result ≡ option_and_then (kept_code number) (roots_of program.entry).kept }
+{
+    let kept = program.kept?;
+    if kept.number == number {
+        Some(kept.code)
+    } else {
+        None
     }
 }
 
@@ -131,16 +163,13 @@ pub(crate) fn code_of_stream<'env, T: Templates>(
     stream: Stream<'env>,
 ) -> Option<&'env Instructions<'env>>
     ensures { option_map (λ code. code_in code.now) result ≡
-        code_at (T.standing program.entry.templates.now) (option_map standing_of program.entry.root) (stream_of stream.entry) }
+        code_at (T.standing program.entry.templates.now) (roots_of program.entry) (stream_of stream.entry) }
 {
     match stream.block {
         Some(name) => match block_at(program, stream.home, name) {
             Some(block) => Some(&block.instructions),
             None => None,
         },
-        None => match template_at(program, stream.home) {
-            Some(template) => Some(template.code),
-            None => None,
-        },
+        None => own_code(program, stream.home),
     }
 }

@@ -1,5 +1,5 @@
 //! Calls of macros.
-ghost use Rattle.std.specs.Prelude.{◌≡◌, ◌⊎◌, IfErr, IfOk, map, option_map, reverse};
+ghost use Rattle.std.specs.Prelude.{◌≡◌, ◌⊎◌, IfErr, IfOk, map, reverse};
 ghost use Rattle.template_values_errors.specs.Memory.{NoMemory};
 ghost use Rattle.template_code.specs.Code.{single};
 ghost use Rattle.template_process.specs.Process.{value};
@@ -11,7 +11,7 @@ ghost use Rattle.template_machine_operands.specs.Operands.{operands_in};
 ghost use Rattle.template_machine_steps.specs.Performs.{SparesSink};
 ghost use Rattle.template_machine_loop.specs.Found.{FindsMacro, IsRefused};
 ghost use Rattle.template_machine_loop.specs.Plans.{DoesPlan};
-ghost use Rattle.template_machine_loop.specs.Programs.{programs_under, standing_of};
+ghost use Rattle.template_machine_loop.specs.Programs.{programs_under, roots_of};
 
 use crate::blocks::has_room_beside;
 use crate::counting::macro_at;
@@ -64,8 +64,8 @@ pub(crate) fn call_macro<'env, T: Templates, S: Sink>(
     scratch: &mut String,
     sink: &mut S,
 ) -> Result<Value, Stop>
-    ensures plan { let templates = program.entry.templates.now in let root = option_map standing_of program.entry.root in
-        let s = programs_under (T.standing templates) (T.joins templates) (T.callables templates) root program.entry.rules in
+    ensures plan { let templates = program.entry.templates.now in let roots = roots_of program.entry in
+        let s = programs_under (T.standing templates) (T.joins templates) (T.callables templates) roots program.entry.rules in
         DoesPlan value s (macro_plan s.around.limit pending state.old args.items (macro_of state.old id number))
         state.old left.old (S.taken sink.old) result state.new left.new (S.taken sink.new) }
     ensures keeps { KeepsWorld state.old state.new }
@@ -108,12 +108,12 @@ fn begin<'env, T: Templates>(
     pending: usize,
     state: &State<'env>,
 ) -> Result<Begun<'env>, Error>
-    ensures begun { let templates = program.entry.templates.now in let root = option_map standing_of program.entry.root in
-        let s = programs_under (T.standing templates) (T.joins templates) (T.callables templates) root program.entry.rules in
+    ensures begun { let templates = program.entry.templates.now in let roots = roots_of program.entry in
+        let s = programs_under (T.standing templates) (T.joins templates) (T.callables templates) roots program.entry.rules in
         let planned = macro_plan s.around.limit pending state.now args.items (macro_of state.now id number) in
-        IfOk result (FindsMacro s (T.standing templates) root state.now pending planned) }
-    ensures refused { let templates = program.entry.templates.now in let root = option_map standing_of program.entry.root in
-        let s = programs_under (T.standing templates) (T.joins templates) (T.callables templates) root program.entry.rules in
+        IfOk result (FindsMacro s (T.standing templates) roots state.now pending planned) }
+    ensures refused { let templates = program.entry.templates.now in let roots = roots_of program.entry in
+        let s = programs_under (T.standing templates) (T.joins templates) (T.callables templates) roots program.entry.rules in
         let planned = macro_plan s.around.limit pending state.now args.items (macro_of state.now id number) in
         IfErr result (λ kinds. NoMemory kinds ⊎ IsRefused s planned state.now kinds) }
     ensures spares { IfErr result SparesSink }

@@ -1,5 +1,5 @@
 //! Rounds of loops that are called again.
-ghost use Rattle.std.specs.Prelude.{◌≡◌, ◌∷◌, [], Bool, IfErr, IfOk, None, Option, Some, is_some, option_map};
+ghost use Rattle.std.specs.Prelude.{◌≡◌, ◌∷◌, [], Bool, IfErr, IfOk, None, Option, Some, is_some};
 ghost use Rattle.template_values_errors.specs.declared.ErrorKind.TheVariants.{InvalidOperation};
 ghost use Rattle.template_process.specs.Process.{done, value};
 ghost use Rattle.template_machine_meaning.specs.Keeps.{KeepsWorld};
@@ -13,7 +13,7 @@ ghost use Rattle.template_machine_meaning.specs.World.{Loop, World};
 ghost use Rattle.template_machine_going.specs.Told.{CountsFailures, FaultsSo, SparesSink};
 ghost use Rattle.template_machine_loop.specs.Found.{FindsRounds, IsRefused};
 ghost use Rattle.template_machine_loop.specs.Plans.{DoesPlan};
-ghost use Rattle.template_machine_loop.specs.Programs.{programs_under, standing_of};
+ghost use Rattle.template_machine_loop.specs.Programs.{programs_under, roots_of};
 
 use crate::counting::rounds_at;
 use crate::found::code_of_stream;
@@ -63,8 +63,8 @@ pub(crate) fn print_rounds<'env, T: Templates, S: Sink>(
     scratch: &mut String,
     sink: &mut S,
 ) -> Result<(), Stop>
-    ensures plan { let templates = program.entry.templates.now in let root = option_map standing_of program.entry.root in
-        let s = programs_under (T.standing templates) (T.joins templates) (T.callables templates) root program.entry.rules in
+    ensures plan { let templates = program.entry.templates.now in let roots = roots_of program.entry in
+        let s = programs_under (T.standing templates) (T.joins templates) (T.callables templates) roots program.entry.rules in
         DoesPlan (λ u. done) s (recurse_plan s.around state.old over) state.old left.old (S.taken sink.old) result state.new left.new (S.taken sink.new) }
     ensures keeps { KeepsWorld state.old state.new }
     ensures failures { CountsFailures result (S.failures sink.old) (S.failures sink.new) }
@@ -106,8 +106,8 @@ pub(crate) fn call_rounds<'env, T: Templates, S: Sink>(
     scratch: &mut String,
     sink: &mut S,
 ) -> Result<Value, Stop>
-    ensures plan { let templates = program.entry.templates.now in let root = option_map standing_of program.entry.root in
-        let s = programs_under (T.standing templates) (T.joins templates) (T.callables templates) root program.entry.rules in
+    ensures plan { let templates = program.entry.templates.now in let roots = roots_of program.entry in
+        let s = programs_under (T.standing templates) (T.joins templates) (T.callables templates) roots program.entry.rules in
         DoesPlan value s (again_plan s.around state.old args.items (loop_of state.old id number))
         state.old left.old (S.taken sink.old) result state.new left.new (S.taken sink.new) }
     ensures keeps { KeepsWorld state.old state.new }
@@ -185,12 +185,12 @@ fn begin<'env, T: Templates>(
     over: Value,
     state: &State<'env>,
 ) -> Result<Begun<'env>, Stop>
-    ensures begun { let templates = program.entry.templates.now in let root = option_map standing_of program.entry.root in
-        let s = programs_under (T.standing templates) (T.joins templates) (T.callables templates) root program.entry.rules in
+    ensures begun { let templates = program.entry.templates.now in let roots = roots_of program.entry in
+        let s = programs_under (T.standing templates) (T.joins templates) (T.callables templates) roots program.entry.rules in
         IfOk result (λ begun. (named : Bool) (l : Loop) → l.rounds ≡ Some (rounds_in again.entry.rounds) →
-        FindsRounds s (T.standing templates) root state.now named l (rounds_in again.entry.rounds) over begun) }
-    ensures refused { let templates = program.entry.templates.now in let root = option_map standing_of program.entry.root in
-        let s = programs_under (T.standing templates) (T.joins templates) (T.callables templates) root program.entry.rules in
+        FindsRounds s (T.standing templates) roots state.now named l (rounds_in again.entry.rounds) over begun) }
+    ensures refused { let templates = program.entry.templates.now in let roots = roots_of program.entry in
+        let s = programs_under (T.standing templates) (T.joins templates) (T.callables templates) roots program.entry.rules in
         IfErr result (FaultsSo (λ kinds. (named : Bool) (l : Loop) → l.rounds ≡ Some (rounds_in again.entry.rounds) →
         IsRefused s (rounds_plan s.around state.now named over l) state.now kinds)) }
     ensures spares { IfErr result SparesSink }

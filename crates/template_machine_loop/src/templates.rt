@@ -25,6 +25,15 @@ pub struct Compiled<'env> {
     pub blocks: &'env [CompiledBlock<'env>],
 }
 
+/// A stream that was handed in.
+#[derive(Clone, Copy)]
+pub struct Kept<'env> {
+    /// Its number among such.
+    pub number: usize,
+    /// Its code.
+    pub code: &'env Instructions<'env>,
+}
+
 /// The templates that stand, by their names; which names are meant by those that stand in templates; and what a user's own
 /// answers where they call it.
 pub trait Templates: Callbacks {
@@ -50,12 +59,15 @@ pub trait Templates: Callbacks {
         ensures refused { IfErr result (FaultsSo (λ kinds. joins self.now name.now parent.now ≡ Err kinds)) };
 }
 
-/// What runs: the templates that stand, with what a user's own answers; the one that is rendered, if one is; and the rules.
+/// What runs: the templates that stand, with what a user's own answers; the one that is rendered, if one is; the stream that was
+/// handed in, if one was; and the rules.
 pub struct Program<'env, 'r, T> {
     /// The templates that stand.
     pub templates: &'env T,
     /// The template that is rendered.
     pub root: Option<Compiled<'env>>,
+    /// The stream that was handed in.
+    pub kept: Option<Kept<'env>>,
     /// What the run keeps to.
     pub rules: Rules<'r>,
 }

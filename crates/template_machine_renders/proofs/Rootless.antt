@@ -6,6 +6,7 @@ use Rattle.template_callables.specs.Joins.{Joins}
 use Rattle.template_process.specs.Drive.{breaks}
 use Rattle.template_process.specs.Process.{Process}
 use Rattle.template_process.specs.Trace.{Run, ended, run}
+use Rattle.template_code.specs.Code.{Code}
 use Rattle.template_machine_meaning.specs.World.{World}
 use Rattle.template_machine_meaning.specs.Keys.{Key}
 use Rattle.template_machine_meaning.specs.Plans.{ran, followed}
@@ -13,7 +14,7 @@ use Rattle.template_machine_meaning.specs.Surroundings.{Programs, respond, runne
 use Rattle.template_machine_meaning.specs.Meaning.{top}
 use Rattle.template_machine_going.specs.Strays.{Strays}
 use Rattle.template_machine_calls.specs.declared.rules.Rules.{Rules}
-use Rattle.template_machine_loop.specs.Programs.{programs_under, Standing, standing_of}
+use Rattle.template_machine_loop.specs.Programs.{programs_under, Roots, Standing, standing_of}
 use Rattle.template_machine_loop.specs.declared.templates.Compiled.{Compiled}
 
 none_runs : (s : Programs) (key : Key) → ((n : ℕ) → s.process n key ≡ None) → (n : ℕ) → runners s n key ≡ None
@@ -32,8 +33,12 @@ stray_there s key w none = record {
   lost = tt;
 }
 
-pub stray_rootless : (standing : List ℕ → Option Standing) (joins : Joins) (callables : Callables) (root : Option Compiled) (rules : Rules) (w : World) → root ≡ None
-    → Strays (λ n. ran (runners (programs_under standing joins callables (option_map standing_of root) rules) n top) w)
-stray_rootless standing joins callables root rules w none =
-    stray_there (programs_under standing joins callables (option_map standing_of root) rules) top w
-    (λ n. ap (λ (r : Option Compiled). (programs_under standing joins callables (option_map standing_of r) rules).process n top) none)
+-- the template that is rendered, and a stream that was handed in
+abbrev roots_in : Option Compiled → Option (ℕ × List Code) → Roots
+roots_in root kept = record { rendered = option_map standing_of root; kept = kept }
+
+pub stray_rootless : (standing : List ℕ → Option Standing) (joins : Joins) (callables : Callables) (root : Option Compiled) (kept : Option (ℕ × List Code)) (rules : Rules)
+    (w : World) → root ≡ None → Strays (λ n. ran (runners (programs_under standing joins callables (roots_in root kept) rules) n top) w)
+stray_rootless standing joins callables root kept rules w none =
+    stray_there (programs_under standing joins callables (roots_in root kept) rules) top w
+    (λ n. ap (λ (r : Option Compiled). (programs_under standing joins callables (roots_in r kept) rules).process n top) none)

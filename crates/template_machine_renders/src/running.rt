@@ -1,9 +1,9 @@
 //! The run of a template's code, and of an expression's.
-ghost use Rattle.std.specs.Prelude.{◌≤◌, length, Option, None, option_map};
+ghost use Rattle.std.specs.Prelude.{◌≤◌, length, Option, None};
 ghost use Rattle.template_code.specs.Listing.{code_in};
 ghost use Rattle.template_machine_going.specs.Told.{CountsFailures};
 ghost use Rattle.template_machine_meaning.specs.Meaning.{top};
-ghost use Rattle.template_machine_loop.specs.Programs.{programs_under, standing_of};
+ghost use Rattle.template_machine_loop.specs.Programs.{programs_under, roots_of};
 ghost use Rattle.template_machine_loop.specs.Runs.{Evaluates, KeyRuns};
 
 use std::alloc::Global;
@@ -34,7 +34,7 @@ pub fn run_template<'env, T: Templates, S: Sink>(
 ) -> Result<(), Stop>
     requires { state.old.floor ≤ length state.old.frames }
     ensures runs { KeyRuns (programs_under (T.standing program.entry.templates.now) (T.joins program.entry.templates.now)
-        (T.callables program.entry.templates.now) (option_map standing_of program.entry.root) program.entry.rules) top
+        (T.callables program.entry.templates.now) (roots_of program.entry) program.entry.rules) top
         state.old left.old (S.taken sink.old) result state.new left.new (S.taken sink.new) }
     ensures failures { CountsFailures result (S.failures sink.old) (S.failures sink.new) }
 {
@@ -62,7 +62,7 @@ pub fn run_expression<'env, T: Templates, S: Sink>(
 ) -> Result<Value, Stop>
     requires { state.old.floor ≤ length state.old.frames }
     ensures evaluates { Evaluates (programs_under (T.standing program.entry.templates.now) (T.joins program.entry.templates.now)
-        (T.callables program.entry.templates.now) (option_map standing_of program.entry.root) program.entry.rules) (code_in code.now)
+        (T.callables program.entry.templates.now) (roots_of program.entry) program.entry.rules) (code_in code.now)
         state.old left.old (S.taken sink.old) result state.new left.new (S.taken sink.new) }
     ensures failures { CountsFailures result (S.failures sink.old) (S.failures sink.new) }
 {

@@ -1,4 +1,4 @@
-use Rattle.std.proofs.Common.{◌≡◌, ◌+◌, ◌-◌, ◌*◌, length, Some, option_map}
+use Rattle.std.proofs.Common.{◌≡◌, ◌+◌, ◌-◌, ◌*◌, length, Some}
 use Rattle.template_code.specs.Listing.{code_in}
 use Rattle.template_machine_meaning.specs.Keeps.{KeepsWorld}
 use Rattle.template_machine_meaning.specs.Keys.{Stream, whole_of}
@@ -6,7 +6,7 @@ use Rattle.template_machine_meaning.specs.Surroundings.{answer}
 use Rattle.template_machine_going.specs.Goings.{Goes}
 use Rattle.template_machine_operands.specs.Operands.{operands_in}
 use Rattle.template_machine_steps.specs.Performs.{spot}
-use Rattle.template_machine_loop.specs.Programs.{code_at, programs_under, standing_of}
+use Rattle.template_machine_loop.specs.Programs.{code_at, programs_under, roots_of}
 use Rattle.template_machine_loop.proofs.Followed.{HasEnded}
 use Rattle.template_machine_loop.proofs.+running.Given as goal
 
@@ -71,16 +71,16 @@ decreases-includes::run_included g l = 8 * (l.program.rules.limit - (length l.st
 abbrev pub invariant-running::run_from-loop : goal.invariant-running::run_from-loop
 invariant-running::run_from-loop g l =
     let templates = l.program.templates.now in
-    let s = programs_under (g.T.Templates.standing templates) (g.T.Templates.joins templates) (g.T.Callbacks.callables templates) (option_map standing_of l.program.root) l.program.rules in
+    let s = programs_under (g.T.Templates.standing templates) (g.T.Templates.joins templates) (g.T.Callbacks.callables templates) (roots_of l.program) l.program.rules in
     Goes (answer s) (code_in l.code) (spot l.start (operands_in l.fn.operands) l.fn.state l.fn.left (g.S.Sink.taken l.fn.sink)) (spot l.place (operands_in l.operands) l.state l.left (g.S.Sink.taken l.sink))
     × (g.S.Sink.failures l.sink ≡ g.S.Sink.failures l.fn.sink)
 
 abbrev pub invariant-whole::run_whole-loop : goal.invariant-whole::run_whole-loop
 invariant-whole::run_whole-loop g l =
     let templates = l.program.templates.now in
-    let root = option_map standing_of l.program.root in
-    ((here : Stream) → code_at (g.T.Templates.standing templates) root here ≡ Some (code_in l.code)
-    → HasEnded (g.T.Templates.standing templates) (g.T.Templates.joins templates) (g.T.Callbacks.callables templates) root l.program.rules
+    let roots = roots_of l.program in
+    ((here : Stream) → code_at (g.T.Templates.standing templates) roots here ≡ Some (code_in l.code)
+    → HasEnded (g.T.Templates.standing templates) (g.T.Templates.joins templates) (g.T.Callbacks.callables templates) roots l.program.rules
     (whole_of here) l.fn.state l.fn.left (g.S.Sink.taken l.fn.sink) l.state l.left (g.S.Sink.taken l.sink))
     × KeepsWorld l.fn.state l.state
     × (g.S.Sink.failures l.sink ≡ g.S.Sink.failures l.fn.sink)

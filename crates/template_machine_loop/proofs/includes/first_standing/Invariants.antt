@@ -1,10 +1,10 @@
-use Rattle.std.proofs.Common.{◌≡◌, drop, option_map}
+use Rattle.std.proofs.Common.{◌≡◌, drop}
 use Rattle.template_machine_meaning.specs.Includes.{first_standing}
-use Rattle.template_machine_loop.specs.Programs.{programs_under, standing_of}
+use Rattle.template_machine_loop.specs.Programs.{programs_under, roots_of}
 use Rattle.template_machine_loop.proofs.includes.first_standing.Given as goal
 
 abbrev pub invariant-loop-place : goal.invariant-loop-place
 invariant-loop-place g l =
     let templates = l.program.templates.now in
-    let s = programs_under (g.T.Templates.standing templates) (g.T.Templates.joins templates) (g.T.Callbacks.callables templates) (option_map standing_of l.program.root) l.program.rules in
+    let s = programs_under (g.T.Templates.standing templates) (g.T.Templates.joins templates) (g.T.Callbacks.callables templates) (roots_of l.program) l.program.rules in
     first_standing s.around l.here l.choices ≡ first_standing s.around l.here (drop l.place l.choices)
