@@ -34,12 +34,12 @@ use Rattle.template_environment.proofs.Rendering.{ruled_programs}
 use Rattle.template_environment.proofs.Told.{leaves_no_more, stop_spares, stopped_leaves}
 
 module _ {E C M F J R : Type 0} (says : UserAnswers C M F J) (s : State E C M F J R) where
-  pub program_in : (there : Environment E C M F J R) (unit : Option units.Standing) (own : List ℕ) (limit : ℕ) (mode : UndefinedBehavior) → there ≡ environment_in s
-      → unit ≡ option_map unit_of (template_in s) → own ≡ own_name_in s → limit ≡ (registry_of (environment_in s)).recursion_limit
+  pub program_in : (there : Environment E C M F J R) (roots : units.Roots) (own : List ℕ) (limit : ℕ) (mode : UndefinedBehavior) → there ≡ environment_in s
+      → roots ≡ units.alone (option_map unit_of (template_in s)) → own ≡ own_name_in s → limit ≡ (registry_of (environment_in s)).recursion_limit
       → mode ≡ (registry_of (environment_in s)).undefined_behavior
-      → programs_of (units_of (registry_of there)) (joins_by says.joins (extras_of there).join) (callables_of says there) unit own limit mode ≡ codes_in says s
-  program_in there unit own limit mode t u n l m =
-      ruled_programs says there (environment_in s) (template_in s) unit own (own_name_in s) limit mode t u n l m
+      → programs_of (units_of (registry_of there)) (joins_by says.joins (extras_of there).join) (callables_of says there) roots own limit mode ≡ codes_in says s
+  program_in there roots own limit mode t u n l m =
+      ruled_programs says there (environment_in s) (template_in s) roots own (own_name_in s) limit mode t u n l m
 
 -- a fuel leaves the world of a run as it is
 after_cut : (b : Bool) (r q : Run World) → q.after ≡ r.after → (if b then r else q).after ≡ r.after

@@ -78,31 +78,31 @@ same_head (Some c) = (λ i. Some (record { escape = c.escape; blocks = same_head
 
 module _ (k : Brought) (e : Registry) (root : Option Compiled) where
   home_process : (n : ℕ) (part : Part) (home : Home)
-      → option_and_then (units.part_in n part) (option_map (λ (u : units.Standing). u.code) (units.template_at (units_of e) (option_map unit_of root) home))
+      → option_and_then (units.part_in n part) (units.own_code (units_of e) (units.alone (option_map unit_of root)) home)
       ≡ option_and_then (part_coded n part) (option_map (λ (t : Standing). t.tree) (template_at (setting_of k e) (option_map standing_of root) home))
   home_process n part keys.rendered = same_process n part root
   home_process n part (keys.standing name) = same_process n part (compiled_at e.templates name)
   home_process n part (keys.kept number) = refl
 
   block_process : (n : ℕ) (part : Part) (name : List ℕ) (home : Home)
-      → option_and_then (units.part_in n part) (option_map (λ (s : BlockStream). s.code) (units.block_at (units_of e) (option_map unit_of root) home name))
+      → option_and_then (units.part_in n part) (option_map (λ (s : BlockStream). s.code) (units.block_at (units_of e) (units.alone (option_map unit_of root)) home name))
       ≡ option_and_then (part_coded n part) (option_and_then (meanings.body_of name) (template_at (setting_of k e) (option_map standing_of root) home))
   block_process n part name keys.rendered = same_block n part name root
   block_process n part name (keys.standing other) = same_block n part name (compiled_at e.templates other)
   block_process n part name (keys.kept number) = refl
 
-  part_process : (n : ℕ) (part : Part) (stream : Stream) → option_and_then (units.part_in n part) (units.code_at (units_of e) (option_map unit_of root) stream)
+  part_process : (n : ℕ) (part : Part) (stream : Stream) → option_and_then (units.part_in n part) (units.code_at (units_of e) (units.alone (option_map unit_of root)) stream)
       ≡ option_and_then (part_coded n part) (tree_of (setting_of k e) (option_map standing_of root) stream)
   part_process n part (own home) = home_process n part home
   part_process n part (block_of home name) = block_process n part name home
 
-  home_head : (home : Home) → option_map units.head_of (units.template_at (units_of e) (option_map unit_of root) home) ≡ option_map head_of (template_at (setting_of k e) (option_map standing_of root) home)
+  home_head : (home : Home) → option_map units.head_of (units.template_at (units_of e) (units.alone (option_map unit_of root)) home) ≡ option_map head_of (template_at (setting_of k e) (option_map standing_of root) home)
   home_head keys.rendered = same_head root
   home_head (keys.standing name) = same_head (compiled_at e.templates name)
   home_head (keys.kept number) = refl
 
   -- the programs that a machine runs are the codes of the setting
-  pub same_programs : (name : List ℕ) → programs_of (units_of e) k.joins k.callables (option_map unit_of root) name e.recursion_limit e.undefined_behavior
+  pub same_programs : (name : List ℕ) → programs_of (units_of e) k.joins k.callables (units.alone (option_map unit_of root)) name e.recursion_limit e.undefined_behavior
       ≡ named_so name (codes_of (setting_of k e) (option_map standing_of root))
   same_programs name = λ i. record {
     process = λ n key. part_process n key.part key.stream i;
@@ -118,12 +118,12 @@ module _ (k : Brought) (e : Registry) (root : Option Compiled) where
 
 module _ {E C M F J R : Type 0} where
   -- as an environment and its rules have them
-  pub ruled_programs : (says : UserAnswers C M F J) (there e : Environment E C M F J R) (root : Option Compiled) (unit : Option units.Standing) (called name : List ℕ) (limit : ℕ)
-      (mode : UndefinedBehavior) → there ≡ e → unit ≡ option_map unit_of root → called ≡ name → limit ≡ (registry_of e).recursion_limit
+  pub ruled_programs : (says : UserAnswers C M F J) (there e : Environment E C M F J R) (root : Option Compiled) (roots : units.Roots) (called name : List ℕ) (limit : ℕ)
+      (mode : UndefinedBehavior) → there ≡ e → roots ≡ units.alone (option_map unit_of root) → called ≡ name → limit ≡ (registry_of e).recursion_limit
       → mode ≡ (registry_of e).undefined_behavior
-      → programs_of (units_of (registry_of there)) (joins_by says.joins (extras_of there).join) (callables_of says there) unit called limit mode
+      → programs_of (units_of (registry_of there)) (joins_by says.joins (extras_of there).join) (callables_of says there) roots called limit mode
       ≡ named_so name (codes_of (setting_in says e) (option_map standing_of root))
-  ruled_programs says there e root unit called name limit mode t u n l m =
+  ruled_programs says there e root roots called name limit mode t u n l m =
       (λ i. programs_of (units_of (registry_of (t i))) (joins_by says.joins (extras_of (t i)).join) (callables_of says (t i)) (u i) (n i) (l i) (m i))
       ∙ same_programs (record { callables = callables_of says e; joins = joins_by says.joins (extras_of e).join }) (registry_of e) root name
 
@@ -134,13 +134,13 @@ pub record IsRunOf (k : Brought) (e : Registry) (id : ℕ) (c : Compiled) (conte
 
 module _ {E C M F J R : Type 0} where
   -- as they are of an environment
-  pub run_of : (says : UserAnswers C M F J) (there e : Environment E C M F J R) (c : Compiled) (unit : Option units.Standing) (called : List ℕ) (limit : ℕ) (mode : UndefinedBehavior)
-      (id : ℕ) (context : Val) (w : World) → there ≡ e → unit ≡ Some (unit_of c) → called ≡ c.name → limit ≡ (registry_of e).recursion_limit
+  pub run_of : (says : UserAnswers C M F J) (there e : Environment E C M F J R) (c : Compiled) (roots : units.Roots) (called : List ℕ) (limit : ℕ) (mode : UndefinedBehavior)
+      (id : ℕ) (context : Val) (w : World) → there ≡ e → roots ≡ units.alone (Some (unit_of c)) → called ≡ c.name → limit ≡ (registry_of e).recursion_limit
       → mode ≡ (registry_of e).undefined_behavior → w ≡ first_world id (registry_of e).globals (head_of (standing_of c)) context
       → IsRunOf (brought_of says e) (registry_of e) id c context
-      (programs_of (units_of (registry_of there)) (joins_by says.joins (extras_of there).join) (callables_of says there) unit called limit mode) w
-  run_of says there e c unit called limit mode id context w t u n l m start = record {
-    programs = ruled_programs says there e (Some c) unit called c.name limit mode t u n l m;
+      (programs_of (units_of (registry_of there)) (joins_by says.joins (extras_of there).join) (callables_of says there) roots called limit mode) w
+  run_of says there e c roots called limit mode id context w t u n l m start = record {
+    programs = ruled_programs says there e (Some c) roots called c.name limit mode t u n l m;
     start = start;
   }
 

@@ -161,6 +161,7 @@ fn evaluate<'env, 'source, E: Extension>(
     let program = Program {
         templates: environment,
         root: None,
+        kept: None,
         rules: registry.rules(EXPRESSION),
     };
     match run_expression(

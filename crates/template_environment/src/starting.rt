@@ -3,7 +3,7 @@ ghost use Rattle.std.specs.Prelude.{◌≡◌, IfOk, IfErr, option_copied, optio
 ghost use Rattle.template_values_errors.specs.Memory.{NoMemory};
 ghost use Rattle.template_machine_meaning.specs.Meaning.{head_of, no_head};
 ghost use Rattle.template_machine_meaning.specs.World.{first_world};
-ghost use Rattle.template_machine_renders.specs.Programs.{standing_of};
+ghost use Rattle.template_machine_renders.specs.Programs.{alone, roots_of, standing_of};
 ghost use Rattle.template_compiled.specs.Compiled.{standing_of as meant_of};
 ghost use Rattle.template_environment.specs.Reading.{registry_of};
 ghost use Rattle.template_environment.specs.Standing.{unit_of};
@@ -59,7 +59,7 @@ pub(crate) fn program<'env, 'source, E: Extension>(
     template: Option<&'env CompiledTemplate<'source>>,
 ) -> Program<'env, 'env, Environment<'source, E>>
     ensures templates { result.templates.now ≡ environment.now }
-    ensures root { option_map standing_of result.root ≡ option_map unit_of (option_copied template.entry) }
+    ensures roots { roots_of result ≡ alone (option_map unit_of (option_copied template.entry)) }
     ensures name { result.rules.name.now ≡ own_name (option_copied template.entry) }
     ensures limit { result.rules.limit ≡ (registry_of environment.now).recursion_limit }
     ensures undefined { result.rules.undefined ≡ (registry_of environment.now).undefined_behavior }
@@ -67,6 +67,7 @@ pub(crate) fn program<'env, 'source, E: Extension>(
     Program {
         templates: environment,
         root: root(template),
+        kept: None,
         rules: environment.registry.rules(own_name(template)),
     }
 }

@@ -1,4 +1,5 @@
 use Rattle.std.proofs.Common.{None, refl}
+use Rattle.template_machine_renders.specs.Programs as units
 use Rattle.template_environment.specs.Extras.{user_answers}
 use Rattle.template_environment.specs.Reading.{brought_of}
 use Rattle.template_environment.proofs.Evaluating.{evaluation_gives, evaluation_stops}
@@ -13,7 +14,7 @@ returns g c =
     evaluation_stops (brought_of says environment) environment.registry c.args.id c.args.compiled.now c.args.context _ _ _ _ _ _ _ _ c.in-Err.stop c.into_error.result c.into_error.ensures
     (record {
       faithful = c.instructions.ensures.faithful;
-      programs = ruled_programs says environment environment None None _ _ c.rules.result.limit c.rules.result.undefined refl refl rules.name rules.limit rules.undefined;
+      programs = ruled_programs says environment environment None (units.alone None) _ _ c.rules.result.limit c.rules.result.undefined refl refl rules.name rules.limit rules.undefined;
       is_code = c.instructions.ensures.code;
       start = c.in_ok-state.ensures.made;
     }) c.in-Err.ensures.failures c.in-Err.ensures.evaluates
@@ -26,7 +27,7 @@ returns-in-Ok g c =
     evaluation_gives (brought_of says environment) environment.registry c.args.id c.args.compiled.now c.args.context _ _ _ _ _ _ _ _ c.freeze.result
     (record {
       faithful = c.instructions.ensures.faithful;
-      programs = ruled_programs says environment environment None None _ _ c.rules.result.limit c.rules.result.undefined refl refl rules.name rules.limit rules.undefined;
+      programs = ruled_programs says environment environment None (units.alone None) _ _ c.rules.result.limit c.rules.result.undefined refl refl rules.name rules.limit rules.undefined;
       is_code = c.instructions.ensures.code;
       start = c.in_ok-state.ensures.made;
     }) c.in-Ok.ensures.evaluates c.freeze.ensures

@@ -29,7 +29,7 @@ returns-clause-renders g c = λ n finished.
     let says = (user_answers g.E.Callable.Callable.answer g.E.Method.UnknownMethod.answer g.E.Formatter.Formatter.answer g.E.Join.PathJoin.answer) in
     let programs = c.program.ensures in
     let of = run_of says c.program.result.templates.now c.args.environment.now c.args.compiled.now _ c.program.result.rules.name.now c.program.result.rules.limit
-    c.program.result.rules.undefined c.args.id c.args.context _ programs.templates programs.root programs.name programs.limit programs.undefined
+    c.program.result.rules.undefined c.args.id c.args.context _ programs.templates programs.roots programs.name programs.limit programs.undefined
     c.in_ok-machine.ensures.made in
     run_stopped (Unit {0}) _ c.in-Err.stop c.into_error.result _ _ _ _ _ c.into_error.ensures c.in-Err.ensures.failures
     (render_stopped (Unit {0}) (brought_of says c.args.environment.now) registry c.args.id c.args.compiled.now c.args.context _ _ c.run_template.new.state registry.fuel _ _ _ _ c.in-Err.stop refl of
@@ -41,7 +41,7 @@ returns-in-Ok-clause-renders g c = λ n finished.
     let says = (user_answers g.E.Callable.Callable.answer g.E.Method.UnknownMethod.answer g.E.Formatter.Formatter.answer g.E.Join.PathJoin.answer) in
     let programs = c.program.ensures in
     let of = run_of says c.program.result.templates.now c.args.environment.now c.args.compiled.now _ c.program.result.rules.name.now c.program.result.rules.limit
-    c.program.result.rules.undefined c.args.id c.args.context _ programs.templates programs.root programs.name programs.limit programs.undefined
+    c.program.result.rules.undefined c.args.id c.args.context _ programs.templates programs.roots programs.name programs.limit programs.undefined
     c.in_ok-machine.ensures.made in
     let done = render_done (tt {0}) (brought_of says c.args.environment.now) registry c.args.id c.args.compiled.now c.args.context _ _ _ registry.fuel _ _ _ _ refl of
     c.in-Ok.ensures.runs n finished in
@@ -53,7 +53,7 @@ returns-in-Ok-clause-remains g c = λ n finished.
     let says = (user_answers g.E.Callable.Callable.answer g.E.Method.UnknownMethod.answer g.E.Formatter.Formatter.answer g.E.Join.PathJoin.answer) in
     let programs = c.program.ensures in
     let of = run_of says c.program.result.templates.now c.args.environment.now c.args.compiled.now _ c.program.result.rules.name.now c.program.result.rules.limit
-    c.program.result.rules.undefined c.args.id c.args.context _ programs.templates programs.root programs.name programs.limit programs.undefined
+    c.program.result.rules.undefined c.args.id c.args.context _ programs.templates programs.roots programs.name programs.limit programs.undefined
     c.in_ok-machine.ensures.made in
     let done = render_done (tt {0}) (brought_of says c.args.environment.now) registry c.args.id c.args.compiled.now c.args.context _ _ _ registry.fuel _ _ _ _ refl of
     c.in-Ok.ensures.runs n finished in
@@ -67,7 +67,7 @@ returns-in-Ok-clause-world g c = λ n finished.
     let says = (user_answers g.E.Callable.Callable.answer g.E.Method.UnknownMethod.answer g.E.Formatter.Formatter.answer g.E.Join.PathJoin.answer) in
     let programs = c.program.ensures in
     let of = run_of says c.program.result.templates.now c.args.environment.now c.args.compiled.now _ c.program.result.rules.name.now c.program.result.rules.limit
-    c.program.result.rules.undefined c.args.id c.args.context _ programs.templates programs.root programs.name programs.limit programs.undefined
+    c.program.result.rules.undefined c.args.id c.args.context _ programs.templates programs.roots programs.name programs.limit programs.undefined
     c.in_ok-machine.ensures.made in
     let done = render_done (tt {0}) (brought_of says c.args.environment.now) registry c.args.id c.args.compiled.now c.args.context _ _ _ registry.fuel _ _ _ _ refl of
     c.in-Ok.ensures.runs n finished in

@@ -10,7 +10,7 @@ returns-clause-does g c =
     let says = (user_answers g.E.Callable.Callable.answer g.E.Method.UnknownMethod.answer g.E.Formatter.Formatter.answer g.E.Join.PathJoin.answer) in
     let programs = c.program.ensures in
     let is = program_in says self c.program.result.templates.now _ c.program.result.rules.name.now c.program.result.rules.limit c.program.result.rules.undefined
-    programs.templates programs.root programs.name programs.limit programs.undefined in
+    programs.templates programs.roots programs.name programs.limit programs.undefined in
     entered_there says self c.args.entry _ _ _ _ c.run_entry-told.result is c.remaining-left.ensures c.run_entry-told.ensures.plan c.spend-self.ensures.left
 
 pub returns-clause-spares : goal.returns-clause-spares

@@ -11,7 +11,7 @@ returns-in-Ok-clause-renders g c = λ n finished.
     let says = (user_answers g.E.Callable.Callable.answer g.E.Method.UnknownMethod.answer g.E.Formatter.Formatter.answer g.E.Join.PathJoin.answer) in
     let programs = c.program.ensures in
     let is = program_in says self c.program.result.templates.now _ c.program.result.rules.name.now c.program.result.rules.limit c.program.result.rules.undefined
-    programs.templates programs.root programs.name programs.limit programs.undefined in
+    programs.templates programs.roots programs.name programs.limit programs.undefined in
     block_renders says self c.args.block.now _ _ _ _ _ _ c.run_block-done.result (Ok tt) _ _ (ap by_kinds (sym c.in-Ok.is)) is c.remaining-left.ensures c.run_block-done.ensures.plan
     c.run_block-done.ensures.failures n finished
 
@@ -21,7 +21,7 @@ returns-in-Ok-clause-remains g c =
     let says = (user_answers g.E.Callable.Callable.answer g.E.Method.UnknownMethod.answer g.E.Formatter.Formatter.answer g.E.Join.PathJoin.answer) in
     let programs = c.program.ensures in
     let is = program_in says self c.program.result.templates.now _ c.program.result.rules.name.now c.program.result.rules.limit c.program.result.rules.undefined
-    programs.templates programs.root programs.name programs.limit programs.undefined in
+    programs.templates programs.roots programs.name programs.limit programs.undefined in
     block_leaves says self c.args.block.now _ _ _ _ _ _ c.run_block-done.result (Ok tt) _ _ (ap by_kinds (sym c.in-Ok.is)) _ is c.remaining-left.ensures c.run_block-done.ensures.plan
     c.run_block-done.ensures.failures c.spend-self.ensures.left
 
@@ -40,7 +40,7 @@ returns-in-Ok-clause-world g c =
     let says = (user_answers g.E.Callable.Callable.answer g.E.Method.UnknownMethod.answer g.E.Formatter.Formatter.answer g.E.Join.PathJoin.answer) in
     let programs = c.program.ensures in
     let is = program_in says self c.program.result.templates.now _ c.program.result.rules.name.now c.program.result.rules.limit c.program.result.rules.undefined
-    programs.templates programs.root programs.name programs.limit programs.undefined in
+    programs.templates programs.roots programs.name programs.limit programs.undefined in
     block_ends_in says self c.args.block.now _ _ _ _ _ _ c.run_block-done.result (Ok tt) _ _ (ap by_kinds (sym c.in-Ok.is)) is c.remaining-left.ensures c.run_block-done.ensures.plan
     c.run_block-done.ensures.failures
 
@@ -50,7 +50,7 @@ returns-clause-renders g c = λ n finished.
     let says = (user_answers g.E.Callable.Callable.answer g.E.Method.UnknownMethod.answer g.E.Formatter.Formatter.answer g.E.Join.PathJoin.answer) in
     let programs = c.program.ensures in
     let is = program_in says self c.program.result.templates.now _ c.program.result.rules.name.now c.program.result.rules.limit c.program.result.rules.undefined
-    programs.templates programs.root programs.name programs.limit programs.undefined in
+    programs.templates programs.roots programs.name programs.limit programs.undefined in
     block_renders says self c.args.block.now _ _ _ _ _ _ c.run_block-done.result (Err c.into_error.result) _ _ (ap (λ (ks : List ErrorKind). Err ks) c.into_error.ensures ∙ ap by_kinds (sym c.in-Err.is)) is c.remaining-left.ensures c.run_block-done.ensures.plan
     c.run_block-done.ensures.failures n finished
 
@@ -60,7 +60,7 @@ returns-clause-remains g c =
     let says = (user_answers g.E.Callable.Callable.answer g.E.Method.UnknownMethod.answer g.E.Formatter.Formatter.answer g.E.Join.PathJoin.answer) in
     let programs = c.program.ensures in
     let is = program_in says self c.program.result.templates.now _ c.program.result.rules.name.now c.program.result.rules.limit c.program.result.rules.undefined
-    programs.templates programs.root programs.name programs.limit programs.undefined in
+    programs.templates programs.roots programs.name programs.limit programs.undefined in
     block_leaves says self c.args.block.now _ _ _ _ _ _ c.run_block-done.result (Err c.into_error.result) _ _ (ap (λ (ks : List ErrorKind). Err ks) c.into_error.ensures ∙ ap by_kinds (sym c.in-Err.is)) _ is c.remaining-left.ensures c.run_block-done.ensures.plan
     c.run_block-done.ensures.failures c.spend-self.ensures.left
 
@@ -70,7 +70,7 @@ returns-clause-world g c =
     let says = (user_answers g.E.Callable.Callable.answer g.E.Method.UnknownMethod.answer g.E.Formatter.Formatter.answer g.E.Join.PathJoin.answer) in
     let programs = c.program.ensures in
     let is = program_in says self c.program.result.templates.now _ c.program.result.rules.name.now c.program.result.rules.limit c.program.result.rules.undefined
-    programs.templates programs.root programs.name programs.limit programs.undefined in
+    programs.templates programs.roots programs.name programs.limit programs.undefined in
     block_ends_in says self c.args.block.now _ _ _ _ _ _ c.run_block-done.result (Err c.into_error.result) _ _ (ap (λ (ks : List ErrorKind). Err ks) c.into_error.ensures ∙ ap by_kinds (sym c.in-Err.is)) is c.remaining-left.ensures c.run_block-done.ensures.plan
     c.run_block-done.ensures.failures
 
