@@ -1,16 +1,13 @@
 -- A source in which no marker starts is one data, and stands for itself.
-use Rattle.std.proofs.Common.{◌≡◌, ℕ, Bool, true, false, List, [], ◌∷◌, inl, inr, refl, subst, arith}
+use Rattle.std.proofs.Common.{◌≡◌, ℕ, Bool, true, false, List, [], ◌∷◌, inl, inr, refl, subst}
 use Rattle.template_values_errors.specs.declared.ErrorKind.{ErrorKind}
 use Rattle.template_tree.specs.Tree.{template}
-use Rattle.template_code.specs.Code.{Code}
-use Rattle.template_code.specs.Listing.{TakesNoMore}
 use Rattle.template_compiler_segments.specs.Flat.{plain_tokens}
 use Rattle.template_compiler_segments.proofs.Theorems.{plain_text}
 use Rattle.template_compiler_grammar.specs.TemplateGrammar.{IsTemplate, whole_template, statements_end, statements_next, text_statement}
 use Rattle.template_compiler_syntax.specs.Syntax.{Syntax, IsUsable}
 use Rattle.template_compiler_source_tokens.specs.Scoped.{taken_words}
 use Rattle.template_compiler_sources.specs.Source.{IsSource, RefusesSource, source_of}
-use Rattle.template_compiler_emission.specs.Puts.{NoRoom}
 use Rattle.template_compiled.specs.Plain.{IsPlain, StandsForItself, text_kept, text_tree}
 use Rattle.template_compiled.specs.Sources.{Source, HasNoRoom, IsRefusedWith}
 use Rattle.template_compiled.proofs.Trees.{one_tree}
@@ -26,7 +23,7 @@ plain_source source plain = source_of (plain_text source.syntax source.text plai
 
 plain_refused : (source : Source) → IsPlain source → (kinds : List ErrorKind) → IsUsable source.syntax → IsRefusedWith source kinds → HasNoRoom source.text kinds
 plain_refused source plain kinds usable (inl (inl want)) = inr want
-plain_refused source plain kinds usable (inl (inr (inl (large, long)))) = inl (large, omega arith)
+plain_refused source plain kinds usable (inl (inr (inl large))) = inl large
 plain_refused source plain kinds usable (inl (inr (inr (fault, alone, faulty)))) = absurd (faulty.treeless _ (plain_source source plain))
 plain_refused source plain kinds usable (inr room) = room
 
@@ -42,8 +39,3 @@ pub plain_room : {kinds : List ErrorKind} (source : Source) (y : Syntax) → y �
     → RefusesSource y source.text kinds → HasNoRoom source.text kinds
 plain_room {kinds} source y same usable plain refused =
     (plain_stands source usable plain).refused kinds (inl (subst (λ (z : Syntax). RefusesSource z source.text kinds) same refused))
-
--- code that takes no further instruction has no room
-pub no_room : (code : List Code) {kinds : List ErrorKind} → TakesNoMore code kinds → NoRoom kinds
-no_room code (inl full) = inl full.1
-no_room code (inr want) = inr want

@@ -21,7 +21,7 @@ text_tree [] = no_statements
 text_tree (byte ∷ bytes) = statements_more (raw (byte ∷ bytes)) no_statements
 
 -- what such a source stands for: its tree is its text, and it is refused for want of memory alone, or for its size, where it
--- has 2^24 bytes at least
+-- has 2^32 bytes at least
 pub record StandsForItself (source : Source) : Type 0 where
   pub has_tree : HasTree source (text_tree (text_kept source))
   pub tree : tree_in source ≡ text_tree (text_kept source)

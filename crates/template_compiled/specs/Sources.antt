@@ -49,10 +49,10 @@ tokens_read source = taken_words source.syntax.scoped_blocks (some_tokens source
 unfoldable pub tree_in : Source → Statements
 tree_in source = read (template_of (tokens_read source))
 
--- there is no room for the code of a text: it is too large, which that of fewer than 2^24 bytes never is; or a growth was
--- refused
+-- there is no room for a text or for its code: the text is too large, which one of fewer than 2^32 bytes never is; or a growth
+-- was refused, as that of code is which has 2^32 instructions
 abbrev pub HasNoRoom : List ℕ → List ErrorKind → Type 0
-HasNoRoom text kinds = ((kinds ≡ TooLarge ∷ []) × (2 ^ 24 ≤ length text)) ⊎ (kinds ≡ OutOfMemory ∷ [])
+HasNoRoom text kinds = ((kinds ≡ TooLarge ∷ []) × (2 ^ 32 ≤ length text)) ⊎ (kinds ≡ OutOfMemory ∷ [])
 
 -- why a source is refused: it has no tree or is too large, or there is no room for its code
 abbrev pub IsRefusedWith : Source → List ErrorKind → Type 0

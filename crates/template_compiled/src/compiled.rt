@@ -97,8 +97,8 @@ impl<'source> CompiledTemplate<'source> {
     ///
     /// # Errors
     ///
-    /// Those of [`parse`]; [`ErrorKind::TooLarge`] for 2^32 instructions or more, which a source of fewer than 2^24
-    /// bytes never has; [`ErrorKind::OutOfMemory`].
+    /// Those of [`parse`]; [`ErrorKind::OutOfMemory`], also where the code would have 2^32 instructions, which that of a
+    /// source of fewer than 2^24 bytes never has.
     pub fn new(
         alloc: Global,
         name: &'source str,
@@ -122,7 +122,7 @@ impl<'source> CompiledTemplate<'source> {
         plain_text();
         let tree = parse(alloc, source, name, config.syntax_config.clone()?)?;
         let mut instructions = Instructions::new(alloc, name, source);
-        put_template(alloc, &mut instructions, &tree, source)?;
+        put_template(alloc, &mut instructions, &tree)?;
         number_names(alloc, &mut instructions)?;
         instructions.shrink_to_fit();
         instructions.number_parts();
@@ -351,7 +351,7 @@ pub fn trees_run()
 {}
 
 /// A law: a source in which no marker starts is read to its text, and is refused for want of memory alone, or for its
-/// size, where it has 2^24 bytes at least.
+/// size, where it has 2^32 bytes at least.
 pub fn plain_text()
     ensures { PlainStandsForItself }
 {}

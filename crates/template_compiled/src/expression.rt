@@ -60,8 +60,8 @@ impl<'source> CompiledExpression<'source> {
     ///
     /// # Errors
     ///
-    /// Those of [`parse_expr`]; [`ErrorKind::TooLarge`] for 2^32 instructions or more, which a source of fewer than 2^24
-    /// bytes never has; [`ErrorKind::OutOfMemory`].
+    /// Those of [`parse_expr`]; [`ErrorKind::OutOfMemory`], also where the code would have 2^32 instructions, which that of
+    /// a source of fewer than 2^24 bytes never has.
     pub fn new(alloc: Global, source: &'source str) -> Result<CompiledExpression<'source>, Error>
         ensures source { IfOk result (λ e. e ≡ source.now) }
         ensures faithful { IfOk result IsFaithfulExpression }
@@ -70,7 +70,7 @@ impl<'source> CompiledExpression<'source> {
     {
         let tree = parse_expr(alloc, source)?;
         let mut instructions = Instructions::new(alloc, NAME, source);
-        put_expr(alloc, &mut instructions, &tree, source)?;
+        put_expr(alloc, &mut instructions, &tree)?;
         number_names(alloc, &mut instructions)?;
         instructions.shrink_to_fit();
         Ok(CompiledExpression { instructions })

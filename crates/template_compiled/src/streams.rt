@@ -1,10 +1,10 @@
 //! The streams of a template's blocks: the body of each has code of its own.
 ghost use Rattle.std.specs.Prelude.{◌≡◌, false, IfOk, IfErr};
+ghost use Rattle.template_values_errors.specs.Memory.{NoMemory};
 ghost use Rattle.template_tree_parts.specs.Listed.{statements_in};
 ghost use Rattle.template_walk.specs.Runnable.{AreRunnableStatements};
 ghost use Rattle.template_code_blocks.specs.Streams.{stream_in, streams_in};
 ghost use Rattle.template_compiler_blocks.specs.Seen.{tree_of};
-ghost use Rattle.template_compiled.specs.Sources.{HasNoRoom};
 ghost use Rattle.template_compiled.specs.Streams.{stream_of, streams_of};
 
 use crate::room::put_body;
@@ -26,7 +26,7 @@ pub(crate) fn compile_blocks<'source>(
 ) -> Result<Vec<CompiledBlock<'source>>, Error>
     requires { AreRunnableStatements false (statements_in body.now) }
     ensures streams { IfOk result (λ bs. streams_in bs.items ≡ streams_of (statements_in body.now)) }
-    ensures refused { IfErr result (HasNoRoom source.now) }
+    ensures refused { IfErr result NoMemory }
 {
     let nodes = blocks(alloc, body)?;
     let mut compiled = Vec::new(alloc);
@@ -45,10 +45,10 @@ fn compile_block<'source>(
 ) -> Result<CompiledBlock<'source>, Error>
     requires { AreRunnableStatements false (statements_in block.now.body.items) }
     ensures stream { IfOk result (λ b. stream_in b ≡ stream_of (tree_of block.now)) }
-    ensures refused { IfErr result (HasNoRoom source.now) }
+    ensures refused { IfErr result NoMemory }
 {
     let mut instructions = Instructions::new(alloc, name, source);
-    put_body(alloc, &mut instructions, &block.body, source)?;
+    put_body(alloc, &mut instructions, &block.body)?;
     number_names(alloc, &mut instructions)?;
     instructions.shrink_to_fit();
     instructions.number_parts();
