@@ -14,9 +14,8 @@ use Rattle.template_machine_meaning.specs.World.{World, first_world}
 use Rattle.template_machine_renders.specs.Outcomes.{IsWant}
 use Rattle.template_compiled.specs.Compiled.{Compiled, standing_of}
 use Rattle.template_compiled.specs.Plain.{text_tree}
-use Rattle.template_compiled.specs.Sources.{HasNoRoom}
 use Rattle.template_environment.specs.Extras.{Brought}
-use Rattle.template_environment.specs.Plain.{text_run, GivesItself, IsRefusedForRoom, WritesItself}
+use Rattle.template_environment.specs.Plain.{text_run, GivesItself, WritesItself}
 use Rattle.template_environment.specs.Renderings.{GivesText, IsCut, Renders, whole, broken, rendering}
 use Rattle.template_environment.specs.declared.registry.Registry.{Registry}
 
@@ -119,8 +118,3 @@ plain_writes k e id c bytes context before after failed fails result is renders 
     let w = first_world id e.globals (head_of (standing_of c)) context in
     writes_itself e.fuel bytes w before after failed fails result (subst (λ r. Renders result before after failed fails (under e.fuel r)) (is id 0 context)
     (renders 0 (subst (λ (r : Run World). IsFinished r.end) (sym (is id 0 context)) (text_finished bytes w))))
-
--- where there is no room for the code of a source, it is refused for room
-pub refused_for_room : (text : List ℕ) {kinds : List ErrorKind} → HasNoRoom text kinds → IsRefusedForRoom kinds
-refused_for_room text (inl large) = inl large.0
-refused_for_room text (inr want) = inr want

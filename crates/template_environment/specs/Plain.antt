@@ -9,6 +9,7 @@ use Rattle.template_process.specs.Trace.{Run, paid, written, behind, ended}
 use Rattle.template_machine_going.specs.Paying.{IsSpent}
 use Rattle.template_machine_renders.specs.Outcomes.{IsWant}
 use Rattle.template_machine_meaning.specs.World.{World}
+use Rattle.template_compiled.specs.Sources.{HasNoRoom}
 pub use Rattle.template_compiled.specs.Plain.{IsPlain, text_kept}
 
 -- a text alone is one step and the text; nothing where it is empty
@@ -25,10 +26,10 @@ abbrev pub GivesItself : {X : Type 0} → Option ℕ → List ℕ → (X → Lis
 GivesItself fuel bytes text (Ok x) = text x ≡ bytes
 GivesItself fuel bytes text (Err kinds) = NoMemory kinds ⊎ ((kinds ≡ OutOfFuel ∷ []) × IsSpent fuel)
 
--- the same of a call that reads the source first
-abbrev pub ReadGivesItself : {X : Type 0} → Option ℕ → List ℕ → (X → List ℕ) → Result X (List ErrorKind) → Type 0
-ReadGivesItself fuel bytes text (Ok x) = text x ≡ bytes
-ReadGivesItself fuel bytes text (Err kinds) = IsRefusedForRoom kinds ⊎ ((kinds ≡ OutOfFuel ∷ []) × IsSpent fuel)
+-- the same of a call that reads the source first, which may be too large
+abbrev pub ReadGivesItself : {X : Type 0} → Option ℕ → List ℕ → List ℕ → (X → List ℕ) → Result X (List ErrorKind) → Type 0
+ReadGivesItself fuel source bytes text (Ok x) = text x ≡ bytes
+ReadGivesItself fuel source bytes text (Err kinds) = HasNoRoom source kinds ⊎ ((kinds ≡ OutOfFuel ∷ []) × IsSpent fuel)
 
 -- the same of a call that writes it into a sink
 abbrev pub WritesItself : {X : Type 0} → Option ℕ → List ℕ → Option (List ℕ) → Option (List ℕ) → Result X (List ErrorKind) → Type 0

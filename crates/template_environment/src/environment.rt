@@ -11,12 +11,12 @@ ghost use Rattle.template_compiler_syntax.specs.Syntax.{default_syntax};
 ghost use Rattle.template_machine_surroundings.specs.Rule.{IsEscapeOf};
 ghost use Rattle.template_machine_globals.specs.Globals.{own_globals, with_global, without_global};
 ghost use Rattle.template_compiled.specs.Compiled.{IsFaithful};
-ghost use Rattle.template_compiled.specs.Sources.{IsAccepted, IsRefusedWith};
+ghost use Rattle.template_compiled.specs.Sources.{HasNoRoom, IsAccepted, IsRefusedWith};
 ghost use Rattle.template_compiled.specs.Plain.{IsPlain, text_kept};
 ghost use Rattle.template_environment_histories.specs.Histories as changes;
 ghost use Rattle.template_machine_meaning.specs.Meaning.{no_head};
 ghost use Rattle.template_environment.specs.Extras.{no_extras, user_answers};
-ghost use Rattle.template_environment.specs.Plain.{IsRefusedForRoom, ReadGivesItself};
+ghost use Rattle.template_environment.specs.Plain.{ReadGivesItself};
 ghost use Rattle.template_environment.specs.Standing.{greatest_limit, new_settings, no_globals};
 
 use crate::extensions::Extensions;
@@ -190,7 +190,7 @@ impl<'source, E: Extension> Environment<'source, E> {
         ensures extras { extras_of self.new ≡ extras_of self.old }
         ensures refused { IfErr result (IsRefusedWith (read_under E.Rule.answer self.old name.now source.now)) }
         ensures too_large { 2 ^ 32 ≤ length source.now → result ≡ Err (ErrorKind.TooLarge ∷ []) }
-        ensures plain { IsPlain (read_under E.Rule.answer self.old name.now source.now) → IfErr result IsRefusedForRoom }
+        ensures plain { IsPlain (read_under E.Rule.answer self.old name.now source.now) → IfErr result (HasNoRoom source.now) }
         ensures stays { OnErr result
             (Changes (changes.refused name.now (read_under E.Rule.answer self.old name.now source.now)) self.old self.new) }
         ensures unchanged { OnErr result (IsUnchanged self.old self.new) }
@@ -215,7 +215,7 @@ impl<'source, E: Extension> Environment<'source, E> {
             (IsRefusedWith (read_under E.Rule.answer self.old (cow_str_bytes name.entry) (cow_str_bytes source.entry))) }
         ensures too_large { 2 ^ 32 ≤ length (cow_str_bytes source.entry) → result ≡ Err (ErrorKind.TooLarge ∷ []) }
         ensures plain { IsPlain (read_under E.Rule.answer self.old (cow_str_bytes name.entry) (cow_str_bytes source.entry)) →
-            IfErr result IsRefusedForRoom }
+            IfErr result (HasNoRoom (cow_str_bytes source.entry)) }
         ensures stays { OnErr result (Changes (changes.refused (cow_str_bytes name.entry)
             (read_under E.Rule.answer self.old (cow_str_bytes name.entry) (cow_str_bytes source.entry))) self.old self.new) }
         ensures unchanged { OnErr result (IsUnchanged self.old self.new) }
@@ -237,7 +237,7 @@ impl<'source, E: Extension> Environment<'source, E> {
         ensures faithful { IfOk result IsFaithful }
         ensures refused { IfErr result (IsRefusedWith (read_under E.Rule.answer self.now name.now source.now)) }
         ensures too_large { 2 ^ 32 ≤ length source.now → result ≡ Err (ErrorKind.TooLarge ∷ []) }
-        ensures plain { IsPlain (read_under E.Rule.answer self.now name.now source.now) → IfErr result IsRefusedForRoom }
+        ensures plain { IsPlain (read_under E.Rule.answer self.now name.now source.now) → IfErr result (HasNoRoom source.now) }
     {
         let alloc = self.registry.alloc;
         let compiled = CompiledTemplate::new(alloc, name, source, &self.registry.config)?;
@@ -450,7 +450,7 @@ impl<'source, E: Extension> Environment<'source, E> {
         ensures here { IfOk result (λ t. environment_of t ≡ self.now) }
         ensures refused { IfErr result (IsRefusedWith (read_under E.Rule.answer self.now unnamed source.now)) }
         ensures too_large { 2 ^ 32 ≤ length source.now → result ≡ Err (ErrorKind.TooLarge ∷ []) }
-        ensures plain { IsPlain (read_under E.Rule.answer self.now unnamed source.now) → IfErr result IsRefusedForRoom }
+        ensures plain { IsPlain (read_under E.Rule.answer self.now unnamed source.now) → IfErr result (HasNoRoom source.now) }
     {
         self.template_from_named_str(UNNAMED, source)
     }
@@ -473,7 +473,7 @@ impl<'source, E: Extension> Environment<'source, E> {
         ensures here { IfOk result (λ t. environment_of t ≡ self.now) }
         ensures refused { IfErr result (IsRefusedWith (read_under E.Rule.answer self.now name.now source.now)) }
         ensures too_large { 2 ^ 32 ≤ length source.now → result ≡ Err (ErrorKind.TooLarge ∷ []) }
-        ensures plain { IsPlain (read_under E.Rule.answer self.now name.now source.now) → IfErr result IsRefusedForRoom }
+        ensures plain { IsPlain (read_under E.Rule.answer self.now name.now source.now) → IfErr result (HasNoRoom source.now) }
     {
         let own = self.compile(name, source)?;
         Ok(Template {
@@ -519,7 +519,7 @@ impl<'source, E: Extension> Environment<'source, E> {
 
         // Where no marker starts in the source, that is its text.
         ensures plain { ids.old ≢ u64.MAX → IsPlain (read_under E.Rule.answer self.now unnamed source.now) →
-            ReadGivesItself (settings_of (registry_of self.now)).fuel (text_kept (read_under E.Rule.answer self.now unnamed source.now))
+            ReadGivesItself (settings_of (registry_of self.now)).fuel source.now (text_kept (read_under E.Rule.answer self.now unnamed source.now))
             (λ text. string_bytes text) result }
 
         // Where what the user brought asks for no names, contexts that agree at those that can matter make no difference.
@@ -549,7 +549,7 @@ impl<'source, E: Extension> Environment<'source, E> {
 
         // Where no marker starts in the source, that is its text.
         ensures plain { ids.old ≢ u64.MAX → IsPlain (read_under E.Rule.answer self.now name.now source.now) →
-            ReadGivesItself (settings_of (registry_of self.now)).fuel (text_kept (read_under E.Rule.answer self.now name.now source.now))
+            ReadGivesItself (settings_of (registry_of self.now)).fuel source.now (text_kept (read_under E.Rule.answer self.now name.now source.now))
             (λ text. string_bytes text) result }
 
         // Where what the user brought asks for no names, contexts that agree at those that can matter make no difference.

@@ -1,5 +1,4 @@
 use Rattle.std.proofs.Common.{rules}
-use Rattle.template_environment.proofs.Plain.{refused_for_room}
 use Rattle.template_environment.proofs.Sourced.{read_so}
 use Rattle.template_environment.proofs.environment.Environment.compile.Goals as goal
 
@@ -12,5 +11,5 @@ returns-clause-source g c =
 
 pub returns-in_err-compiled-clause-plain : goal.returns-in_err-compiled-clause-plain
 returns-in_err-compiled-clause-plain g c = λ plain.
-    let room = refused_for_room _ (c.in_err-compiled.ensures.plain plain) in
+    let room = c.in_err-compiled.ensures.plain plain in
     search rules
