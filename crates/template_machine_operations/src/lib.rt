@@ -25,6 +25,7 @@ pub use dicts::dict;
 pub use escapes::escape_named;
 pub use methods::call_method;
 pub use modules::module_from;
+pub use namespaces::namespace;
 pub use operators::{compare, invert, negate, operate, truth_of};
 pub use parts::{get_attribute, get_item, get_slice};
 pub use printing::{make_text, print, write};

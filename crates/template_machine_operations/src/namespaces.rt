@@ -21,7 +21,11 @@ use template_values_operators::refusal;
 ///
 /// [`ErrorKind::TooManyArguments`] at more than one argument; [`ErrorKind::InvalidOperation`] at another value;
 /// [`ErrorKind::OutOfMemory`].
-pub(crate) fn namespace(alloc: Global, args: &[Value]) -> Result<Vec<Entry>, Error>
+///
+/// [`ErrorKind::TooManyArguments`]: template_values_errors::ErrorKind::TooManyArguments
+/// [`ErrorKind::InvalidOperation`]: template_values_errors::ErrorKind::InvalidOperation
+/// [`ErrorKind::OutOfMemory`]: template_values_errors::ErrorKind::OutOfMemory
+pub fn namespace(alloc: Global, args: &[Value]) -> Result<Vec<Entry>, Error>
     ensures { Answers (entries_given result) (namespace_given args.now) }
 {
     match args {
