@@ -8,6 +8,7 @@ pub mod Views
 pub mod Isolated
 pub mod Evaluations
 pub mod Plain
+pub mod Namespaces
 -- what contracts here cite of the crates below
 pub use Rattle.template_machine_globals.specs.Globals
 pub use Rattle.template_compiled.specs.Sources

@@ -10,6 +10,7 @@ mod hosting;
 mod laws;
 mod levels;
 mod names;
+mod namespaces;
 mod registry;
 mod starting;
 mod state;
@@ -23,6 +24,7 @@ pub use laws::{
     every_block_ends, every_call_ends, every_expression_runs, every_render_ends,
     every_template_runs, isolated_renders, none_ask_names, plain_renders, undeclared_names_matter,
 };
+pub use namespaces::namespace;
 pub use registry::Registry;
 pub use state::State;
 pub use template::{Captured, Template};

@@ -115,6 +115,7 @@ pub use template_environment::every_expression_runs;
 pub use template_environment::every_render_ends;
 pub use template_environment::every_template_runs;
 pub use template_environment::isolated_renders;
+pub use template_environment::namespace;
 pub use template_environment::none_ask_names;
 pub use template_environment::plain_renders;
 pub use template_environment::undeclared_names_matter;

@@ -5,7 +5,7 @@ use crate::tellings::{tell_state, tell_temp};
 use crate::writers::{Taker, Taking};
 use std::alloc::Global;
 use template_callables::Extension;
-use template_environment::{State, Template, escape_formatter};
+use template_environment::{State, Template, escape_formatter, namespace};
 use template_machine_operations::{dict, range};
 use template_machine_output::WriteWrapper;
 use template_rows::unreadable;
@@ -74,6 +74,8 @@ fn tell_other<E: Extension>(state: &mut State<'_, '_, E>, call: &Value, out: &mu
         tell_value(&range_of(alloc, items_at(call, "range")), out)
     } else if call.value_at("dict").is_some() {
         tell_value(&dict(alloc, items_at(call, "dict")), out)
+    } else if call.value_at("namespace").is_some() {
+        tell_namespace(state, items_at(call, "namespace"), out)
     } else if call.value_at("current_block").is_some() {
         out.push_str(state.current_block().unwrap_or("-"))
     } else {
@@ -115,6 +117,18 @@ fn tell_taken(sink: &WriteWrapper<Taker>, ended: &Result<(), Error>, out: &mut R
     if let Err(error) = ended {
         out.push(' ');
         out.fault(error);
+    }
+}
+
+// Which namespace is made of the arguments, and its printed form.
+fn tell_namespace<E: Extension>(state: &mut State<'_, '_, E>, args: &[Value], out: &mut Report) {
+    match namespace(state, args) {
+        Ok(made) => {
+            out.value(&made);
+            out.push(' ');
+            out.text(&state.format(&made))
+        }
+        Err(error) => out.fault(&error),
     }
 }
 

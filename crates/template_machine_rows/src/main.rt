@@ -17,10 +17,10 @@
 //!   of a state, and its own;
 //! - `calls`: calls on a state in place of a render, an array of objects: `apply_filter` or `perform_test`, a name, with
 //!   `args`, an array, and so `call_macro`; `lookup`, a name; `get_temp`, a name; `set_temp`, a name, with a `value`; `format`, a
-//!   value; `render_block`, a name; `escape`, a value; `range`, one, two or three numbers; `dict`, an array of arguments;
-//!   `get_template`, a name; `current_block`; or `tell`, which tells the state. With a `room` beside it, a writer as below,
-//!   `render_block` and `escape` write into that. The state is a new one of the template `main`, where this is named, else one
-//!   without a template;
+//!   value; `render_block`, a name; `escape`, a value; `range`, one, two or three numbers; `dict` or `namespace`, an array of
+//!   arguments; `get_template`, a name; `current_block`; or `tell`, which tells the state. With a `room` beside it, a writer as
+//!   below, `render_block` and `escape` write into that. The state is a new one of the template `main`, where this is named, else
+//!   one without a template;
 //! - `after`: such calls on the state that a render left;
 //! - `temps`: the names of the temps that are told behind a render, an array of texts;
 //! - `templates`: what is done before the render, in order: `[name, source]` adds a template, `[name, null]` removes
@@ -86,7 +86,7 @@
 //! - ` temps [name value, name -]` behind that, where temps are asked for, with `-` where there is none; ` after ` and what the
 //!   calls on the state that is left give, where there are such;
 //! - what each of the calls on a state gives, with `, ` between: a value, a text, `true` or `false`, the name of a template or of
-//!   a block, and `-` where there is no temp or no block;
+//!   a block, and `-` where there is no temp or no block; of a namespace its number and its printed form;
 //! - `[name, name]` where names are asked for, and two such lists for those that are used: without what stands behind
 //!   dots, then with it;
 //! - `[name "source", name "source"]` for the templates that stand, and `[name value, name value]` for the globals;
