@@ -5,13 +5,28 @@ use crate::words::instruction;
 use serde_json::Value as Json;
 use std::alloc::Global;
 use template_code::Instructions;
-use template_code_checked::verify;
+use template_code_checked::{Checked, verify};
 use template_code_references::get_referenced_names;
-use template_values_errors::Error;
+use template_values_errors::{Error, ErrorKind};
 
-/// What the steps are a stream of, or why they are refused, and how many of them come back.
+/// What the steps are a stream of, or why they are refused, and how many of them come back. Where memory was refused, what comes
+/// back is asked again.
 pub(crate) fn verified(alloc: Global, steps: &[Json], out: &mut Report) {
-    match &verify(alloc, stream_of(alloc, steps, out)) {
+    let checked = verify(alloc, stream_of(alloc, steps, out));
+    tell_checked(&checked, out);
+    if let Err((error, back)) = checked
+        && error.kind() == ErrorKind::OutOfMemory
+    {
+        out.push_str(", ");
+        tell_checked(&verify(alloc, back), out)
+    }
+}
+
+fn tell_checked(
+    checked: &Result<Checked<'static>, (Error, Instructions<'static>)>,
+    out: &mut Report,
+) {
+    match checked {
         Ok(checked) => {
             out.tell("", &checked.kind());
             out.tell(" ", &checked.instructions().len())
