@@ -31,7 +31,7 @@ pub fn namespace<E: Extension>(state: &mut State<'_, '_, E>, args: &[Value]) -> 
     ensures given { IfOk result (λ v. v ≡ values.namespace (world_in state.old).id (length (world_in state.old).namespaces)) }
     ensures made { OnOk result (HoldsMore (namespace_given args.now) (world_in state.old) (world_in state.new)) }
     ensures refused { IfErr result (λ kinds. NoMemory kinds ⊎ (answered (namespace_given args.now) ≡ Err kinds)) }
-    ensures unchanged { OnErr result (state.new ≡ state.old) }
+    ensures unchanged { OnErr result (world_in state.new ≡ world_in state.old) }
     ensures rest { KeepsRest state.old state.new }
 {
     let alloc = state.environment.allocator();
