@@ -119,7 +119,9 @@ fn prints_alone(value: &Value) -> bool
     ensures { IsTrue result → IsOk (printed nothing_known value.now) }
 {
     match value.content() {
-        Content::Text(_) | Content::SafeText(_) | Content::Int(_) => true,
+        Content::Text(_) => true,
+        Content::SafeText(_) => true,
+        Content::Int(_) => true,
         _ => false,
     }
 }
