@@ -135,11 +135,16 @@ fn write_html<S: Sink>(text: &str, sink: &mut S) -> Result<(), Error>
 /// A whole number that is written by its digits alone under an escape, whatever is known of records: HTML reads none of them as
 /// markup.
 #[inline(always)]
+#[tactic(auto, using(template_values_print::proofs::Digits::number_printed, template_values_print::proofs::Digits::number_escaped))]
 fn standing_number(value: &Value, escape: AutoEscape) -> Option<i128>
     ensures { IfSome result (λ n. (known : Known) → escaped escape known value.now ≡ Ok (signed_decimal n)) }
 {
-    match (value.content(), escape) {
-        (Content::Int(number), AutoEscape::None | AutoEscape::Html) => Some(number),
+    let Content::Int(number) = value.content() else {
+        return None;
+    };
+    match escape {
+        AutoEscape::None => Some(number),
+        AutoEscape::Html => Some(number),
         _ => None,
     }
 }
