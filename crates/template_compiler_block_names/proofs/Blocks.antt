@@ -1,147 +1,41 @@
--- A statement's blocks, by its parts.
-use Rattle.std.proofs.Common.{◌≡◌, ℕ, zero, suc, ◌+◌, ◌<◌, ◌≤◌, length, get_or, drop, refl, Result, Ok, Err, IfOk, List, [], ◌∷◌, ◌++◌, sym, ap, ◌∙◌, arith, rules, Box, Global}
-use Rattle.std.proofs.Math.Seq.{drop-cons}
-use Rattle.std.proofs.lemmas.List.{append-nil, append_assoc}
+-- A statement's blocks: its own name, and those of its bodies.
+use Rattle.std.proofs.Common.{◌≡◌, true, false, List, [], ◌∷◌, ◌++◌, append_assoc, append-nil, refl, sym, ap, ◌∙◌}
+use Rattle.template_tree.specs.Tree.{Statement, template, for_loop, if_condition, with_block, set_block, auto_escape, filter_block, block, macro, call_block, statements_more}
 use Rattle.template_tree_statements.specs.View.{statement_of}
-use Rattle.template_tree.specs.declared.span.Spanned.{Spanned}
-use Rattle.template_tree_statements.specs.declared.statements.AutoEscape.{AutoEscape as AutoEscapeNode}
-use Rattle.template_tree_statements.specs.declared.statements.Block.{Block as BlockNode}
-use Rattle.template_tree_statements.specs.declared.statements.CallBlock.{CallBlock as CallBlockNode, CallBlock' as called, out-CallBlock}
-use Rattle.template_tree_statements.specs.declared.statements.FilterBlock.{FilterBlock as FilterBlockNode}
-use Rattle.template_tree_statements.specs.declared.statements.ForLoop.{ForLoop as ForLoopNode}
-use Rattle.template_tree_statements.specs.declared.statements.IfCond.{IfCond as IfCondNode}
-use Rattle.template_tree_statements.specs.declared.statements.Macro.{Macro as MacroNode}
-use Rattle.template_tree_statements.specs.declared.statements.SetBlock.{SetBlock as SetBlockNode}
-use Rattle.template_tree_statements.specs.declared.statements.Template.{Template as TemplateNode}
-use Rattle.template_tree_statements.specs.declared.statements.WithBlock.{WithBlock as WithBlockNode}
-use Rattle.template_tree_statements.specs.declared.statements.Stmt.{Stmt, size-Stmt, Template, ForLoop, IfCond, WithBlock, SetBlock, AutoEscape, FilterBlock, Block, Macro, CallBlock, the_lemmas}
+use Rattle.template_tree_statements.specs.declared.statements.Stmt.{Stmt}
+use Rattle.template_tree_bodies.specs.Bodies.{body_in, other_in}
+use Rattle.template_tree_bodies.specs.Kinds.{is_block}
+use Rattle.template_tree_parts.specs.Listed as parts
+use Rattle.template_tree_bodies.specs.Within.{joined, picked_among}
+use Rattle.template_tree_bodies.proofs.Picked.{said}
 use Rattle.template_compiler_statement_makers.specs.Listed.{statements_in}
-use Rattle.template_compiler_statement_makers.proofs.Rows.{statements_row}
 use Rattle.template_compiler_grammar.specs.TemplateTrees.{blocks_in, blocks_among}
-use Rattle.template_compiler_block_names.proofs.Deep.{all_below, body_deep}
+use Rattle.template_compiler_block_names.specs.Own.{own_name}
 
-abbrev blocks_of : List Stmt → List (List ℕ)
-blocks_of body = blocks_among (statements_in body)
+own_first : (s : Statement) → blocks_in s ≡ own_name s ++ (blocks_among (body_in s) ++ blocks_among (other_in s))
+own_first (template body) = sym (append-nil (blocks_among body))
+own_first (for_loop target e condition recursive body otherwise) = refl
+own_first (if_condition e body otherwise) = refl
+own_first (with_block pairs body) = sym (append-nil (blocks_among body))
+own_first (set_block target filters body) = sym (append-nil (blocks_among body))
+own_first (auto_escape e body) = sym (append-nil (blocks_among body))
+own_first (filter_block e body) = sym (append-nil (blocks_among body))
+own_first (block name required body) = ap (λ ns. name ∷ ns) (sym (append-nil (blocks_among body)))
+own_first (macro name taken defaults body) = sym (append-nil (blocks_among body))
+own_first (call_block e given taken defaults body) = sym (append-nil (blocks_among body))
+own_first _ = refl
 
-pub template_blocks : (n : Spanned TemplateNode) → blocks_in (statement_of (Template n)) ≡ blocks_of n.node.children.items
-template_blocks n = search (rules, the_lemmas, statements_row)
+pub none_picked : (s : Statement) → is_block s ≡ false → own_name s ≡ []
+none_picked (block name required body) out = cc
+none_picked _ out = refl
 
-pub for_blocks : (n : Box (Spanned ForLoopNode) Global) → blocks_in (statement_of (ForLoop n))
-    ≡ blocks_of n.value.node.body.items ++ blocks_of n.value.node.else_body.items
-for_blocks n = search (rules, the_lemmas, statements_row)
+both_listed : (body : List Stmt) → parts.statements_in body ≡ statements_in body
+both_listed [] = refl
+both_listed (s ∷ ss) = ap (λ rest. statements_more (statement_of s) rest) (both_listed ss)
 
-pub if_blocks : (n : Box (Spanned IfCondNode) Global) → blocks_in (statement_of (IfCond n))
-    ≡ blocks_of n.value.node.true_body.items ++ blocks_of n.value.node.false_body.items
-if_blocks n = search (rules, the_lemmas, statements_row)
-
-pub with_blocks : (n : Box (Spanned WithBlockNode) Global) → blocks_in (statement_of (WithBlock n)) ≡ blocks_of n.value.node.body.items
-with_blocks n = search (rules, the_lemmas, statements_row)
-
-pub set_blocks : (n : Box (Spanned SetBlockNode) Global) → blocks_in (statement_of (SetBlock n)) ≡ blocks_of n.value.node.body.items
-set_blocks n = search (rules, the_lemmas, statements_row)
-
-pub escape_blocks : (n : Box (Spanned AutoEscapeNode) Global) → blocks_in (statement_of (AutoEscape n)) ≡ blocks_of n.value.node.body.items
-escape_blocks n = search (rules, the_lemmas, statements_row)
-
-pub filter_blocks : (n : Box (Spanned FilterBlockNode) Global) → blocks_in (statement_of (FilterBlock n)) ≡ blocks_of n.value.node.body.items
-filter_blocks n = search (rules, the_lemmas, statements_row)
-
-pub block_blocks : (n : Box (Spanned BlockNode) Global) → blocks_in (statement_of (Block n))
-    ≡ (n.value.node.name.now ∷ []) ++ blocks_of n.value.node.body.items
-block_blocks n = search (rules, the_lemmas, statements_row)
-
-pub macro_blocks : (n : Box (Spanned MacroNode) Global) → blocks_in (statement_of (Macro n)) ≡ blocks_of n.value.node.body.items
-macro_blocks n = search (rules, the_lemmas, statements_row)
-
-with_value : Box (Spanned CallBlockNode) Global → CallBlockNode → Box (Spanned CallBlockNode) Global
-with_value n v = record { ptr = n.ptr; alloc = n.alloc; value = record { node = v; span = n.value.span } }
-
-call_by : (n : Box (Spanned CallBlockNode) Global) (v : CallBlockNode) → blocks_in (statement_of (CallBlock (with_value n v)))
-    ≡ blocks_of (out-CallBlock v).macro_decl.value.node.body.items
-unfolding with_value out-CallBlock
-call_by n (called call q name args defaults shape body inner) = search (rules, the_lemmas, statements_row)
-
-pub call_blocks : (n : Box (Spanned CallBlockNode) Global) → blocks_in (statement_of (CallBlock n))
-    ≡ blocks_of (out-CallBlock n.value.node).macro_decl.value.node.body.items
-unfolding with_value
-call_blocks n = call_by n n.value.node
-
--- the body of its macro is less deep than it
-call_below : (n : Box (Spanned CallBlockNode) Global) (v : CallBlockNode) →
-    body_deep (out-CallBlock v).macro_decl.value.node.body.items < size-Stmt (CallBlock (with_value n v))
-unfolding with_value out-CallBlock
-call_below n (called call q name args defaults shape body inner) =
-    all_below size-Stmt _ _ (search (rules, the_lemmas)) (λ i d h. search (rules, the_lemmas))
-
-pub call_deep : (s : Stmt) (n : Box (Spanned CallBlockNode) Global) (body : List Stmt) → s ≡ CallBlock n →
-    body ≡ (out-CallBlock n.value.node).macro_decl.value.node.body.items → body_deep body < size-Stmt s
-unfolding with_value
-call_deep s n body node read = rw (node, read) (call_below n n.value.node)
-
--- what is still to be taken: a statement's parts, the parts behind one that is taken, and a body to its end
-pub parts : {bs : List (List ℕ)} (ns : List (List ℕ)) {s x : Stmt} {all : List (List ℕ)} → s ≡ x → blocks_in (statement_of x) ≡ bs →
-    ns ++ blocks_in (statement_of s) ≡ all → ns ++ bs ≡ all
-parts ns is tree left = ap (λ l. ns ++ l) (sym tree) ∙ ap (λ (y : Stmt). ns ++ blocks_in (statement_of y)) (sym is) ∙ left
-
-pub nothing : (ns : List (List ℕ)) {s x : Stmt} {all : List (List ℕ)} → s ≡ x → blocks_in (statement_of x) ≡ [] →
-    ns ++ blocks_in (statement_of s) ≡ all → ns ≡ all
-nothing ns is tree left = sym (append-nil ns) ∙ parts ns is tree left
-
-pub behind : {all : List (List ℕ)} (ns ms part rest : List (List ℕ)) → ms ≡ ns ++ part → ns ++ (part ++ rest) ≡ all → ms ++ rest ≡ all
-behind ns ms part rest taken left = ap (λ l. l ++ rest) taken ∙ append_assoc ns part rest ∙ left
-
-pub body_behind : {all : List (List ℕ)} {read body : List Stmt} (ns ms rest : List (List ℕ)) → read ≡ body → ms ≡ ns ++ blocks_of read →
-    ns ++ (blocks_of body ++ rest) ≡ all → ms ++ rest ≡ all
-body_behind {body = body} ns ms rest same taken left =
-    behind ns ms (blocks_of body) rest (taken ∙ ap (λ (ss : List Stmt). ns ++ blocks_of ss) same) left
-
-pub body_end : {T E : Type 0} {all : List (List ℕ)} {read body : List Stmt} (ns ms : List (List ℕ)) (r : Result T E) → read ≡ body →
-    IfOk r (λ _. ms ≡ ns ++ blocks_of read) → ns ++ blocks_of body ≡ all → IfOk r (λ _. ms ≡ all)
-body_end ns ms (Ok value) same taken left = taken ∙ ap (λ (ss : List Stmt). ns ++ blocks_of ss) same ∙ left
-body_end ns ms (Err error) same taken left = tt
-
--- the statements of a body, one behind the other
-drop_at : (xs : List Stmt) (i : ℕ) (x : Stmt) → i < length xs → x ≡ get_or xs i x → drop i xs ≡ x ∷ drop (i + 1) xs
-drop_at xs i x within read =
-    let more : suc i ≡ i + 1 = omega arith in
-    drop-cons xs i x within ∙ ap (λ (n : ℕ). get_or xs i x ∷ drop n xs) more ∙ ap (λ y. y ∷ drop (i + 1) xs) (sym read)
-
-drop_none : (xs : List Stmt) (i : ℕ) → length xs ≤ i → drop i xs ≡ []
-drop_none [] zero h = refl
-drop_none [] (suc i) h = refl
-drop_none (x ∷ xs) zero h = absurd (omega (arith, h))
-drop_none (x ∷ xs) (suc i) h = drop_none xs i (omega (arith, h))
-
-pub body_item : {all : List (List ℕ)} (ns ms : List (List ℕ)) (xs : List Stmt) (i : ℕ) (x : Stmt) → i < length xs → x ≡ get_or xs i x →
-    ms ≡ ns ++ blocks_in (statement_of x) → ns ++ blocks_of (drop i xs) ≡ all → ms ++ blocks_of (drop (i + 1) xs) ≡ all
-body_item ns ms xs i x within read taken left =
-    behind ns ms (blocks_in (statement_of x)) (blocks_of (drop (i + 1) xs)) taken
-    (ap (λ (ss : List Stmt). ns ++ blocks_of ss) (sym (drop_at xs i x within read)) ∙ left)
-
--- one without a block
-pub body_skipped : {all : List (List ℕ)} (ns : List (List ℕ)) (xs : List Stmt) (i : ℕ) (x : Stmt) → i < length xs → x ≡ get_or xs i x →
-    blocks_in (statement_of x) ≡ [] → ns ++ blocks_of (drop i xs) ≡ all → ns ++ blocks_of (drop (i + 1) xs) ≡ all
-body_skipped ns xs i x within read none left =
-    body_item ns ns xs i x within read (sym (append-nil ns) ∙ ap (λ bs. ns ++ bs) (sym none)) left
-
-pub body_done : {all : List (List ℕ)} (ns : List (List ℕ)) (xs : List Stmt) (i : ℕ) → length xs ≤ i → ns ++ blocks_of (drop i xs) ≡ all → ns ≡ all
-body_done ns xs i past left =
-    sym (append-nil ns) ∙ ap (λ (ss : List Stmt). ns ++ blocks_of ss) (sym (drop_none xs i past)) ∙ left
-
--- an `elif`
-pub only_blocks : (body : List Stmt) (s : Stmt) → length body ≡ 1 → s ≡ get_or body 0 s → blocks_in (statement_of s) ≡ blocks_of body
-only_blocks [] s one read = absurd (omega (arith, one))
-only_blocks (x ∷ []) s one read = ap (λ (y : Stmt). blocks_in (statement_of y)) read ∙ sym (append-nil (blocks_in (statement_of x)))
-only_blocks (x ∷ y ∷ body) s one read = absurd (omega (arith, one))
-
-else_below : (n : Box (Spanned IfCondNode) Global) (i : ℕ) (d : Stmt) → i < length n.value.node.false_body.items
-    → size-Stmt (get_or n.value.node.false_body.items i d) < size-Stmt (IfCond n)
-else_below n i d within = search (rules, the_lemmas)
-
-pub else_less : (s : Stmt) (n : Box (Spanned IfCondNode) Global) (i : ℕ) (d : Stmt) → s ≡ IfCond n → i < length n.value.node.false_body.items
-    → size-Stmt (get_or n.value.node.false_body.items i d) < size-Stmt s
-else_less s n i d node within = rw node (else_below n i d within)
-
-pub else_smaller : (s : Stmt) (n : Box (Spanned IfCondNode) Global) (i : ℕ) (d : Stmt) → s ≡ IfCond n → i < length n.value.node.false_body.items
-    → size-Stmt (get_or n.value.node.false_body.items i d) ≤ size-Stmt s
-else_smaller s n i d node within = rw node (let less = else_below n i d within in omega (arith, less))
+-- the names of those that are picked are those of the blocks
+pub names_of : (body : List Stmt) →
+    joined [] ◌++◌ own_name (picked_among is_block (λ s. true) (parts.statements_in body)) ≡ blocks_among (statements_in body)
+names_of body =
+    said [] ◌++◌ append_assoc append-nil (λ x. refl) is_block (λ s. true) own_name blocks_in blocks_among none_picked refl (λ s ss. refl) own_first
+    (parts.statements_in body) ∙ ap blocks_among (both_listed body)

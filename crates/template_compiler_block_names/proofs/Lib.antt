@@ -1,4 +1,3 @@
 mod Blocks
-mod Deep
 pub mod Lists
 pub mod Seeing

@@ -1,0 +1,4 @@
+pub mod Trees
+pub mod Deep
+pub mod Others
+pub mod Picked
