@@ -1,4 +1,3 @@
-mod Deep
 pub mod Lists
 pub mod Runnable
 mod Taking

@@ -2,7 +2,6 @@
 #![tactic(auto)]
 
 mod begin;
-mod bodies;
 mod closures;
 mod listing;
 mod parts;

@@ -1,17 +1,41 @@
-//! The units of a template, in order of place. A chain of `elif` is gone along in a loop; other bodies nest at most 150 deep.
-ghost use Rattle.std.specs.Prelude.{◌≡◌, ◌++◌, ◌∷◌, [], IfOk};
+//! The units of a template, in order of place.
+ghost use Rattle.std.specs.Prelude.{◌≡◌, ◌++◌, ◌∷◌, [], IfOk, refl, true};
 ghost use Rattle.template_tree.specs.View.{expression_of};
 ghost use Rattle.template_tree_statements.specs.View.{statement_of};
 ghost use Rattle.template_tree_parts.specs.Listed.{statements_in};
-ghost use Rattle.template_names_statements.specs.Choices.{choice_of};
-ghost use Rattle.template_names_closures.specs.Bodies.{own_part};
+ghost use Rattle.template_names_closures.specs.Bodies.{is_part, own_part};
 ghost use Rattle.template_names_closures.specs.Units.{part_of, parts_in, rounds_of, units_among, units_of};
 
 use crate::Unit;
-use crate::bodies::{body_of, choice_body, choice_other, other_of};
 use std::alloc::{AllocError, Global};
-use template_tree::Spanned;
-use template_tree_statements::{ForLoop, IfCond, Stmt};
+use template_tree_bodies::{Picks, pick_among, pick_of};
+use template_tree_statements::{ForLoop, Stmt};
+
+// The statements that are units, wherever they stand.
+struct UnitStatements;
+
+impl Picks for UnitStatements {
+    ghost enters = { λ statement. true };
+
+    ghost picks = { is_part };
+
+    fn enters(_statement: &Stmt<'_>) -> bool {
+        true
+    }
+
+    fn picks(statement: &Stmt<'_>) -> bool {
+        match statement {
+            Stmt::Template(_) => true,
+            Stmt::Block(_) => true,
+            Stmt::ForLoop(n) => n.node.recursive,
+            _ => false,
+        }
+    }
+
+    ghost passes_text = { λ text. refl };
+
+    ghost passes_print = { λ e. refl };
+}
 
 /// The units of a tree, in order of place: the template first, then each block and each recursive loop, those inside
 /// others too. Linear.
@@ -25,8 +49,11 @@ pub fn units<'tree, 'source>(
 ) -> Result<Vec<Unit<'tree, 'source>>, AllocError>
     ensures { IfOk result (λ units. parts_in units.items ≡ units_of (statement_of tree.now)) }
 {
+    let statements = pick_of::<UnitStatements>(alloc, tree)?;
     let mut found = Vec::new(alloc);
-    take_units_of(&mut found, tree)?;
+    for i in 0..statements.len() {
+        take_own(&mut found, statements[i])?;
+    }
     Ok(found)
 }
 
@@ -41,72 +68,12 @@ pub fn units_among<'tree, 'source>(
 ) -> Result<Vec<Unit<'tree, 'source>>, AllocError>
     ensures { IfOk result (λ units. parts_in units.items ≡ units_among (statements_in body.now)) }
 {
+    let statements = pick_among::<UnitStatements>(alloc, body)?;
     let mut found = Vec::new(alloc);
-    take_units(&mut found, body)?;
+    for i in 0..statements.len() {
+        take_own(&mut found, statements[i])?;
+    }
     Ok(found)
-}
-
-// The units in the statements of a body.
-#[cycle(statement)]
-fn take_units<'tree, 'source>(
-    found: &mut Vec<Unit<'tree, 'source>>,
-    body: &'tree [Stmt<'source>],
-) -> Result<(), AllocError>
-    ensures { IfOk result (λ _. parts_in found.new.items ≡ parts_in found.old.items ++ units_among (statements_in body.now)) }
-{
-    for statement in body {
-        take_units_of(found, statement)?;
-    }
-    Ok(())
-}
-
-// The units in a statement.
-#[cycle(statement)]
-fn take_units_of<'tree, 'source>(
-    found: &mut Vec<Unit<'tree, 'source>>,
-    statement: &'tree Stmt<'source>,
-) -> Result<(), AllocError>
-    ensures { IfOk result (λ _. parts_in found.new.items ≡ parts_in found.old.items ++ units_of (statement_of statement.now)) }
-{
-    match statement {
-        Stmt::IfCond(n) => take_chain(found, n),
-        _ => take_parts(found, statement),
-    }
-}
-
-// Its own unit first, then those in its bodies.
-#[cycle(statement)]
-fn take_parts<'tree, 'source>(
-    found: &mut Vec<Unit<'tree, 'source>>,
-    statement: &'tree Stmt<'source>,
-) -> Result<(), AllocError>
-    ensures { IfOk result (λ _. parts_in found.new.items ≡ parts_in found.old.items ++ units_of (statement_of statement.now)) }
-{
-    take_own(found, statement)?;
-    take_units(found, body_of(statement))?;
-    take_units(found, other_of(statement))
-}
-
-// The units in an `if`, and in those that are alone in its else part.
-#[cycle(statement)]
-fn take_chain<'tree, 'source>(
-    found: &mut Vec<Unit<'tree, 'source>>,
-    first: &'tree Box<Spanned<IfCond<'source>>>,
-) -> Result<(), AllocError>
-    ensures { IfOk result (λ _. parts_in found.new.items ≡ parts_in found.old.items ++ units_of (choice_of first.now)) }
-{
-    let mut at = first;
-    loop {
-        let node = &at.node;
-        take_units(found, choice_body(node))?;
-        if node.false_body.len() != 1 {
-            return take_units(found, choice_other(node));
-        }
-        at = match &node.false_body[0] {
-            Stmt::IfCond(n) => n,
-            _ => return take_units(found, choice_other(node)),
-        };
-    }
 }
 
 // The unit that a statement is itself, if it is one.
@@ -120,23 +87,7 @@ fn take_own<'tree, 'source>(
         Stmt::Template(n) => take(found, Unit::Template(&n.node)),
         Stmt::Block(n) => take(found, Unit::Block(&n.node)),
         Stmt::ForLoop(n) => take_rounds(found, &n.node),
-        Stmt::EmitExpr(_) => Ok(()),
-        Stmt::EmitRaw(_) => Ok(()),
-        Stmt::IfCond(_) => Ok(()),
-        Stmt::WithBlock(_) => Ok(()),
-        Stmt::Set(_) => Ok(()),
-        Stmt::SetBlock(_) => Ok(()),
-        Stmt::AutoEscape(_) => Ok(()),
-        Stmt::FilterBlock(_) => Ok(()),
-        Stmt::Import(_) => Ok(()),
-        Stmt::FromImport(_) => Ok(()),
-        Stmt::Extends(_) => Ok(()),
-        Stmt::Include(_) => Ok(()),
-        Stmt::Macro(_) => Ok(()),
-        Stmt::CallBlock(_) => Ok(()),
-        Stmt::Continue(_) => Ok(()),
-        Stmt::Break(_) => Ok(()),
-        Stmt::Do(_) => Ok(()),
+        _ => Ok(()),
     }
 }
 

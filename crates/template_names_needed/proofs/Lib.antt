@@ -1,4 +1,3 @@
-mod Deep
 mod Looping
 mod Taking
 mod Telling

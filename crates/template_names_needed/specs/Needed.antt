@@ -1,7 +1,7 @@
 -- The names that a template takes of its context.
 use Rattle.std.specs.Prelude.{◌≡◌, ℕ, Bool, true, false, not, ◌&&◌, ◌||◌, List, [], ◌∷◌}
 use Rattle.std.specs.Borrow.{Bor}
-use Rattle.template_tree.specs.Tree.{Statements}
+use Rattle.template_tree.specs.Tree.{Statement, Statements, from_import}
 use Rattle.template_tree_statements.specs.declared.statements.Block.{Block}
 use Rattle.template_tree_parts.specs.Listed.{statements_in}
 use Rattle.template_machine_meaning.specs.Isolation.{is_needed, is_used_by_block, is_used_by_rounds}
@@ -10,6 +10,7 @@ use Rattle.template_names.specs.Names.{Places, is_stored_everywhere, is_used, pl
 use Rattle.template_names_closures.specs.Units.{Part, part_of, place_in_rounds, whole}
 use Rattle.template_names_closures.specs.declared.parts.Unit.{Unit}
 use Rattle.template_walk.specs.Blocks.{blocks_in}
+use Rattle.template_walk.specs.Imported.{is_one_of}
 
 -- as a test of names
 abbrev pub needed_by : Statements → Among
@@ -42,3 +43,8 @@ has_whole (part ∷ parts) = is_whole part || has_whole parts
 abbrev pub is_used_by_one : List ℕ → Statements → Bool
 is_used_by_one name tree =
     (is_used name tree || is_used_by_block name (blocks_in tree)) || (not (is_stored_everywhere name) && is_used_by_rounds name tree)
+
+-- the names that a statement imports itself
+abbrev pub own_imports : Statement → Among
+own_imports (from_import _ names) name = is_one_of name names
+own_imports _ name = false

@@ -1,15 +1,38 @@
-//! The names that statements import. A chain of `elif` is gone along in a loop; other bodies nest at most 150 deep.
-ghost use Rattle.std.specs.Prelude.{◌≡◌, ℕ, List, IfOk};
+//! The names that statements import.
+ghost use Rattle.std.specs.Prelude.{◌≡◌, ℕ, not, List, IfOk, refl};
 ghost use Rattle.template_tree.specs.View.{expression_of};
 ghost use Rattle.template_tree_statements.specs.View.{imports_in, statement_of};
+ghost use Rattle.template_tree_bodies.specs.Kinds.{is_import, is_template};
 ghost use Rattle.template_tree_parts.specs.Listed.{statements_in};
-ghost use Rattle.template_walk.specs.Imported.{is_imported, is_imported_by, is_name, is_one_of};
+ghost use Rattle.template_walk.specs.Imported.{is_imported, is_name, is_one_of};
 ghost use Rattle.template_names.specs.Among.{is_among, just};
-ghost use Rattle.template_names_needed.specs.Needed.{Takes};
+ghost use Rattle.template_names_needed.specs.Needed.{Takes, own_imports};
 
 use std::alloc::{AllocError, Global};
 use template_tree::Expr;
+use template_tree_bodies::{Picks, pick_among};
 use template_tree_statements::Stmt;
+
+// The statements that import names of others; a template inside another keeps its own.
+struct Imports;
+
+impl Picks for Imports {
+    ghost enters = { λ statement. not (is_template statement) };
+
+    ghost picks = { is_import };
+
+    fn enters(statement: &Stmt<'_>) -> bool {
+        !matches!(statement, Stmt::Template(_))
+    }
+
+    fn picks(statement: &Stmt<'_>) -> bool {
+        matches!(statement, Stmt::FromImport(_))
+    }
+
+    ghost passes_text = { λ text. refl };
+
+    ghost passes_print = { λ e. refl };
+}
 
 /// The names that statements import from others; one that is imported again may stand there again. Linear.
 ///
@@ -22,70 +45,24 @@ pub fn imported_names<'source>(
 ) -> Result<Vec<&'source str>, AllocError>
     ensures { IfOk result (λ names. (name : List ℕ) → is_among names.items name ≡ is_imported name (statements_in body.now)) }
 {
+    let statements = pick_among::<Imports>(alloc, body)?;
     let mut names = Vec::new(alloc);
-    take_imported(&mut names, body)?;
+    for i in 0..statements.len() {
+        take_imports(&mut names, statements[i])?;
+    }
     Ok(names)
 }
 
-// The names that the statements of a body import.
-#[cycle(statement)]
-fn take_imported<'source>(
-    names: &mut Vec<&'source str>,
-    body: &[Stmt<'source>],
-) -> Result<(), AllocError>
-    ensures { IfOk result (λ _. Takes (λ name. is_imported name (statements_in body.now)) names.old.items names.new.items) }
-{
-    for statement in body {
-        take_imported_by(names, statement)?;
-    }
-    Ok(())
-}
-
-// The names that a statement imports.
-#[cycle(statement)]
-fn take_imported_by<'source>(
+// The names that a statement imports itself.
+fn take_imports<'source>(
     names: &mut Vec<&'source str>,
     statement: &Stmt<'source>,
 ) -> Result<(), AllocError>
-    ensures { IfOk result (λ _. Takes (λ name. is_imported_by name (statement_of statement.now)) names.old.items names.new.items) }
+    ensures { IfOk result (λ _. Takes (own_imports (statement_of statement.now)) names.old.items names.new.items) }
 {
-    let mut at = statement;
-    loop {
-        at = match at {
-            Stmt::IfCond(n) => {
-                take_imported(names, &n.node.true_body)?;
-                let other = &n.node.false_body;
-                if other.len() != 1 {
-                    return take_imported(names, other);
-                }
-                &other[0]
-            }
-            Stmt::ForLoop(n) => {
-                take_imported(names, &n.node.body)?;
-                return take_imported(names, &n.node.else_body);
-            }
-            Stmt::WithBlock(n) => return take_imported(names, &n.node.body),
-            Stmt::SetBlock(n) => return take_imported(names, &n.node.body),
-            Stmt::AutoEscape(n) => return take_imported(names, &n.node.body),
-            Stmt::FilterBlock(n) => return take_imported(names, &n.node.body),
-            Stmt::Block(n) => return take_imported(names, &n.node.body),
-            Stmt::Macro(n) => return take_imported(names, &n.node.body),
-            Stmt::CallBlock(n) => {
-                let declared = &n.node.macro_decl.node;
-                return take_imported(names, &declared.body);
-            }
-            Stmt::FromImport(n) => return take_names(names, &n.node.names),
-            Stmt::Template(_) => return Ok(()),
-            Stmt::EmitExpr(_) => return Ok(()),
-            Stmt::EmitRaw(_) => return Ok(()),
-            Stmt::Set(_) => return Ok(()),
-            Stmt::Import(_) => return Ok(()),
-            Stmt::Extends(_) => return Ok(()),
-            Stmt::Include(_) => return Ok(()),
-            Stmt::Continue(_) => return Ok(()),
-            Stmt::Break(_) => return Ok(()),
-            Stmt::Do(_) => return Ok(()),
-        };
+    match statement {
+        Stmt::FromImport(n) => take_names(names, &n.node.names),
+        _ => Ok(()),
     }
 }
 

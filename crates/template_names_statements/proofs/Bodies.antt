@@ -1,24 +1,16 @@
--- The trees of statements, from the parts that a node holds, and walks of statements seen by their trees.
-use Rattle.std.proofs.Common.{◌≡◌, ◌<◌, ◌==◌, ℕ, Bool, true, false, Result, OnOk, List as Items, [], ◌∷◌, length, Box, Global, rules, arith, refl, sym, ap, ◌∙◌}
+-- Walks of statements seen by their trees.
+use Rattle.std.proofs.Common.{◌≡◌, ◌==◌, ℕ, Bool, true, false, Result, OnOk, List as Items, [], ◌∷◌, length, arith, sym, ap, ◌∙◌}
 use Rattle.std.proofs.lemmas.Bool.Decides.{nat_tests}
-use Rattle.template_tree.specs.Tree.{Statement, set_block, filter_block, block, macro, call_block}
-use Rattle.template_tree.specs.View.{expression_of, expressions_in, arguments_in, optional_in}
+use Rattle.template_tree.specs.Tree.{Statement}
+use Rattle.template_tree.specs.View.{expressions_in}
 use Rattle.template_tree_statements.specs.View.{statement_of}
 use Rattle.template_tree.specs.declared.expressions.Expr.{Expr}
-use Rattle.template_tree.specs.declared.span.Spanned.{Spanned}
-use Rattle.template_tree_statements.specs.declared.statements.Block.{Block as BlockNode}
-use Rattle.template_tree_statements.specs.declared.statements.CallBlock.{CallBlock, CallBlock' as called, out-CallBlock}
-use Rattle.template_tree_statements.specs.declared.statements.FilterBlock.{FilterBlock as FilterBlockNode}
-use Rattle.template_tree_statements.specs.declared.statements.Macro.{Macro as MacroNode}
-use Rattle.template_tree_statements.specs.declared.statements.SetBlock.{SetBlock as SetBlockNode}
-use Rattle.template_tree_statements.specs.declared.statements.Stmt.{Stmt, size-Stmt, Block, CallBlock as calls, FilterBlock, Macro, SetBlock, the_lemmas}
+use Rattle.template_tree_statements.specs.declared.statements.Stmt.{Stmt}
 use Rattle.template_tree_parts.specs.Listed.{statements_in}
-use Rattle.template_tree_parts.proofs.Rows.{statements_row}
 use Rattle.template_names.specs.Names.{Places, is_stored_by, place_by, place_of_macro, place_within}
 use Rattle.template_names.specs.declared.state.Names.{Names}
 use Rattle.template_names.specs.Among.{Among, nothing}
 use Rattle.template_names.specs.Goes.{Goes}
-use Rattle.template_names_statements.proofs.Deep.{all_below, body_deep}
 use Rattle.template_names.proofs.Laws.{goes_as, goes_nowhere, goes_on, uses_as}
 
 -- a walk of a node is one of the statement that it stands in
@@ -49,51 +41,6 @@ pub at_none : {s x : Stmt} (a : Names) → s ≡ x → ((q : Places) → false �
 at_none a is uses stores =
     goes_as (λ q. uses q ∙ ap (λ (y : Stmt). place_by q (statement_of y)) (sym is))
     (λ q. stores q ∙ ap (λ (y : Stmt). is_stored_by q (statement_of y)) (sym is)) (goes_nowhere a)
-
-pub set_block_tree : (n : Box (Spanned SetBlockNode) Global) → statement_of (SetBlock n)
-    ≡ set_block (expression_of n.value.node.target) (optional_in n.value.node.filter) (statements_in n.value.node.body.items)
-set_block_tree n = search (rules, the_lemmas, statements_row)
-
-pub filter_block_tree : (n : Box (Spanned FilterBlockNode) Global) → statement_of (FilterBlock n)
-    ≡ filter_block (expression_of n.value.node.filter) (statements_in n.value.node.body.items)
-filter_block_tree n = search (rules, the_lemmas, statements_row)
-
-pub block_tree : (n : Box (Spanned BlockNode) Global) → statement_of (Block n)
-    ≡ block n.value.node.name.now n.value.node.required (statements_in n.value.node.body.items)
-block_tree n = search (rules, the_lemmas, statements_row)
-
-pub macro_tree : (n : Box (Spanned MacroNode) Global) → statement_of (Macro n)
-    ≡ macro n.value.node.name.now (expressions_in n.value.node.args.items) (expressions_in n.value.node.defaults.items) (statements_in n.value.node.body.items)
-macro_tree n = search (rules, the_lemmas, statements_row)
-
-with_value : Box (Spanned CallBlock) Global → CallBlock → Box (Spanned CallBlock) Global
-with_value n v = record { ptr = n.ptr; alloc = n.alloc; value = record { node = v; span = n.value.span } }
-
-call_by : (n : Box (Spanned CallBlock) Global) (v : CallBlock) → statement_of (calls (with_value n v))
-    ≡ call_block (expression_of (out-CallBlock v).call.value.node.expr) (arguments_in (out-CallBlock v).call.value.node.args.items)
-    (expressions_in (out-CallBlock v).macro_decl.value.node.args.items) (expressions_in (out-CallBlock v).macro_decl.value.node.defaults.items)
-    (statements_in (out-CallBlock v).macro_decl.value.node.body.items)
-unfolding with_value out-CallBlock
-call_by n (called call q name args defaults shape body inner) = search (rules, the_lemmas, statements_row)
-
-pub call_tree : (n : Box (Spanned CallBlock) Global) → statement_of (calls n)
-    ≡ call_block (expression_of (out-CallBlock n.value.node).call.value.node.expr) (arguments_in (out-CallBlock n.value.node).call.value.node.args.items)
-    (expressions_in (out-CallBlock n.value.node).macro_decl.value.node.args.items) (expressions_in (out-CallBlock n.value.node).macro_decl.value.node.defaults.items)
-    (statements_in (out-CallBlock n.value.node).macro_decl.value.node.body.items)
-unfolding with_value
-call_tree n = call_by n n.value.node
-
--- and the body of its macro is less deep than it
-call_below : (n : Box (Spanned CallBlock) Global) (v : CallBlock) →
-    body_deep (out-CallBlock v).macro_decl.value.node.body.items < size-Stmt (calls (with_value n v))
-unfolding with_value out-CallBlock
-call_below n (called call q name args defaults shape body inner) =
-    all_below size-Stmt _ _ (search (rules, the_lemmas)) (λ i d h. search (rules, the_lemmas))
-
-pub call_deep : (s : Stmt) (n : Box (Spanned CallBlock) Global) (body : Items Stmt) → s ≡ calls n →
-    body ≡ (out-CallBlock n.value.node).macro_decl.value.node.body.items → body_deep body < size-Stmt s
-unfolding with_value
-call_deep s n body node read = rw (node, read) (call_below n n.value.node)
 
 -- a macro, by the lists that are read from its node
 pub macro_reads : (q : Places) {body body' : Items Stmt} {arguments arguments' defaults defaults' : Items Expr} →

@@ -11,16 +11,6 @@ use Rattle.template_tree.specs.declared.expressions.Tuple.{Tuple as TupleNode}
 use Rattle.template_tree.specs.declared.expressions.UnaryOp.{UnaryOp as UnaryOpNode}
 use Rattle.template_tree.specs.declared.expressions.Expr.{Expr, size-Expr, BinOp, Compare as CompareNode, GetItem, IfExpr, List, Map, Tuple, UnaryOp, the_lemmas as expressions}
 use Rattle.template_tree.specs.declared.span.Spanned.{Spanned}
-use Rattle.template_tree_statements.specs.declared.statements.AutoEscape.{AutoEscape as AutoEscapeNode}
-use Rattle.template_tree_statements.specs.declared.statements.Block.{Block as BlockNode}
-use Rattle.template_tree_statements.specs.declared.statements.FilterBlock.{FilterBlock as FilterBlockNode}
-use Rattle.template_tree_statements.specs.declared.statements.ForLoop.{ForLoop as ForLoopNode}
-use Rattle.template_tree_statements.specs.declared.statements.IfCond.{IfCond as IfCondNode}
-use Rattle.template_tree_statements.specs.declared.statements.Macro.{Macro as MacroNode}
-use Rattle.template_tree_statements.specs.declared.statements.SetBlock.{SetBlock as SetBlockNode}
-use Rattle.template_tree_statements.specs.declared.statements.Template.{Template as TemplateNode}
-use Rattle.template_tree_statements.specs.declared.statements.WithBlock.{WithBlock as WithBlockNode}
-use Rattle.template_tree_statements.specs.declared.statements.Stmt.{Stmt, size-Stmt, AutoEscape, Block, FilterBlock, ForLoop, IfCond, Macro, SetBlock, Template, WithBlock, the_lemmas}
 
 abbrev pub deepest : {A : Type 0} → (A → ℕ) → Items A → ℕ
 deepest deep [] = 0
@@ -40,16 +30,16 @@ all_below deep (x ∷ xs) m h all =
     omega (arith, first, rest)
 
 -- measures of the walk of statements: a body, a node, and the statements of a body
-pub body_falls : (d s t : ℕ) → d < s → 8 * s + 5 ≡ t → 8 * d + 8 < t
+pub body_falls : (d s t : ℕ) → d ≤ s → 8 * s + 5 ≡ t → 8 * d + 1 < t
 body_falls d s t less is = omega (arith, less, is)
 
-pub part_falls : (d s t : ℕ) → d < s → 8 * s + 4 ≡ t → 8 * d + 8 < t
+pub part_falls : (d s t : ℕ) → d ≤ s → 8 * s + 4 ≡ t → 8 * d + 1 < t
 part_falls d s t less is = omega (arith, less, is)
 
-pub part_falls_within : (d s r t : ℕ) → d < s → s ≤ r → 8 * r + 4 ≡ t → 8 * d + 8 < t
+pub part_falls_within : (d s r t : ℕ) → d ≤ s → s ≤ r → 8 * r + 4 ≡ t → 8 * d + 1 < t
 part_falls_within d s r t less within is = omega (arith, less, within, is)
 
-pub region_falls : (d s t : ℕ) → d < s → 8 * s + 4 ≡ t → 8 * d + 7 < t
+pub region_falls : (d s t : ℕ) → d ≤ s → 8 * s + 4 ≡ t → 8 * d < t
 region_falls d s t less is = omega (arith, less, is)
 
 pub node_falls : (m s t : ℕ) → s ≡ m → 8 * s + 5 ≡ t → 8 * m + 4 < t
@@ -58,80 +48,11 @@ node_falls m s t same is = omega (arith, same, is)
 pub known_node_falls : (m s t : ℕ) → s ≡ m → 8 * s + 6 ≡ t → 8 * m + 4 < t
 known_node_falls m s t same is = omega (arith, same, is)
 
-pub item_falls : (m d t : ℕ) → m ≤ d → 8 * d + 7 ≡ t → 8 * m + 6 < t
+pub item_falls : (m d t : ℕ) → m < d → 8 * d ≡ t → 8 * m + 6 < t
 item_falls m d t within is = omega (arith, within, is)
 
-pub inside_falls : (d t : ℕ) → 8 * d + 8 ≡ t → 8 * d + 7 < t
+pub inside_falls : (d t : ℕ) → 8 * d + 1 ≡ t → 8 * d < t
 inside_falls d t is = omega (arith, is)
-
-abbrev pub body_deep : Items Stmt → ℕ
-body_deep body = deepest size-Stmt body
-
-template_below : (n : Spanned TemplateNode) → body_deep n.node.children.items < size-Stmt (Template n)
-template_below n = all_below size-Stmt n.node.children.items (size-Stmt (Template n)) (search (rules, the_lemmas)) (λ i d h. search (rules, the_lemmas))
-
-pub template_deep : (s : Stmt) (n : Spanned TemplateNode) (body : Items Stmt) → s ≡ Template n → body ≡ n.node.children.items → body_deep body < size-Stmt s
-template_deep s n body node read = rw (node, read) (template_below n)
-
-loop_below : (n : Box (Spanned ForLoopNode) Global) → body_deep n.value.node.body.items < size-Stmt (ForLoop n)
-loop_below n = all_below size-Stmt n.value.node.body.items (size-Stmt (ForLoop n)) (search (rules, the_lemmas)) (λ i d h. search (rules, the_lemmas))
-
-pub loop_deep : (s : Stmt) (n : Box (Spanned ForLoopNode) Global) (body : Items Stmt) → s ≡ ForLoop n → body ≡ n.value.node.body.items → body_deep body < size-Stmt s
-loop_deep s n body node read = rw (node, read) (loop_below n)
-
-loop_other_below : (n : Box (Spanned ForLoopNode) Global) → body_deep n.value.node.else_body.items < size-Stmt (ForLoop n)
-loop_other_below n = all_below size-Stmt n.value.node.else_body.items (size-Stmt (ForLoop n)) (search (rules, the_lemmas)) (λ i d h. search (rules, the_lemmas))
-
-pub loop_other_deep : (s : Stmt) (n : Box (Spanned ForLoopNode) Global) (body : Items Stmt) → s ≡ ForLoop n → body ≡ n.value.node.else_body.items → body_deep body < size-Stmt s
-loop_other_deep s n body node read = rw (node, read) (loop_other_below n)
-
-choice_below : (n : Box (Spanned IfCondNode) Global) → body_deep n.value.node.true_body.items < size-Stmt (IfCond n)
-choice_below n = all_below size-Stmt n.value.node.true_body.items (size-Stmt (IfCond n)) (search (rules, the_lemmas)) (λ i d h. search (rules, the_lemmas))
-
-pub choice_deep : (s : Stmt) (n : Box (Spanned IfCondNode) Global) (body : Items Stmt) → s ≡ IfCond n → body ≡ n.value.node.true_body.items → body_deep body < size-Stmt s
-choice_deep s n body node read = rw (node, read) (choice_below n)
-
-choice_other_below : (n : Box (Spanned IfCondNode) Global) → body_deep n.value.node.false_body.items < size-Stmt (IfCond n)
-choice_other_below n = all_below size-Stmt n.value.node.false_body.items (size-Stmt (IfCond n)) (search (rules, the_lemmas)) (λ i d h. search (rules, the_lemmas))
-
-pub choice_other_deep : (s : Stmt) (n : Box (Spanned IfCondNode) Global) (body : Items Stmt) → s ≡ IfCond n → body ≡ n.value.node.false_body.items → body_deep body < size-Stmt s
-choice_other_deep s n body node read = rw (node, read) (choice_other_below n)
-
-with_below : (n : Box (Spanned WithBlockNode) Global) → body_deep n.value.node.body.items < size-Stmt (WithBlock n)
-with_below n = all_below size-Stmt n.value.node.body.items (size-Stmt (WithBlock n)) (search (rules, the_lemmas)) (λ i d h. search (rules, the_lemmas))
-
-pub with_deep : (s : Stmt) (n : Box (Spanned WithBlockNode) Global) (body : Items Stmt) → s ≡ WithBlock n → body ≡ n.value.node.body.items → body_deep body < size-Stmt s
-with_deep s n body node read = rw (node, read) (with_below n)
-
-set_block_below : (n : Box (Spanned SetBlockNode) Global) → body_deep n.value.node.body.items < size-Stmt (SetBlock n)
-set_block_below n = all_below size-Stmt n.value.node.body.items (size-Stmt (SetBlock n)) (search (rules, the_lemmas)) (λ i d h. search (rules, the_lemmas))
-
-pub set_block_deep : (s : Stmt) (n : Box (Spanned SetBlockNode) Global) (body : Items Stmt) → s ≡ SetBlock n → body ≡ n.value.node.body.items → body_deep body < size-Stmt s
-set_block_deep s n body node read = rw (node, read) (set_block_below n)
-
-escape_below : (n : Box (Spanned AutoEscapeNode) Global) → body_deep n.value.node.body.items < size-Stmt (AutoEscape n)
-escape_below n = all_below size-Stmt n.value.node.body.items (size-Stmt (AutoEscape n)) (search (rules, the_lemmas)) (λ i d h. search (rules, the_lemmas))
-
-pub escape_deep : (s : Stmt) (n : Box (Spanned AutoEscapeNode) Global) (body : Items Stmt) → s ≡ AutoEscape n → body ≡ n.value.node.body.items → body_deep body < size-Stmt s
-escape_deep s n body node read = rw (node, read) (escape_below n)
-
-filter_block_below : (n : Box (Spanned FilterBlockNode) Global) → body_deep n.value.node.body.items < size-Stmt (FilterBlock n)
-filter_block_below n = all_below size-Stmt n.value.node.body.items (size-Stmt (FilterBlock n)) (search (rules, the_lemmas)) (λ i d h. search (rules, the_lemmas))
-
-pub filter_block_deep : (s : Stmt) (n : Box (Spanned FilterBlockNode) Global) (body : Items Stmt) → s ≡ FilterBlock n → body ≡ n.value.node.body.items → body_deep body < size-Stmt s
-filter_block_deep s n body node read = rw (node, read) (filter_block_below n)
-
-block_below : (n : Box (Spanned BlockNode) Global) → body_deep n.value.node.body.items < size-Stmt (Block n)
-block_below n = all_below size-Stmt n.value.node.body.items (size-Stmt (Block n)) (search (rules, the_lemmas)) (λ i d h. search (rules, the_lemmas))
-
-pub block_deep : (s : Stmt) (n : Box (Spanned BlockNode) Global) (body : Items Stmt) → s ≡ Block n → body ≡ n.value.node.body.items → body_deep body < size-Stmt s
-block_deep s n body node read = rw (node, read) (block_below n)
-
-macro_below : (n : Box (Spanned MacroNode) Global) → body_deep n.value.node.body.items < size-Stmt (Macro n)
-macro_below n = all_below size-Stmt n.value.node.body.items (size-Stmt (Macro n)) (search (rules, the_lemmas)) (λ i d h. search (rules, the_lemmas))
-
-pub macro_deep : (s : Stmt) (n : Box (Spanned MacroNode) Global) (body : Items Stmt) → s ≡ Macro n → body ≡ n.value.node.body.items → body_deep body < size-Stmt s
-macro_deep s n body node read = rw (node, read) (macro_below n)
 
 abbrev pub items_deep : Items Expr → ℕ
 items_deep items = deepest size-Expr items

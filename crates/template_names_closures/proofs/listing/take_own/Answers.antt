@@ -1,14 +1,16 @@
 use Rattle.std.proofs.Common.{[], ◌∷◌, refl, ap, sym, ◌∙◌}
 use Rattle.template_tree.specs.View.{expression_of}
 use Rattle.template_tree.specs.declared.span.Spanned.{Spanned}
+use Rattle.template_tree_statements.specs.View.{statement_of}
 use Rattle.template_tree_statements.specs.declared.statements.Block.{Block as BlockNode}
 use Rattle.template_tree_statements.specs.declared.statements.ForLoop.{ForLoop as ForLoopNode}
 use Rattle.template_tree_parts.specs.Listed.{statements_in}
-use Rattle.template_tree_parts.proofs.Trees.{whole_tree, for_tree}
-use Rattle.template_names_statements.proofs.Bodies.{block_tree, call_tree}
+use Rattle.template_tree_bodies.proofs.Others.{no_block, no_loop, no_template}
+use Rattle.template_tree_bodies.proofs.Trees.{block_tree}
+use Rattle.template_tree_parts.proofs.Trees.{for_tree, whole_tree}
 use Rattle.template_names_closures.specs.Bodies.{own_part}
 use Rattle.template_names_closures.specs.Units.{block_body, parts_in, rounds_of}
-use Rattle.template_names_closures.proofs.Taking.{none_taken, own_taken}
+use Rattle.template_names_closures.proofs.Taking.{no_part, none_picked, none_taken, own_taken}
 use Rattle.template_names_closures.proofs.listing.take_own.Goals as goal
 
 pub returns-in-Template : goal.returns-in-Template
@@ -28,53 +30,8 @@ returns-in-ForLoop c =
     sym (ap (λ t. own_part t) (for_tree c.in-ForLoop.n)) in
     own_taken _ _ _ c.in-ForLoop.is own c.take_rounds.result c.take_rounds.ensures
 
-pub returns-in-EmitExpr : goal.returns-in-EmitExpr
-returns-in-EmitExpr c = none_taken (parts_in c.args.found.now.items) c.in-EmitExpr.is refl
-
-pub returns-in-EmitRaw : goal.returns-in-EmitRaw
-returns-in-EmitRaw c = none_taken (parts_in c.args.found.now.items) c.in-EmitRaw.is refl
-
-pub returns-in-IfCond : goal.returns-in-IfCond
-returns-in-IfCond c = none_taken (parts_in c.args.found.now.items) c.in-IfCond.is refl
-
-pub returns-in-WithBlock : goal.returns-in-WithBlock
-returns-in-WithBlock c = none_taken (parts_in c.args.found.now.items) c.in-WithBlock.is refl
-
-pub returns-in-Set : goal.returns-in-Set
-returns-in-Set c = none_taken (parts_in c.args.found.now.items) c.in-Set.is refl
-
-pub returns-in-SetBlock : goal.returns-in-SetBlock
-returns-in-SetBlock c = none_taken (parts_in c.args.found.now.items) c.in-SetBlock.is refl
-
-pub returns-in-AutoEscape : goal.returns-in-AutoEscape
-returns-in-AutoEscape c = none_taken (parts_in c.args.found.now.items) c.in-AutoEscape.is refl
-
-pub returns-in-FilterBlock : goal.returns-in-FilterBlock
-returns-in-FilterBlock c = none_taken (parts_in c.args.found.now.items) c.in-FilterBlock.is refl
-
-pub returns-in-Import : goal.returns-in-Import
-returns-in-Import c = none_taken (parts_in c.args.found.now.items) c.in-Import.is refl
-
-pub returns-in-FromImport : goal.returns-in-FromImport
-returns-in-FromImport c = none_taken (parts_in c.args.found.now.items) c.in-FromImport.is refl
-
-pub returns-in-Extends : goal.returns-in-Extends
-returns-in-Extends c = none_taken (parts_in c.args.found.now.items) c.in-Extends.is refl
-
-pub returns-in-Include : goal.returns-in-Include
-returns-in-Include c = none_taken (parts_in c.args.found.now.items) c.in-Include.is refl
-
-pub returns-in-Macro : goal.returns-in-Macro
-returns-in-Macro c = none_taken (parts_in c.args.found.now.items) c.in-Macro.is refl
-
-pub returns-in-Continue : goal.returns-in-Continue
-returns-in-Continue c = none_taken (parts_in c.args.found.now.items) c.in-Continue.is refl
-
-pub returns-in-Break : goal.returns-in-Break
-returns-in-Break c = none_taken (parts_in c.args.found.now.items) c.in-Break.is refl
-
-pub returns-in-Do : goal.returns-in-Do
-returns-in-Do c = none_taken (parts_in c.args.found.now.items) c.in-Do.is refl
-
-pub returns-in-CallBlock : goal.returns-in-CallBlock
-returns-in-CallBlock c = none_taken (parts_in c.args.found.now.items) c.in-CallBlock.is (ap (λ t. own_part t) (call_tree c.in-CallBlock.field-0))
+pub returns-in_default : goal.returns-in_default
+returns-in_default c =
+    let s = c.args.statement.now in
+    let other = no_part (statement_of s) (no_template s c.in_default.not-Template) (no_block s c.in_default.not-Block) (no_loop s c.in_default.not-ForLoop) in
+    none_taken (parts_in c.args.found.now.items) refl (none_picked (statement_of s) other)

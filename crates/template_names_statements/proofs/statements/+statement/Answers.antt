@@ -6,7 +6,10 @@ use Rattle.template_tree_statements.specs.declared.statements.IfCond.{IfCond as 
 use Rattle.template_tree_statements.specs.declared.statements.Stmt.{Stmt, size-Stmt, ForLoop, IfCond, WithBlock}
 use Rattle.template_tree.specs.declared.expressions.Expr.{Expr}
 use Rattle.template_tree.specs.Tree.{Statement, template, set_block, auto_escape, filter_block, block, macro, call_block}
+use Rattle.template_tree_bodies.specs.Bodies.{body_deep}
 use Rattle.template_tree_parts.specs.Listed.{statements_in}
+use Rattle.template_tree_bodies.proofs.Deep.{deep_as, deep_at, whole_deep, for_deep, for_other_deep, if_deep, if_other_deep, with_deep, set_block_deep, escape_deep, filter_block_deep, block_deep, macro_deep, call_deep}
+use Rattle.template_tree_bodies.proofs.Trees.{set_block_tree, filter_block_tree, block_tree, macro_tree, call_tree}
 use Rattle.template_tree_parts.proofs.Trees.{whole_tree, for_tree, if_tree, with_tree, escape_tree}
 use Rattle.template_tree.specs.declared.calls.Call.{Call as CallNode}
 use Rattle.template_tree_statements.specs.declared.statements.AutoEscape.{AutoEscape as AutoEscapeNode}
@@ -23,12 +26,12 @@ use Rattle.template_tree_statements.specs.declared.statements.Macro.{Macro as Ma
 use Rattle.template_tree_statements.specs.declared.statements.SetBlock.{SetBlock as SetBlockNode}
 use Rattle.template_tree.specs.declared.span.Spanned.{Spanned}
 use Rattle.template_tree_statements.specs.declared.statements.WithBlock.{WithBlock as WithBlockNode}
-use Rattle.template_names_statements.proofs.Bodies.{at_arm, at_node, at_none, at_tree, call_deep, empty_region, macro_reads, set_block_tree, filter_block_tree, block_tree, macro_tree, call_tree}
+use Rattle.template_names_statements.proofs.Bodies.{at_arm, at_node, at_none, at_tree, empty_region, macro_reads}
 use Rattle.template_names.specs.Names.{is_imported, is_stored_by, is_stored_in, place_by, place_of_macro, place_in_target, place_from, place_within, place_if_given, place_in, place_in_arguments}
 use Rattle.template_names_statements.specs.Stores.{is_assigned, is_stored_among}
 use Rattle.template_names.specs.Among.{just}
 use Rattle.template_names.proofs.Laws.{goes_as, goes_end, goes_inside, goes_item, goes_then, goes_then_on, or_assoc, or_false, uses_as, uses_then, uses_then_on}
-use Rattle.template_names_statements.proofs.Deep.{body_deep, deep_at, body_falls, part_falls, part_falls_within, region_falls, node_falls, known_node_falls, item_falls, inside_falls, template_deep, loop_deep, loop_other_deep, choice_deep, choice_other_deep, with_deep, set_block_deep, escape_deep, filter_block_deep, block_deep, macro_deep}
+use Rattle.template_names_statements.proofs.Deep.{body_falls, part_falls, part_falls_within, region_falls, node_falls, known_node_falls, item_falls, inside_falls}
 use Rattle.template_names_statements.proofs.Storing.{used_from}
 use Rattle.template_names_statements.proofs.Walking.{loop_uses, chain_end, chain_goes, else_below, macro_uses}
 use Rattle.template_names_statements.proofs.statements.+statement.Goals as goal
@@ -275,27 +278,27 @@ use_other-returns-in_ok-use_call-in-CallBlock t c =
 pub use_chain-use_region-requires : goal.use_chain-use_region-requires
 use_chain-use_region-requires t c =
     let read = c.deref-in-loop-names.ensures.value ∙ ap (λ (x : Spanned IfCondNode). x.node.true_body.items) c.deref.ensures in
-    (part_falls_within _ _ (size-Stmt (IfCond c.args.first.now)) t (choice_deep (IfCond c.loop-names.at.now) c.loop-names.at.now c.deref-in-loop-names.result.now refl read) c.loop-names.invariant.deep c.decreases, tt)
+    (part_falls_within _ _ (size-Stmt (IfCond c.args.first.now)) t (deep_as refl read (if_deep c.loop-names.at.now)) c.loop-names.invariant.deep c.decreases, tt)
 
 pub use_chain-use_region-requires-then-len-ne1 : goal.use_chain-use_region-requires-then-len-ne1
 use_chain-use_region-requires-then-len-ne1 t c =
     let read = c.deref-then-len-ne1.ensures.value ∙ ap (λ (x : Spanned IfCondNode). x.node.false_body.items) c.deref.ensures in
-    (part_falls_within _ _ (size-Stmt (IfCond c.args.first.now)) t (choice_other_deep (IfCond c.loop-names.at.now) c.loop-names.at.now c.deref-then-len-ne1.result.now refl read) c.loop-names.invariant.deep c.decreases, tt)
+    (part_falls_within _ _ (size-Stmt (IfCond c.args.first.now)) t (deep_as refl read (if_other_deep c.loop-names.at.now)) c.loop-names.invariant.deep c.decreases, tt)
 
 pub use_chain-use_region-requires-in_default : goal.use_chain-use_region-requires-in_default
 use_chain-use_region-requires-in_default t c =
     let read = c.deref-in_default.ensures.value ∙ ap (λ (x : Spanned IfCondNode). x.node.false_body.items) c.deref.ensures in
-    (part_falls_within _ _ (size-Stmt (IfCond c.args.first.now)) t (choice_other_deep (IfCond c.loop-names.at.now) c.loop-names.at.now c.deref-in_default.result.now refl read) c.loop-names.invariant.deep c.decreases, tt)
+    (part_falls_within _ _ (size-Stmt (IfCond c.args.first.now)) t (deep_as refl read (if_other_deep c.loop-names.at.now)) c.loop-names.invariant.deep c.decreases, tt)
 
 pub use_loop-use_statements-requires : goal.use_loop-use_statements-requires
 use_loop-use_statements-requires t c =
     let read = c.deref-4.ensures.value ∙ ap (λ (x : Spanned ForLoopNode). x.node.body.items) c.deref-3.ensures in
-    (region_falls _ _ t (loop_deep (ForLoop c.args.node.now) c.args.node.now c.deref-4.result.now refl read) c.decreases, tt)
+    (region_falls _ _ t (deep_as refl read (for_deep c.args.node.now)) c.decreases, tt)
 
 pub use_loop-use_region-requires : goal.use_loop-use_region-requires
 use_loop-use_region-requires t c =
     let read = c.deref-6.ensures.value ∙ ap (λ (x : Spanned ForLoopNode). x.node.else_body.items) c.deref-5.ensures in
-    (part_falls _ _ t (loop_other_deep (ForLoop c.args.node.now) c.args.node.now c.deref-6.result.now refl read) c.decreases, tt)
+    (part_falls _ _ t (deep_as refl read (for_other_deep c.args.node.now)) c.decreases, tt)
 
 pub use_macro-use_statements-requires : goal.use_macro-use_statements-requires
 use_macro-use_statements-requires t c = (inside_falls (body_deep c.args.body.now) t c.decreases, tt)
@@ -304,7 +307,7 @@ pub use_region-use_statements-requires : goal.use_region-use_statements-requires
 use_region-use_statements-requires t c = (inside_falls (body_deep c.args.body.now) t c.decreases, tt)
 
 pub use_other-use_region-requires : goal.use_other-use_region-requires
-use_other-use_region-requires t c = (body_falls _ _ t (template_deep c.args.statement.now c.in-Template.n c.deref.result.now c.in-Template.is c.deref.ensures.value) c.decreases, tt)
+use_other-use_region-requires t c = (body_falls _ _ t (deep_as c.in-Template.is c.deref.ensures.value (whole_deep c.in-Template.n)) c.decreases, tt)
 
 pub use_other-use_loop-requires : goal.use_other-use_loop-requires
 use_other-use_loop-requires t c =
@@ -321,27 +324,27 @@ use_other-use_with-requires t c =
 pub use_other-use_region-requires-in-SetBlock : goal.use_other-use_region-requires-in-SetBlock
 use_other-use_region-requires-in-SetBlock t c =
     let read = c.deref-in-SetBlock-2.ensures.value ∙ ap (λ (x : Spanned SetBlockNode). x.node.body.items) c.deref-in-SetBlock.ensures in
-    (body_falls _ _ t (set_block_deep c.args.statement.now c.in-SetBlock.n c.deref-in-SetBlock-2.result.now c.in-SetBlock.is read) c.decreases, tt)
+    (body_falls _ _ t (deep_as c.in-SetBlock.is read (set_block_deep c.in-SetBlock.n)) c.decreases, tt)
 
 pub use_other-use_region-requires-in-AutoEscape : goal.use_other-use_region-requires-in-AutoEscape
 use_other-use_region-requires-in-AutoEscape t c =
     let read = c.deref-in-AutoEscape-3.ensures.value ∙ ap (λ (x : Spanned AutoEscapeNode). x.node.body.items) c.deref-in-AutoEscape-2.ensures in
-    (body_falls _ _ t (escape_deep c.args.statement.now c.in-AutoEscape.n c.deref-in-AutoEscape-3.result.now c.in-AutoEscape.is read) c.decreases, tt)
+    (body_falls _ _ t (deep_as c.in-AutoEscape.is read (escape_deep c.in-AutoEscape.n)) c.decreases, tt)
 
 pub use_other-use_region-requires-in-FilterBlock : goal.use_other-use_region-requires-in-FilterBlock
 use_other-use_region-requires-in-FilterBlock t c =
     let read = c.deref-in-FilterBlock-2.ensures.value ∙ ap (λ (x : Spanned FilterBlockNode). x.node.body.items) c.deref-in-FilterBlock.ensures in
-    (body_falls _ _ t (filter_block_deep c.args.statement.now c.in-FilterBlock.n c.deref-in-FilterBlock-2.result.now c.in-FilterBlock.is read) c.decreases, tt)
+    (body_falls _ _ t (deep_as c.in-FilterBlock.is read (filter_block_deep c.in-FilterBlock.n)) c.decreases, tt)
 
 pub use_other-use_region-requires-in-Block : goal.use_other-use_region-requires-in-Block
 use_other-use_region-requires-in-Block t c =
     let read = c.deref-in-Block-2.ensures.value ∙ ap (λ (x : Spanned BlockNode). x.node.body.items) c.deref-in-Block.ensures in
-    (body_falls _ _ t (block_deep c.args.statement.now c.in-Block.n c.deref-in-Block-2.result.now c.in-Block.is read) c.decreases, tt)
+    (body_falls _ _ t (deep_as c.in-Block.is read (block_deep c.in-Block.n)) c.decreases, tt)
 
 pub use_other-use_macro-requires : goal.use_other-use_macro-requires
 use_other-use_macro-requires t c =
     let read = c.deref-in-Macro-2.ensures.value ∙ ap (λ (x : Spanned MacroNode). x.node.body.items) c.deref-in-Macro.ensures in
-    (body_falls _ _ t (macro_deep c.args.statement.now c.in-Macro.n c.deref-in-Macro-2.result.now c.in-Macro.is read) c.decreases, tt)
+    (body_falls _ _ t (deep_as c.in-Macro.is read (macro_deep c.in-Macro.n)) c.decreases, tt)
 
 pub use_other-returns-in-EmitExpr : goal.use_other-returns-in-EmitExpr
 use_other-returns-in-EmitExpr t c =
@@ -401,20 +404,20 @@ use_other-returns-in-Do t c =
 pub use_statements-use_statement-requires : goal.use_statements-use_statement-requires
 use_statements-use_statement-requires t c = (
   item_falls _ (body_deep c.args.body.now) t
-      (deep_at size-Stmt c.args.body.now c.loop-statement.statement-index c.statement-item.result (omega arith) c.statement-item.is) c.decreases,
+      (deep_at c.args.body.now c.loop-statement.statement-index c.statement-item.result (omega arith) c.statement-item.is) c.decreases,
   tt,
 )
 
 pub use_with-use_statements-requires : goal.use_with-use_statements-requires
 use_with-use_statements-requires t c =
     let read = c.deref-4.ensures.value ∙ ap (λ (x : Spanned WithBlockNode). x.node.body.items) c.deref-3.ensures in
-    (region_falls _ _ t (with_deep (WithBlock c.args.node.now) c.args.node.now c.deref-4.result.now refl read) c.decreases, tt)
+    (region_falls _ _ t (deep_as refl read (with_deep c.args.node.now)) c.decreases, tt)
 
 pub use_other-use_macro-requires-in-CallBlock : goal.use_other-use_macro-requires-in-CallBlock
 use_other-use_macro-requires-in-CallBlock t c =
     let declared = ap (λ (x : Spanned CallBlockNode). (out-CallBlock x.node).macro_decl.value) c.deref-in-CallBlock-3.ensures in
     let read = c.deref-in-CallBlock-5.ensures.value ∙ ap (λ (x : Spanned MacroNode). x.node.body.items) (c.deref-in-CallBlock-4.ensures ∙ declared) in
-    (body_falls _ _ t (call_deep c.args.statement.now c.in-CallBlock.n c.deref-in-CallBlock-5.result.now c.in-CallBlock.is read) c.decreases, tt)
+    (body_falls _ _ t (deep_as c.in-CallBlock.is read (call_deep c.in-CallBlock.n)) c.decreases, tt)
 
 pub use_statement-returns-in-ForLoop : goal.use_statement-returns-in-ForLoop
 use_statement-returns-in-ForLoop t c =

@@ -1,6 +1,7 @@
 -- What is left ends as all does.
 use Rattle.std.proofs.Common.{◌+◌, ◌*◌, ◌≤◌, drop}
 use Rattle.template_tree_statements.specs.declared.statements.Stmt.{size-Stmt, ForLoop, IfCond, WithBlock}
+use Rattle.template_tree_bodies.specs.Bodies.{body_deep}
 use Rattle.template_tree_parts.specs.Listed.{statements_in}
 use Rattle.template_names.specs.Names.{place_by, place_within}
 use Rattle.template_names.specs.declared.state.Names.{Names}
@@ -8,7 +9,6 @@ use Rattle.template_names_statements.specs.Choices.{choice_of}
 use Rattle.template_names.specs.Among.{nothing}
 use Rattle.template_names.specs.Goes.{Goes}
 use Rattle.template_names_statements.specs.Stores.{is_stored_among}
-use Rattle.template_names_statements.proofs.Deep.{body_deep}
 use Rattle.template_names_statements.proofs.statements.+statement.Given as goal
 
 abbrev pub decreases-use_statement : goal.decreases-use_statement
@@ -27,13 +27,13 @@ abbrev pub decreases-use_with : goal.decreases-use_with
 decreases-use_with l = 8 * size-Stmt (WithBlock l.node.now) + 4
 
 abbrev pub decreases-use_statements : goal.decreases-use_statements
-decreases-use_statements l = 8 * body_deep l.body.now + 7
+decreases-use_statements l = 8 * body_deep l.body.now
 
 abbrev pub decreases-use_region : goal.decreases-use_region
-decreases-use_region l = 8 * body_deep l.body.now + 8
+decreases-use_region l = 8 * body_deep l.body.now + 1
 
 abbrev pub decreases-use_macro : goal.decreases-use_macro
-decreases-use_macro l = 8 * body_deep l.body.now + 8
+decreases-use_macro l = 8 * body_deep l.body.now + 1
 
 abbrev pub invariant-use_statements-loop-statement : goal.invariant-use_statements-loop-statement
 invariant-use_statements-loop-statement l = (c : Names) →

@@ -1,0 +1,13 @@
+use Rattle.std.proofs.Common.{sym, ap, ◌∙◌}
+use Rattle.template_tree_statements.specs.View.{statement_of}
+use Rattle.template_tree_statements.specs.declared.statements.Stmt.{Stmt}
+use Rattle.template_tree_bodies.proofs.Others.{no_call_block, no_macro, no_template}
+use Rattle.template_tree_bodies.proofs.Trees.{call_tree}
+use Rattle.template_compiler_blocks.specs.Seen.{is_entered}
+use Rattle.template_compiler_blocks.proofs.Taking.{entered}
+use Rattle.template_compiler_blocks.proofs.nodes.BlockStatementsPicks.enters.Goals as goal
+
+pub returns-in_default : goal.returns-in_default
+returns-in_default c =
+    let s = c.args.statement.now in
+    sym (entered (statement_of s) (no_template s c.in_default.not-Template) (no_macro s c.in_default.not-Macro) (no_call_block s c.in_default.not-CallBlock))
