@@ -16,7 +16,7 @@ use Rattle.template_machine_calls.proofs.Printing.{no_programs}
 
 -- such a world by another name
 open_as : (w v after : World) → after ≡ v → IsOpenAlike w v → IsOpenAlike w after
-open_as w v after is open = subst (IsOpenAlike w) (sym is) open
+open_as w v after is alike = subst (IsOpenAlike w) (sym is) alike
 
 -- a namespace is made
 pub made_open : (w after : World) (entries : List (Val × Val)) → after ≡ made_namespace w entries → IsOpenAlike w after
