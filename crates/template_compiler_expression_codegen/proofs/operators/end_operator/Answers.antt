@@ -2,7 +2,7 @@ use Rattle.template_compiler_expression_codegen.proofs.Putting.{puts_as, puts_be
 use Rattle.template_compiler_expression_codegen.proofs.operators.end_operator.Goals as goal
 
 pub returns-in-Some-clause-put : goal.returns-in-Some-clause-put
-returns-in-Some-clause-put c = record { kept = c.truncate.ensures.kept; same = c.truncate.ensures.same; places = c.truncate.ensures.places }
+returns-in-Some-clause-put c = record { kept = c.truncate-in-Some.ensures.kept; same = c.truncate-in-Some.ensures.same; places = c.truncate-in-Some.ensures.places }
 
 pub returns-in_ok-push-in-None-clause-put : goal.returns-in_ok-push-in-None-clause-put
 returns-in_ok-push-in-None-clause-put c =
