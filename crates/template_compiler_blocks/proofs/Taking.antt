@@ -1,5 +1,5 @@
 -- A statement's blocks: itself, and those of its bodies.
-use Rattle.std.proofs.Common.{◌≡◌, Bool, true, false, if◌then◌else◌, List, [], ◌∷◌, ◌++◌, append_assoc, append-nil, refl, sym, ap}
+use Rattle.std.proofs.Common.{◌≡◌, true, false, if◌then◌else◌, [], ◌∷◌, ◌++◌, append_assoc, append-nil, refl, sym, ap}
 use Rattle.template_tree.specs.Tree.{Statement, Statements, template, for_loop, if_condition, with_block, set_block, auto_escape, filter_block, block, macro, call_block}
 use Rattle.template_tree_bodies.specs.Bodies.{body_in, other_in}
 use Rattle.template_tree_bodies.specs.Kinds.{is_block, is_call_block, is_macro, is_template}

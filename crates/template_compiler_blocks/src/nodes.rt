@@ -19,10 +19,12 @@ impl Picks for BlockStatements {
     ghost picks = { is_block };
 
     fn enters(statement: &Stmt<'_>) -> bool {
-        !matches!(
-            statement,
-            Stmt::Template(_) | Stmt::Macro(_) | Stmt::CallBlock(_)
-        )
+        match statement {
+            Stmt::Template(_) => false,
+            Stmt::Macro(_) => false,
+            Stmt::CallBlock(_) => false,
+            _ => true,
+        }
     }
 
     fn picks(statement: &Stmt<'_>) -> bool {

@@ -22,7 +22,10 @@ impl Picks for Imports {
     ghost picks = { is_import };
 
     fn enters(statement: &Stmt<'_>) -> bool {
-        !matches!(statement, Stmt::Template(_))
+        match statement {
+            Stmt::Template(_) => false,
+            _ => true,
+        }
     }
 
     fn picks(statement: &Stmt<'_>) -> bool {

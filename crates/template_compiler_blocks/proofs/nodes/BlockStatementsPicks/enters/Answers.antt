@@ -7,6 +7,9 @@ use Rattle.template_compiler_blocks.specs.Seen.{is_entered}
 use Rattle.template_compiler_blocks.proofs.Taking.{entered}
 use Rattle.template_compiler_blocks.proofs.nodes.BlockStatementsPicks.enters.Goals as goal
 
+pub returns-in-CallBlock : goal.returns-in-CallBlock
+returns-in-CallBlock c = sym (ap (λ (s : Stmt). is_entered (statement_of s)) c.in-CallBlock.is ∙ ap (λ t. is_entered t) (call_tree c.in-CallBlock.field-0))
+
 pub returns-in_default : goal.returns-in_default
 returns-in_default c =
     let s = c.args.statement.now in
