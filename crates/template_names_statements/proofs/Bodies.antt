@@ -1,5 +1,5 @@
 -- Walks of statements seen by their trees.
-use Rattle.std.proofs.Common.{◌≡◌, ◌==◌, ℕ, Bool, true, false, Result, OnOk, List as Items, [], ◌∷◌, length, arith, sym, ap, ◌∙◌}
+use Rattle.std.proofs.Common.{◌≡◌, ◌==◌, ℕ, Bool, true, false, Result, OnOk, List as Items, [], ◌∷◌, length, arith, refl, sym, ap, ◌∙◌}
 use Rattle.std.proofs.lemmas.Bool.Decides.{nat_tests}
 use Rattle.template_tree.specs.Tree.{Statement}
 use Rattle.template_tree.specs.View.{expressions_in}

@@ -14,7 +14,7 @@ use Rattle.template_names_needed.proofs.imported.take_imports.Goals as goal
 
 pub returns-in-FromImport : goal.returns-in-FromImport
 returns-in-FromImport c =
-    let read = c.deref-2.ensures.value ∙ ap (λ (x : Spanned FromImportNode). x.node.names.items) c.deref.ensures in
+    let read = c.deref-in-FromImport.ensures.value ∙ ap (λ (x : Spanned FromImportNode). x.node.names.items) c.deref.ensures in
     takes_as c.args.names.now.items c.take_names.new.names.items c.take_names.result
     (λ q. ap (λ (xs : List (Expr × Option Expr)). is_one_of q (imports_in xs)) read ∙ ap (λ (s : Stmt). own_imports (statement_of s) q) (sym c.in-FromImport.is))
     c.take_names.ensures
