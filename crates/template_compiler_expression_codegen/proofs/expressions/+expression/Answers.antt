@@ -348,8 +348,10 @@ fold_unary_operator-returns-clause-put t c =
 
 pub fold_constant_choice-returns-clause-constant : goal.fold_constant_choice-returns-clause-constant
 fold_constant_choice-returns-clause-constant t c =
-    c.hold.ensures ∙ subst (λ (k : Option Val). c.in_ok-folded.folded ≡ binary_folded c.args.op c.args.value.now k) c.in_ok-constant.ensures.constant
-    c.in_ok-folded.ensures.constant
+    c.hold.ensures ∙ subst (λ (l : Option Val). c.in_ok-folded.folded ≡ binary_folded c.args.op l (constant_of (expression_of c.args.right.now)))
+    c.take.ensures.value
+    (subst (λ (k : Option Val). c.in_ok-folded.folded ≡ binary_folded c.args.op c.take.result k) c.in_ok-constant.ensures.constant
+    c.in_ok-folded.ensures.constant)
 
 pub fold_choice-returns-clause-put : goal.fold_choice-returns-clause-put
 fold_choice-returns-clause-put t c =
@@ -366,8 +368,10 @@ fold_constant_choice-returns-clause-put t c = rw c.hold.ensures (
 
 pub fold_constant_operator-returns-clause-constant : goal.fold_constant_operator-returns-clause-constant
 fold_constant_operator-returns-clause-constant t c =
-    c.hold.ensures ∙ subst (λ (k : Option Val). c.in_ok-folded.folded ≡ binary_folded c.args.op c.args.value.now k) c.in_ok-constant.ensures.constant
-    c.in_ok-folded.ensures.constant
+    c.hold.ensures ∙ subst (λ (l : Option Val). c.in_ok-folded.folded ≡ binary_folded c.args.op l (constant_of (expression_of c.args.right.now)))
+    c.take.ensures.value
+    (subst (λ (k : Option Val). c.in_ok-folded.folded ≡ binary_folded c.args.op c.take.result k) c.in_ok-constant.ensures.constant
+    c.in_ok-folded.ensures.constant)
 
 pub fold_constant_operator-returns-clause-put : goal.fold_constant_operator-returns-clause-put
 fold_constant_operator-returns-clause-put t c = rw c.hold.ensures (
