@@ -64,7 +64,3 @@ pub own_taken : {T E : Type 0} {s x : Stmt} (ps qs part : List Part) → s ≡ x
 own_taken ps qs part is own (Ok value) taken =
     taken ∙ ap (λ l. ps ++ l) own ∙ ap (λ (y : Stmt). ps ++ own_part (statement_of y)) (sym is)
 own_taken ps qs part is own (Err error) taken = tt
-
--- one that is none
-pub none_taken : {s x : Stmt} (ps : List Part) → s ≡ x → own_part (statement_of x) ≡ [] → ps ≡ ps ++ own_part (statement_of s)
-none_taken ps is none = sym (append-nil ps) ∙ ap (λ l. ps ++ l) (sym none) ∙ ap (λ (y : Stmt). ps ++ own_part (statement_of y)) (sym is)

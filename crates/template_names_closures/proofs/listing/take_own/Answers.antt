@@ -1,4 +1,4 @@
-use Rattle.std.proofs.Common.{[], ◌∷◌, refl, ap, sym, ◌∙◌}
+use Rattle.std.proofs.Common.{[], ◌∷◌, ◌++◌, append-nil, ap, sym, ◌∙◌}
 use Rattle.template_tree.specs.View.{expression_of}
 use Rattle.template_tree.specs.declared.span.Spanned.{Spanned}
 use Rattle.template_tree_statements.specs.View.{statement_of}
@@ -10,7 +10,7 @@ use Rattle.template_tree_bodies.proofs.Trees.{block_tree}
 use Rattle.template_tree_parts.proofs.Trees.{for_tree, whole_tree}
 use Rattle.template_names_closures.specs.Bodies.{own_part}
 use Rattle.template_names_closures.specs.Units.{block_body, parts_in, rounds_of}
-use Rattle.template_names_closures.proofs.Taking.{no_part, none_picked, none_taken, own_taken}
+use Rattle.template_names_closures.proofs.Taking.{no_part, none_picked, own_taken}
 use Rattle.template_names_closures.proofs.listing.take_own.Goals as goal
 
 pub returns-in-Template : goal.returns-in-Template
@@ -34,4 +34,5 @@ pub returns-in_default : goal.returns-in_default
 returns-in_default c =
     let s = c.args.statement.now in
     let other = no_part (statement_of s) (no_template s c.in_default.not-Template) (no_block s c.in_default.not-Block) (no_loop s c.in_default.not-ForLoop) in
-    none_taken (parts_in c.args.found.now.items) refl (none_picked (statement_of s) other)
+    sym (append-nil (parts_in c.args.found.now.items)) ∙
+    ap (λ l. parts_in c.args.found.now.items ++ l) (sym (none_picked (statement_of s) other))
