@@ -32,7 +32,7 @@ use Rattle.template_machine_meaning.specs.Surroundings.{Programs, runners}
 use Rattle.template_machine_meaning.specs.Turnings.{Turning, to_text, to_truth, decided, turned_by}
 use Rattle.template_machine_meaning.specs.World.{World, keeps, looked_up, depth_of}
 use Rattle.template_machine_meaning.proofs.Outermost.{outermost_all}
-use Rattle.template_machine_meaning.proofs.RunsKept.{frames_stay, kept_back, world_on}
+use Rattle.template_machine_meaning.proofs.RunsKept.{frames_stay, kept_back, world_on as kept_on}
 use Rattle.template_machine_state.specs.Changes.{OnlyTemps}
 use Rattle.template_machine_calls.specs.Hosted.{around_under}
 use Rattle.template_machine_calls.specs.Left.{Planned, KeptUnlessValue, entry_plan, reached_by, value_left, with_turnings}
@@ -193,7 +193,7 @@ pub frames_behind : (came : Reached) (w v after : World) → KeptUnlessValue (Ok
 frames_behind came w v after kept same = same ∙ reached_frames came w v kept
 
 pub keeps_behind : (came : Reached) (w v after : World) → KeptUnlessValue (Ok came) w v → KeepsWorld v after → KeepsWorld w after
-keeps_behind came w v after kept later = world_on w v after (reached_keeps came w v kept) later
+keeps_behind came w v after kept later = kept_on w v after (reached_keeps came w v kept) later
 
 -- and where all was put back behind it
 pub failed_frames : (w v after : World) (mark : Caller) → mark ≡ record (caller_of w) { blocks = [] } → after ≡ put_back mark v → v.frames ≡ w.frames
