@@ -8,6 +8,7 @@ ghost use Rattle.template_names.specs.Names.{IsTold};
 ghost use Rattle.template_machine_meaning.specs.Isolation.{AskNoNames, IsContextName};
 ghost use Rattle.template_machine_meaning.specs.World.{first_world};
 ghost use Rattle.template_machine_renders.specs.Plans.{run_of};
+ghost use Rattle.template_machine_streams.specs.Streams.{IsSound};
 ghost use Rattle.template_compiled.specs.Expressions.{HasExpression, expression_in};
 ghost use Rattle.template_compiled.specs.Plain.{IsPlain, text_kept};
 ghost use Rattle.template_compiled.specs.Sources.{HasTree, Source, tree_in};
@@ -17,7 +18,7 @@ ghost use Rattle.template_environment.specs.Isolated.{IsIsolated, tree_of};
 ghost use Rattle.template_environment.specs.Plain.{text_run};
 ghost use Rattle.template_environment.specs.Reading.{callables_of, registry_of, setting_in};
 ghost use Rattle.template_environment.specs.Standing.{source_at};
-ghost use Rattle.template_environment.specs.States.{block_in, call_in, macro_in};
+ghost use Rattle.template_environment.specs.States.{block_in, call_in, codes_with, macro_in, stream_in, world_in};
 ghost use Rattle.template_environment.specs.Views.{globals_of, head_in, render_of, source_of};
 
 use crate::environment::Environment;
@@ -25,8 +26,11 @@ use crate::expression::Expression;
 use crate::state::State;
 use crate::template::Template;
 use template_callables::Extension;
+use template_code_checked::Checked;
 use template_compiled::plain_text;
+use template_compiler_generator::templates_are_accepted;
 use template_machine_meaning::isolation;
+use template_machine_streams::every_stream_ends;
 
 /// A law: the source of each template, also of one that stands in the environment, has the tree that it is read to, and all
 /// constructs of that run.
@@ -69,6 +73,18 @@ pub fn every_call_ends<E: Extension>(state: &State<'_, '_, E>)
         (n : ℕ) × IsFinished (run_of (macro_in (user_answers E.Callable.answer E.Method.answer E.Formatter.answer E.Join.answer) state.now name args n)).end }
 {
     let _standing = state.environment.registry.templates.values();
+}
+
+/// A law: so does each run of a stream that is handed in, where the macros and the loops that the state holds are reached where they
+/// begin in their streams: as in a state that has run nothing, and behind each run of streams that were accepted.
+pub fn every_handed_stream_ends<E: Extension>(state: &State<'_, '_, E>, stream: &Checked<'_>)
+    ensures { IsSound (codes_with state.now stream.now) (world_in state.now) →
+        (n : ℕ) × IsFinished (stream_in (user_answers E.Callable.answer E.Method.answer E.Formatter.answer E.Join.answer) state.now stream.now n).end }
+{
+    every_stream_ends();
+    templates_are_accepted();
+    let _standing = state.environment.registry.templates.values();
+    let _code = stream.instructions();
 }
 
 /// A law: a template in whose source no marker starts renders to its text, at the price of one step, and to nothing where

@@ -112,6 +112,7 @@ pub use template_environment::escape_formatter;
 pub use template_environment::every_block_ends;
 pub use template_environment::every_call_ends;
 pub use template_environment::every_expression_runs;
+pub use template_environment::every_handed_stream_ends;
 pub use template_environment::every_render_ends;
 pub use template_environment::every_template_runs;
 pub use template_environment::isolated_renders;
