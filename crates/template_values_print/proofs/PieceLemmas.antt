@@ -67,10 +67,10 @@ take-past [] (suc n) h = refl
 take-past (c ∷ s) zero h = absurd (omega (arith, h))
 take-past (c ∷ s) (suc n) h = ap (λ (x : List ℕ). c ∷ x) (take-past s n (omega (arith, h)))
 
-grown : (k : Markup) (o x y : List ℕ) → o ++ encoded k (x ++ y) ≡ (o ++ encoded k x) ++ encoded k y
+pub grown : (k : Markup) (o x y : List ℕ) → o ++ encoded k (x ++ y) ≡ (o ++ encoded k x) ++ encoded k y
 grown k o x y = ap (λ (z : List ℕ). o ++ z) (encoded-append k x y) ∙ sym (append_assoc o (encoded k x) (encoded k y))
 
-flat_map-next : (f : ℕ → List ℕ) (s : List ℕ) (i : ℕ) → i < length s → flat_map f (take (suc i) s) ≡ flat_map f (take i s) ++ f (get_or s i 0)
+pub flat_map-next : (f : ℕ → List ℕ) (s : List ℕ) (i : ℕ) → i < length s → flat_map f (take (suc i) s) ≡ flat_map f (take i s) ++ f (get_or s i 0)
 flat_map-next f s i h =
     ap (flat_map f) (take-suc s i 0 h)
     ∙ flat_map-append f (take i s) (get_or s i 0 ∷ [])

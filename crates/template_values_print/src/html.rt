@@ -1,5 +1,5 @@
 //! Texts with references for what HTML reads as markup.
-ghost use Rattle.std.specs.Prelude.{◌≡◌, ◌+◌, ◌<◌, ◌≤◌, ◌∷◌, [], ◌++◌, Ok, IfErr, IfOk, IfSome, OnErr, IsUtf8, MatchOption, OnSome, length, string_bytes, take};
+ghost use Rattle.std.specs.Prelude.{◌≡◌, ◌↔◌, ◌+◌, ◌<◌, ◌≤◌, ◌∷◌, [], ◌++◌, Ok, IfErr, IfOk, IfSome, OnErr, IsTrue, IsUtf8, MatchOption, OnSome, length, string_bytes, take};
 ghost use Rattle.std.specs.Str.{IsCharBoundary};
 ghost use Rattle.template_values_errors.specs.Memory.{NoMemory};
 ghost use Rattle.template_values_forms.specs.Escapes.{html, html_byte};
@@ -7,6 +7,7 @@ ghost use Rattle.template_values_print.specs.Pieces.{Begins, Waits, Writes};
 ghost use Rattle.template_values_print.specs.declared.pieces.Markup.TheVariants.{Html, Plain};
 
 use crate::pieces::push_plain;
+use crate::runs::{Stops, run_end};
 use std::str;
 use template_values_errors::Error;
 
@@ -35,6 +36,14 @@ pub fn put_html(block: &mut [u8; HTML_BLOCK], text: &str) -> usize
         used = put_byte(block, used, *byte);
     }
     used
+}
+
+/// Whether HTML reads a text as text alone, so that it may be written as it is. Takes time linear in the text.
+#[inline(always)]
+pub fn is_unmarked(text: &str) -> bool
+    ensures { IsTrue result ↔ (html text.now ≡ text.now) }
+{
+    run_end(Stops::Markup, text, 0) == text.len()
 }
 
 // Puts what stands for a byte behind the bytes that wait, and tells how many then do.
@@ -76,12 +85,7 @@ fn plain_length(piece: &str) -> usize
     ensures plain { html (take result piece.now) ≡ take result piece.now }
     ensures boundary { IsCharBoundary piece.now result }
 {
-    for (i, byte) in piece.as_bytes().iter().enumerate() {
-        if reference_of(*byte).is_some() {
-            return i;
-        }
-    }
-    piece.len()
+    run_end(Stops::Markup, piece, 0)
 }
 
 fn push_unmarked(out: &mut String, piece: &str) -> Result<(), Error>
@@ -106,22 +110,18 @@ fn push_references(out: &mut String, piece: &str) -> Result<(), Error>
 {
     let mut block = [0; HTML_BLOCK];
     let mut used = 0;
-    let mut start = 0;
-    for (i, byte) in piece.as_bytes().iter().enumerate() {
-        let Some(reference) = reference_of(*byte) else {
+    let mut at = 0;
+    while at < piece.len() {
+        let Some(reference) = reference_of(piece.as_bytes()[at]) else {
+            let end = run_end(Stops::Markup, piece, at + 1);
+            used = put_piece(out, &mut block, used, &piece[at..end])?;
+            at = end;
             continue;
         };
-        if start < i {
-            used = put_piece(out, &mut block, used, &piece[start..i])?;
-        }
-        used = put(&mut block, used, reference);
-        start = i + 1;
-        if used > HTML_BLOCK - REFERENCE {
-            push_block(out, &block[..used], "")?;
-            used = 0;
-        }
+        used = put_reference(out, &mut block, used, reference)?;
+        at += 1;
     }
-    push_block(out, &block[..used], &piece[start..])
+    push_block(out, &block[..used], "")
 }
 
 // A reference, and bytes behind it that mean nothing: each is put by one move, since all have one size.
@@ -177,6 +177,32 @@ fn put_piece(
         return Ok(used + piece.len());
     }
     push_block(out, &block[..used], piece)?;
+    Ok(0)
+}
+
+// Puts the reference behind the bytes that wait, and writes these where they then leave no room for another; tells how many
+// bytes then wait.
+#[inline(always)]
+fn put_reference(
+    out: &mut String,
+    block: &mut [u8; HTML_BLOCK],
+    used: usize,
+    reference: Reference,
+) -> Result<usize, Error>
+    requires room { used + REFERENCE ≤ HTML_BLOCK }
+    requires fits { reference.length ≤ REFERENCE }
+    requires text { IsUtf8 (take used block.old) }
+    requires reference { IsUtf8 (take reference.length reference.padded.now) }
+    ensures waits { IfOk result (λ next. Waits (string_bytes out.old) (string_bytes out.new) block.new
+        ((string_bytes out.old ++ take used block.old) ++ take reference.length reference.padded.now) next) }
+    ensures refused { IfErr result NoMemory }
+    ensures begins { OnErr result (Begins (string_bytes out.old) (string_bytes out.new)) }
+{
+    let used = put(block, used, reference);
+    if used <= HTML_BLOCK - REFERENCE {
+        return Ok(used);
+    }
+    push_block(out, &block[..used], "")?;
     Ok(0)
 }
 

@@ -6,9 +6,10 @@ mod html;
 mod numbers;
 mod pieces;
 mod print;
+mod runs;
 mod serial;
 
-pub use html::{HTML_BLOCK, SHORT_TEXT, put_html};
+pub use html::{HTML_BLOCK, SHORT_TEXT, is_unmarked, put_html};
 pub use numbers::format_number;
 pub use pieces::{Markup, Quoting, push, push_bytes, push_quoted};
 pub use print::print_outer;

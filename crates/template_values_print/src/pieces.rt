@@ -8,6 +8,7 @@ ghost use Rattle.template_values_print.specs.Pieces.{Writes, escaped_byte, escap
 ghost use Rattle.template_values_forms.specs.Printed.{bytes_text};
 
 use crate::html::push_html;
+use crate::runs::{Stops, run_end};
 use std::slice;
 use template_values_errors::Error;
 
@@ -171,16 +172,19 @@ fn push_escape(out: &mut String, markup: Markup, byte: u8, escape: Escape) -> Re
 fn push_escaped(out: &mut String, markup: Markup, quoting: Quoting, text: &str) -> Result<(), Error>
     ensures { Writes markup (string_bytes out.old) (Ok (flat_map (escaped_byte quoting) text.now)) result (string_bytes out.new) }
 {
-    let mut start = 0;
-    for (i, byte) in text.as_bytes().iter().enumerate() {
-        let Some(escape) = escape_of(quoting, *byte) else {
+    let mut at = 0;
+    while at < text.len() {
+        let byte = text.as_bytes()[at];
+        let Some(escape) = escape_of(quoting, byte) else {
+            let end = run_end(Stops::Escaped, text, at + 1);
+            push(out, markup, &text[at..end])?;
+            at = end;
             continue;
         };
-        push(out, markup, &text[start..i])?;
-        push_escape(out, markup, *byte, escape)?;
-        start = i + 1;
+        push_escape(out, markup, byte, escape)?;
+        at += 1;
     }
-    push(out, markup, &text[start..])
+    Ok(())
 }
 
 /// Writes a text between quotes. Takes time linear in the text.
