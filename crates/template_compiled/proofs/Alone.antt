@@ -13,9 +13,9 @@ use Rattle.template_compiler_codegen.specs.Statements.{standalone_code}
 use Rattle.template_compiler_numbers.specs.Numbers.{numbered_in}
 use Rattle.template_compiler_tokens.specs.Token.{Token}
 use Rattle.template_compiler_source_tokens.proofs.Spelling.{one_spelled, some_spelled}
-use Rattle.template_compiler_grammar.specs.Reader.{expression_at}
-use Rattle.template_compiler_grammar_laws.proofs.Complete.{expression_complete}
-use Rattle.template_compiler_grammar_laws.proofs.Sound.{expression_sound}
+use Rattle.template_compiler_placed_grammar.specs.TreeReader.{expression_at}
+use Rattle.template_compiler_placed_grammar.proofs.Laws.{tree_complete}
+use Rattle.template_compiler_placed_grammar.proofs.Sound.{expression_sound}
 use Rattle.template_compiler_runnable.proofs.Expressions.{expression_runs}
 use Rattle.template_compiler_tokens.specs.Steps.{Read}
 use Rattle.template_compiler_sources.specs.Source.{IsExpressionSource, RefusesExpression, expression_source}
@@ -26,7 +26,7 @@ unfolding expression_in
 one_expression source e (expression_source {tokens = ts} spelled is) =
     let some = some_spelled source in
     ap (λ (l : List Token). read_alone (expression_at 150 l)) (one_spelled source some.0 ts some.1 spelled)
-    ∙ ap read_alone (expression_complete 150 ts [] e is tt)
+    ∙ ap read_alone (tree_complete 150 ts [] e is tt)
 
 read_runs : (tokens : List Token) (r : Read Expression) → expression_at 150 tokens ≡ r → IsRunnable (read_alone r)
 read_runs tokens (Ok (e, [])) is = expression_runs ((expression_sound 150 tokens).tree e [] is).0

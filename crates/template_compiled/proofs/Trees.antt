@@ -7,9 +7,9 @@ use Rattle.template_compiler_statement_codegen.specs.Listed.{IsRunnableTree, bod
 use Rattle.template_compiler_tokens.specs.Token.{Token, TokenFault}
 use Rattle.template_compiler_syntax.specs.Syntax.{Syntax, IsUsable}
 use Rattle.template_compiler_segments.proofs.Theorems.{one_tokens, some_tokens}
-use Rattle.template_compiler_grammar.specs.TemplateReader.{template_of}
-use Rattle.template_compiler_grammar_laws.proofs.TemplatesComplete.{template_complete}
-use Rattle.template_compiler_grammar_laws.proofs.TemplatesSound.{template_sound}
+use Rattle.template_compiler_placed_grammar.specs.TreeReader.{template_of}
+use Rattle.template_compiler_placed_grammar.proofs.TemplateLaws.{tree_complete}
+use Rattle.template_compiler_placed_grammar.proofs.TemplatesSound.{template_sound}
 use Rattle.template_compiler_source_tokens.specs.Scoped.{taken_words}
 use Rattle.template_compiler_sources.specs.Source.{IsSource, source_of}
 use Rattle.template_compiled.specs.Sources.{Source, read, tokens_read, tree_in}
@@ -20,7 +20,7 @@ one_tree source tree usable (source_of {tokens = ts} spelled is) =
     let some = some_tokens source.syntax source.text in
     let same = one_tokens source.syntax source.text some.0 ts usable some.1 spelled in
     let taken = taken_words source.syntax.scoped_blocks ts in
-    ap (λ (l : List Token). read (template_of (taken_words source.syntax.scoped_blocks l))) same ∙ ap read (template_complete taken tree is)
+    ap (λ (l : List Token). read (template_of (taken_words source.syntax.scoped_blocks l))) same ∙ ap read (tree_complete taken tree is)
 
 read_runs : (tokens : List Token) (r : Result Statements TokenFault) → template_of tokens ≡ r → IsRunnableTemplate (read r)
 read_runs tokens (Ok tree) is = template_runs (template_sound tokens tree is)

@@ -3,7 +3,6 @@ pub mod Chains
 pub mod Falls
 pub mod Items
 pub mod Links
-pub mod Takes
 pub mod Trees
 pub mod Subscripts
 pub mod Stays

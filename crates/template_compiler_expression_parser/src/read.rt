@@ -1,8 +1,8 @@
 //! What the parser of statements reads of expressions. Each function takes the nesting levels that are left, and takes the
 //! tokens of what it reads off the stream. Where it refuses, nothing is said of the tokens that are left.
 ghost use Rattle.template_compiler_expression_parts.specs.Parsed.{Parsed, ParsedAs, ParsedOptional};
-ghost use Rattle.template_compiler_grammar.specs.Reader as plain;
 ghost use Rattle.template_compiler_placed_grammar.specs.Reader.{expression_at, condition_at, filter_at, filter_chain_at};
+ghost use Rattle.template_compiler_placed_grammar.specs.TreeReader as trees;
 ghost use Rattle.template_compiler_placed_grammar.specs.Views.{optional_node_in};
 ghost use Rattle.template_tree.specs.View.{expression_of, optional_in};
 ghost use Rattle.std.specs.Prelude.{◌≡◌};
@@ -23,7 +23,7 @@ pub fn read_expression<'source>(
     tokens: &mut TokenStream<'source>,
     left: u32,
 ) -> Result<Expr<'source>, Refusal>
-    ensures tree { ParsedAs expression_of (plain.expression_at left tokens.old.left) tokens.new.left result }
+    ensures tree { ParsedAs expression_of (trees.expression_at left tokens.old.left) tokens.new.left result }
     ensures placed { Parsed (expression_at tokens.old.spans left tokens.old.left) tokens.new.left result }
     ensures spans { tokens.new.spans ≡ tokens.old.spans }
 {
@@ -41,7 +41,7 @@ pub fn read_condition<'source>(
     tokens: &mut TokenStream<'source>,
     left: u32,
 ) -> Result<Expr<'source>, Refusal>
-    ensures tree { ParsedAs expression_of (plain.condition_at left tokens.old.left) tokens.new.left result }
+    ensures tree { ParsedAs expression_of (trees.condition_at left tokens.old.left) tokens.new.left result }
     ensures placed { Parsed (condition_at tokens.old.spans left tokens.old.left) tokens.new.left result }
     ensures spans { tokens.new.spans ≡ tokens.old.spans }
 {
@@ -60,7 +60,7 @@ pub fn read_filter<'source>(
     left: u32,
     value: Option<Expr<'source>>,
 ) -> Result<Expr<'source>, Refusal>
-    ensures tree { ParsedAs expression_of (plain.filter_at left (optional_in value.entry) tokens.old.left) tokens.new.left result }
+    ensures tree { ParsedAs expression_of (trees.filter_at left (optional_in value.entry) tokens.old.left) tokens.new.left result }
     ensures placed { Parsed (filter_at tokens.old.spans left (optional_node_in value.entry) tokens.old.left) tokens.new.left result }
     ensures spans { tokens.new.spans ≡ tokens.old.spans }
 {
@@ -79,7 +79,7 @@ pub fn read_filter_chain<'source>(
     left: u32,
     value: Option<Expr<'source>>,
 ) -> Result<Option<Expr<'source>>, Refusal>
-    ensures tree { ParsedAs optional_in (plain.filter_chain_at left (optional_in value.entry) tokens.old.left) tokens.new.left result }
+    ensures tree { ParsedAs optional_in (trees.filter_chain_at left (optional_in value.entry) tokens.old.left) tokens.new.left result }
     ensures placed { ParsedOptional (filter_chain_at tokens.old.spans left (optional_node_in value.entry) tokens.old.left) tokens.new.left
         result }
     ensures spans { tokens.new.spans ≡ tokens.old.spans }

@@ -18,19 +18,26 @@ use Rattle.template_compiler_tokens.proofs.Readings.{ok_rest}
 use Rattle.template_compiler_grammar.specs.Words.{is_word, word_not, word_in, begins_bare, literal_word, Level, disjunction, operator, comparison_operator}
 use Rattle.template_compiler_grammar.specs.Trees.{Paired, Written, argument_count, in_order}
 use Rattle.template_compiler_grammar.specs.Ends.{Behind}
-use Rattle.template_compiler_grammar.specs.Grammar.{IsTexts, texts_end, texts_more, IsExpression, unconditional, if_alone, if_else, IsBinary, operands, IsOperands, operands_end, operands_more, IsOperand, factor, text_operand, term, conjunct, disjunct, IsNegation, negation, no_negation, IsComparison, comparison, IsLinks, links_end, links_operator, links_not_in, IsPower, no_power, power, IsFiltered, filtered_value, IsFilters, filters_end, filters_more, IsFilterParts, filter_parts, is_test, is_not_test, IsFilter, filter, IsTest, test, bare_test, IsOptionalArguments, no_list, a_list, IsUnary, minus_sign, primary, IsParts, parts_end, parts_more, IsPart, attribute_part, number_part, subscript_part, call_part, IsSubscript, item_subscript, slice_subscript, IsBound, no_bound, a_bound, IsStep, no_step, a_step, IsPrimary, name_primary, word_primary, number_primary, text_primary, paren_primary, list_primary, map_primary, IsParen, empty_tuple, in_parens, tuple, IsItems, items_end, items_last, items_more, IsPairs, pairs_end, pairs_last, pairs_more, IsArgumentList, argument_list, IsArguments, arguments_end, arguments_last, arguments_next, IsArgument, positional_argument, keyword_argument, spread_argument, keyword_spread_argument, IsFilterChain, chain_end, chain_more}
-use Rattle.template_compiler_grammar.specs.Reader.{name_of, text_step, paren_end, bracket_end, brace_end, colon_end, separated, word_tree, begins_closing, begins_bound_end}
+use Rattle.template_compiler_grammar.specs.Grammar.{IsNameTail, name_end, name_more, IsName, name, IsTexts, texts_end, texts_more, IsExpression, unconditional, if_alone, if_else, IsBinary, operands, IsOperands, operands_end, operands_more, IsOperand, factor, text_operand, term, conjunct, disjunct, IsNegation, negation, no_negation, IsComparison, comparison, IsLinks, links_end, links_operator, links_not_in, IsPower, no_power, power, IsFiltered, filtered_value, IsFilters, filters_end, filters_more, IsFilterParts, filter_parts, is_test, is_not_test, IsFilter, filter, IsTest, test, bare_test, IsOptionalArguments, no_list, a_list, IsUnary, minus_sign, primary, IsParts, parts_end, parts_more, IsPart, attribute_part, number_part, subscript_part, call_part, IsSubscript, item_subscript, slice_subscript, IsBound, no_bound, a_bound, IsStep, no_step, a_step, IsPrimary, name_primary, word_primary, number_primary, text_primary, paren_primary, list_primary, map_primary, IsParen, empty_tuple, in_parens, tuple, IsItems, items_end, items_last, items_more, IsPairs, pairs_end, pairs_last, pairs_more, IsArgumentList, argument_list, IsArguments, arguments_end, arguments_last, arguments_next, IsArgument, positional_argument, keyword_argument, spread_argument, keyword_spread_argument, IsFilterChain, chain_end, chain_more}
+use Rattle.template_compiler_grammar.specs.Reader.{dotted_step, name_of, text_step, paren_end, bracket_end, brace_end, colon_end, separated, word_tree, begins_closing, begins_bound_end}
 use Rattle.template_compiler_grammar.proofs.Ranks.{weaker, level_rank, operand_rank, operand-le, operator_rank, comparison_rank}
 use Rattle.template_compiler_grammar.proofs.Opens.{begins_opener, expression_opens}
 use Rattle.template_compiler_grammar.proofs.Shrinks as shrinks
-use Rattle.template_compiler_grammar_laws.proofs.Stops.{texts_stop, begins_closing_behind, opener_closing, closing_bound, bound_end_behind, separated_last, unless_closed, unless_open}
-use Rattle.template_compiler_grammar_laws.proofs.Complete.{name_read, argument_closing}
 use Rattle.template_compiler_placed_grammar.specs.DerivedNodes.{and_place, PairedPlaces, and_pair_place, WrittenPlaces, and_written_place, compared_at}
 use Rattle.template_compiler_placed_grammar.specs.DerivedExpressions.{expression_places, binary_places, operands_places, operand_places, negation_places, comparison_places, links_places, power_places, filtered_places, filters_places, filter_parts_places, filter_places, test_places, optional_places, unary_places, parts_places, part_places, subscript_places, bound_places, step_places, primary_places, paren_places, items_places, pairs_places, argument_list_places, arguments_places, argument_places}
 use Rattle.template_compiler_placed_grammar.specs.DerivedParts.{chain_places}
 use Rattle.template_compiler_placed_grammar.specs.Nodes.{placed, Node, node, OptionalNode, PlacedLinks, and_placed_link, PlacedArguments, PlacedWritten, placed_in_order, bare_argument, binary_node, tested_node}
 use Rattle.template_compiler_placed_grammar.specs.Reader.{Deeper, deeper, up_to, expression_by, primary_by, dot_part, part_step, parts_by, unary_by, optional_arguments_by, filter_by, test_arguments_by, test_by, is_by, filter_step, filtered_by, power_behind, power_by, operand_behind, operand_step, binary_of, terms_by, not_in_link, link_behind, link_step, comparison_by, negation_by, operand_by, binary_by, else_behind, if_behind, items_by, items_step, pairs_step, arguments_step, pairs_by, paren_behind, paren_by, list_by, map_by, bound_by, step_by, slice_by, item_by, subscript_behind, subscript_by, named_argument, argument_by, few_arguments, arguments_by, chain_step, filter_chain_by, expression_at, condition_at, filter_at, filter_chain_at}
-use Rattle.template_compiler_placed_grammar.proofs.Stops.{parts_stop, filters_stop, powers_stop, operands_stop, links_stop, if_stops, else_stops, no_negation_by, no_negated_test, no_arguments_by, paren_open_by, bound_left_out, bound_read_by, step_left_out}
+use Rattle.template_compiler_placed_grammar.proofs.Stops.{dotted_stops, texts_stop, begins_closing_behind, opener_closing, argument_closing, closing_bound, bound_end_behind, separated_last, unless_closed, unless_open, parts_stop, filters_stop, powers_stop, operands_stop, links_stop, if_stops, else_stops, no_negation_by, no_negated_test, no_arguments_by, paren_open_by, bound_left_out, bound_read_by, step_left_out}
+
+name_tail_read : {n m : List ℕ} {ts us : List Token} → IsNameTail n ts m us → Loops dotted_step n ts (Ok (m, us))
+unfolding dotted_step
+name_tail_read (name_end {n = n} {ts = ts} e) = loop_stops (dotted_stops n ts e)
+name_tail_read (name_more t) = loop_goes refl (omega arith) (name_tail_read t)
+
+name_read : {n : List ℕ} {ts us : List Token} → IsName ts n us → name_of ts ≡ Ok (n, us)
+unfolding name_of
+name_read (name t) = all_of (name_tail_read t)
 
 texts_read : {s all : List ℕ} {ts us : List Token} → IsTexts s ts all us → Behind 0 us → Loops text_step s ts (Ok (all, us))
 unfolding text_step

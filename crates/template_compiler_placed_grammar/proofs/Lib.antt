@@ -1,12 +1,13 @@
-pub mod Bare
-pub mod Erased
-mod Stops
+pub mod Readings
+pub mod Stops
 pub mod Complete
+pub mod Sound
 pub mod Laws
-pub mod TemplateEnds
-pub mod TemplatesErased
+mod Rows
 pub mod TemplatesComplete
+pub mod TemplatesSound
 pub mod TemplateLaws
+mod TemplateRows
 mod First
 mod Wholes
 pub mod Last

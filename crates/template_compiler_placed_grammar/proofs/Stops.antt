@@ -1,16 +1,90 @@
 -- Where repetitions stop, and what the reader with places does at tokens that are given by a test alone.
-use Rattle.std.proofs.Common.{◌≡◌, true, false, List, [], ◌∷◌, codes, None, Ok, refl, ◌∙◌, ap, arith}
+use Rattle.std.proofs.Common.{◌≡◌, ℕ, ◌<◌, true, false, List, [], ◌∷◌, codes, None, Ok, refl, ◌∙◌, ap, arith}
 use Rattle.template_tree.specs.declared.span.Span.{Span}
-use Rattle.template_compiler_tokens.specs.Token.{Token, identifier, symbol, pow, dot, colon, pipe, bracket_open, paren_open, paren_close}
-use Rattle.template_compiler_tokens.specs.Steps.{Read, stops, and_then}
-use Rattle.template_compiler_grammar.specs.Words.{is_word, begins_word, begins_paren, Level}
+use Rattle.template_tree.specs.Tree.{Argument}
+use Rattle.template_compiler_tokens.specs.Token.{Token, identifier, string, symbol, pow, dot, colon, pipe, bracket_open, bracket_close, paren_open, paren_close, brace_close}
+use Rattle.template_compiler_tokens.specs.Steps.{Read, Step, goes, stops, and_then}
+use Rattle.template_compiler_grammar.specs.Words.{is_word, begins_word, begins_paren, begins_dotted, Level}
 use Rattle.template_compiler_grammar.specs.Ends.{Behind}
-use Rattle.template_compiler_grammar.specs.Reader.{name_of, begins_closing, begins_bound_end}
+use Rattle.template_compiler_grammar.specs.Reader.{dotted_step, text_step, name_of, begins_closing, begins_bound_end, separated, unless_closing}
 use Rattle.template_compiler_grammar.proofs.Ranks.{level_rank, no_is, no_operator, no_comparison, is_no_not, is_no_if, is_no_else}
-use Rattle.template_compiler_grammar.proofs.Opens.{begins_opener}
-use Rattle.template_compiler_grammar_laws.proofs.Stops.{opener_bound}
+use Rattle.template_compiler_grammar.specs.Grammar.{IsArgument, positional_argument, keyword_argument, spread_argument, keyword_spread_argument}
+use Rattle.template_compiler_grammar.proofs.Opens.{begins_opener, expression_opens}
 use Rattle.template_compiler_placed_grammar.specs.Nodes.{Node, no_node, given_node, PlacedLinks, no_placed_arguments, conditional_node}
 use Rattle.template_compiler_placed_grammar.specs.Reader.{Deeper, up_to, part_step, filter_step, power_behind, operand_behind, operand_step, link_behind, link_step, else_behind, if_behind, negation_by, comparison_by, is_by, test_by, optional_arguments_by, bound_by, step_by, paren_by, paren_behind}
+
+pub dotted_stops : (n : List ℕ) (ts : List Token) → begins_dotted ts ≡ false → dotted_step n ts ≡ stops
+unfolding dotted_step
+dotted_stops n (symbol dot ∷ identifier part ∷ ts) h = cc
+dotted_stops n _ h = refl
+
+pub texts_stop : (s : List ℕ) (ts : List Token) → Behind 0 ts → text_step s ts ≡ stops
+unfolding text_step
+texts_stop s (string t ∷ ts) h = absurd (omega arith)
+texts_stop s _ h = refl
+
+-- nothing goes on with a closing bracket
+pub begins_closing_behind : (k : ℕ) (ts : List Token) → begins_closing ts ≡ true → k < 11 → Behind k ts
+begins_closing_behind k [] h l = cc
+begins_closing_behind k (symbol paren_close ∷ ts) h l = l
+begins_closing_behind k (symbol bracket_close ∷ ts) h l = l
+begins_closing_behind k (symbol brace_close ∷ ts) h l = l
+begins_closing_behind k _ h l = cc
+
+-- an opening token is none that ends
+pub opener_closing : (ts : List Token) → begins_opener ts ≡ true → begins_closing ts ≡ false
+opener_closing [] h = cc
+opener_closing (symbol paren_close ∷ ts) h = cc
+opener_closing (symbol bracket_close ∷ ts) h = cc
+opener_closing (symbol brace_close ∷ ts) h = cc
+opener_closing _ h = refl
+
+pub opener_bound : (ts : List Token) → begins_opener ts ≡ true → begins_bound_end ts ≡ false
+opener_bound [] h = cc
+opener_bound (symbol paren_close ∷ ts) h = cc
+opener_bound (symbol bracket_close ∷ ts) h = cc
+opener_bound (symbol brace_close ∷ ts) h = cc
+opener_bound (symbol colon ∷ ts) h = cc
+opener_bound _ h = refl
+
+pub closing_bound : (ts : List Token) → begins_closing ts ≡ true → begins_bound_end ts ≡ true
+closing_bound [] h = cc
+closing_bound (symbol paren_close ∷ ts) h = refl
+closing_bound (symbol bracket_close ∷ ts) h = refl
+closing_bound (symbol brace_close ∷ ts) h = refl
+closing_bound _ h = cc
+
+pub bound_end_behind : (ts : List Token) → begins_bound_end ts ≡ true → Behind 10 ts
+bound_end_behind [] h = cc
+bound_end_behind (symbol paren_close ∷ ts) h = omega arith
+bound_end_behind (symbol bracket_close ∷ ts) h = omega arith
+bound_end_behind (symbol brace_close ∷ ts) h = omega arith
+bound_end_behind (symbol colon ∷ ts) h = omega arith
+bound_end_behind _ h = cc
+
+-- nothing that is read begins with a closing bracket
+pub argument_closing : {d : ℕ} {a : Argument} {ts us : List Token} → IsArgument d ts a us → begins_closing ts ≡ false
+argument_closing (positional_argument {ts = ts} e) = opener_closing ts (expression_opens e)
+argument_closing (keyword_argument e) = refl
+argument_closing (spread_argument e) = refl
+argument_closing (keyword_spread_argument e) = refl
+
+-- lists in brackets
+pub separated_last : {A : Type 0} (a : A) (ts : List Token) → begins_closing ts ≡ true → separated a ts ≡ goes a ts
+unfolding separated
+separated_last a [] h = cc
+separated_last a (symbol paren_close ∷ ts) h = refl
+separated_last a (symbol bracket_close ∷ ts) h = refl
+separated_last a (symbol brace_close ∷ ts) h = refl
+separated_last a _ h = cc
+
+pub unless_closed : {A : Type 0} (step : Step A) (ts : List Token) → begins_closing ts ≡ true → unless_closing step ts ≡ stops
+unfolding unless_closing
+unless_closed step ts h = rw h
+
+pub unless_open : {A : Type 0} (step : Step A) (ts : List Token) → begins_closing ts ≡ false → unless_closing step ts ≡ step
+unfolding unless_closing
+unless_open step ts h = rw h
 
 module _ (spans : List Span) where
   pub parts_stop : (r : Deeper) (start : Span) (a : Node) (ts : List Token) → Behind 1 ts → part_step spans r start a ts ≡ stops

@@ -2,6 +2,7 @@ pub mod Nodes
 pub mod Reader
 pub mod TemplateNodes
 pub mod TemplateReader
+pub mod TreeReader
 pub mod TreeStatements
 pub mod Views
 pub mod DerivedNodes

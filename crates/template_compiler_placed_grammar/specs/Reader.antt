@@ -1,6 +1,6 @@
--- The reading of an expression with the places of its nodes: the reader of `template_compiler_grammar` again, where each
--- tree has its places. What begins with a node that was read before it has the span of its start. The parser's functions cite
--- it; that without its places it is the reader, and that its places are those of the grammar, is proved.
+-- The reading of an expression from left to right, with the places of its nodes: what the grammar's relation computes to. What
+-- begins with a node that was read before it has the span of its start. The parser's functions cite it; that it is the grammar,
+-- and that its places are those of the grammar, is proved.
 use Rattle.std.specs.Prelude.{ℕ, zero, suc, pos, Bool, true, false, nat_le, if◌then◌else◌, codes, List, [], ◌∷◌, Option, None, Some, Ok, Err}
 use Rattle.template_values_model.specs.Val.{int, text}
 use Rattle.template_tree.specs.declared.span.Span.{Span}

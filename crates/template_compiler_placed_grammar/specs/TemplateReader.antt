@@ -1,6 +1,6 @@
--- The reading of statements with the places of their nodes: the reader of `template_compiler_grammar` again, where each tree
--- has its places. A statement has the span of its start. The parser's functions cite it; that without its places it is the
--- reader, and that its places are those of the grammar, is proved.
+-- The reading of statements from left to right, with the places of their nodes: what the grammar's relation computes to. A
+-- statement has the span of its start. The parser's functions cite it; that it is the grammar, and that its places are those of
+-- the grammar, is proved.
 use Rattle.std.specs.Prelude.{ℕ, zero, suc, Bool, true, false, if◌then◌else◌, codes, List, [], ◌∷◌, Option, None, Some, Result, Ok, Err}
 use Rattle.template_tree.specs.declared.span.Span.{Span}
 use Rattle.template_tree.specs.Tree.{Expression, variable, attribute, Arguments, Statement, raw, print, set, import, from_import, extends, include, continue_loop, break_loop, do_call}

@@ -11,14 +11,19 @@ use Rattle.template_compiler_tokens.specs.View.{token_of}
 use Rattle.template_compiler_tokens.specs.declared.token.Token.{Token as Scanned}
 use Rattle.template_compiler_stream.specs.Refusals.{fault_of}
 use Rattle.template_compiler_stream.specs.declared.refusal.Fault.{Fault}
-use Rattle.template_compiler_grammar.specs.Reader.{binary_by, binary_of, comparison_by, expression_at, expression_by, filtered_by, negation_by, operand_by, power_by, primary_by, terms_by, unary_by}
-use Rattle.template_compiler_grammar.specs.TemplateReader.{statement_step, statements_at, statements_by, template_behind, template_of}
+use Rattle.template_compiler_placed_grammar.specs.Nodes.{bare}
+use Rattle.template_compiler_placed_grammar.specs.Reader.{binary_by, binary_of, comparison_by, expression_by, filtered_by, negation_by, operand_by, power_by, primary_by, terms_by, unary_by}
+use Rattle.template_compiler_placed_grammar.specs.Reader as reader
+use Rattle.template_compiler_placed_grammar.specs.TemplateNodes.{bare_template}
+use Rattle.template_compiler_placed_grammar.specs.TemplateReader.{statement_step, statements_at, statements_by, template_behind}
+use Rattle.template_compiler_placed_grammar.specs.TreeReader.{expression_at, template_of}
 use Rattle.template_compiler_placed_grammar.specs.TemplateReader as placed_reader
 use Rattle.template_compiler_sources.specs.Ends.{ReadsTo}
 use Rattle.template_compiler_sources.specs.Wholes.{ParsedTemplate, expression_alone}
 use Rattle.template_compiler_sources.specs.declared.prefixes.Text.{Text}
 use Rattle.template_compiler_sources.specs.declared.prefixes.Text.TheVariants as texts
-use Rattle.template_compiler_sources.proofs.Sources.{fails_bare, read_bare}
+use Rattle.template_compiler_placed_grammar.proofs.TemplateLaws.{read_bare}
+use Rattle.template_compiler_sources.proofs.Sources.{fails_bare}
 
 -- whether a reader came to the mark
 pub read_tree : {A : Type 0} (r : Result A TokenFault) (a : A) → r ≡ Ok a → IsTrue false ↔ (r ≡ Err bad_escape)
@@ -38,11 +43,11 @@ refused_template spans ts f told e h = read_fault (template_of ts) (fault_of f) 
 
 -- the reading of no token comes to their end
 no_template : template_of (bad bad_escape ∷ []) ≡ Err bad_escape
-unfolding template_of statements_at statements_by all many goes_on statement_step template_behind
+unfolding bare_template template_of placed_reader.template_of statements_at statements_by all many goes_on statement_step template_behind
 no_template = refl
 
 no_expression : expression_alone (bad bad_escape ∷ []) ≡ Err bad_escape
-unfolding expression_at expression_by binary_by binary_of operand_by negation_by comparison_by terms_by power_by filtered_by unary_by primary_by and_then
+unfolding bare expression_at reader.expression_at expression_by binary_by binary_of operand_by negation_by comparison_by terms_by power_by filtered_by unary_by primary_by and_then
 no_expression = refl
 
 pub reads_none : (text : Text) (ts : List Token) → ReadsTo text ts 0

@@ -15,9 +15,6 @@ use Rattle.template_compiler_tokens.specs.Token.{Token, TokenFault, bad_syntax}
 use Rattle.template_compiler_tokens.specs.Places.{next_span}
 use Rattle.template_compiler_tokens.specs.Steps.{Read, fault}
 use Rattle.template_tree.specs.NodePlaces.{at}
-use Rattle.template_compiler_grammar.specs.Reader.{expression_at}
-use Rattle.template_compiler_grammar_laws.proofs.Complete.{expression_complete}
-use Rattle.template_compiler_grammar_laws.proofs.Sound.{expression_sound}
 use Rattle.template_compiler_source_tokens.specs.Scoped.{taken_spans, taken_words}
 use Rattle.template_compiler_source_tokens.specs.Spans.{HoldsTokens, token_spans}
 use Rattle.template_compiler_source_tokens.specs.Spelled.{HoldsSpelled, IsSpelled, spelled_spans}
@@ -26,21 +23,20 @@ use Rattle.template_compiler_syntax.specs.Syntax.{Syntax, IsUsable}
 use Rattle.template_compiler_segments.specs.Flat.{IsTokens}
 use Rattle.template_compiler_segments.proofs.Theorems.{one_tokens}
 use Rattle.template_compiler_grammar.specs.TemplateGrammar.{Around, nothing_around}
-use Rattle.template_compiler_grammar.specs.TemplateReader.{template_of}
 use Rattle.template_compiler_placed_grammar.specs.Nodes.{placed, Node}
 use Rattle.template_compiler_placed_grammar.specs.Reader as reader
 use Rattle.template_compiler_placed_grammar.specs.TemplateNodes.{PlacedStatement, PlacedStatements, PlacedTemplate, bare_template}
 use Rattle.template_compiler_placed_grammar.specs.TemplateReader as placed_reader
 use Rattle.template_compiler_placed_grammar.specs.Views.{statement_node_of}
-use Rattle.template_compiler_placed_grammar.proofs.Laws.{expression_sound_placed}
-use Rattle.template_compiler_placed_grammar.proofs.TemplateLaws.{template_sound_placed}
-use Rattle.template_compiler_placed_grammar.proofs.TemplatesErased.{template_erased}
+use Rattle.template_compiler_placed_grammar.specs.TreeReader.{expression_at, template_of}
+use Rattle.template_compiler_placed_grammar.proofs.Laws.{expression_sound_placed, tree_complete as expression_complete}
+use Rattle.template_compiler_placed_grammar.proofs.Sound.{expression_sound}
+use Rattle.template_compiler_placed_grammar.proofs.TemplateLaws.{template_sound_placed, tree_complete as template_complete, read_bare}
+use Rattle.template_compiler_placed_grammar.proofs.TemplatesSound.{template_erased, template_sound}
 use Rattle.template_compiler_stream.specs.Spans.{PlacedTokens}
 use Rattle.template_compiler_tokenizer.specs.Spans.{Spanned as PlacedToken, HasSpans, words_in}
 use Rattle.template_compiler_grammar.specs.TemplateTrees.{are_distinct, blocks_among}
 use Rattle.template_compiler_stream.specs.Tags.{is_done}
-use Rattle.template_compiler_grammar_laws.proofs.TemplatesComplete.{template_complete}
-use Rattle.template_compiler_grammar_laws.proofs.TemplatesSound.{template_sound}
 use Rattle.template_compiler_sources.specs.Source.{IsSource, source_of, IsPlacedSource, placed_source, IsFaulty, IsExpressionSource, expression_source, IsPlacedExpressionSource, placed_expression_source, IsFaultyExpression, RefusesSource, RefusesExpression}
 use Rattle.template_compiler_sources.specs.Wholes.{nothing_behind, expression_alone, ParsedTemplate, ParsedExpression}
 
@@ -93,11 +89,7 @@ faulty_expression source tokens f h e = record {
   treeless = no_expression source tokens f h e;
 }
 
--- what is read with places, without them
-pub read_bare : (spans : List Span) (ts : List Token) (t : PlacedTemplate) → placed_reader.template_of spans ts ≡ Ok t → template_of ts ≡ Ok t.tree
-unfolding bare_template
-read_bare spans ts t read = sym (template_erased spans ts) ∙ ap bare_template read
-
+-- what fails with places fails without them
 pub fails_bare : (spans : List Span) (ts : List Token) (f : TokenFault) → placed_reader.template_of spans ts ≡ Err f → template_of ts ≡ Err f
 unfolding bare_template
 fails_bare spans ts f read = sym (template_erased spans ts) ∙ ap bare_template read

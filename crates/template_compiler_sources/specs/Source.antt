@@ -13,7 +13,7 @@ use Rattle.template_compiler_source_tokens.specs.Spans.{token_spans}
 use Rattle.template_compiler_source_tokens.specs.Spelled.{IsSpelled, spelled_spans}
 use Rattle.template_compiler_grammar.specs.Grammar.{IsExpression}
 use Rattle.template_compiler_grammar.specs.TemplateGrammar.{IsTemplate}
-use Rattle.template_compiler_grammar.specs.TemplateReader.{template_of}
+use Rattle.template_compiler_placed_grammar.specs.TreeReader.{template_of}
 use Rattle.template_compiler_placed_grammar.specs.DerivedExpressions.{expression_places}
 use Rattle.template_compiler_placed_grammar.specs.DerivedStatements.{template_places}
 use Rattle.template_compiler_placed_grammar.specs.Nodes.{placed, Node}

@@ -11,7 +11,7 @@ use Rattle.template_tree_statements.specs.declared.statements.Template.{Template
 use Rattle.template_tree_statements.specs.declared.statements.Stmt.{Stmt, Template as Whole}
 use Rattle.template_compiler_tokens.specs.Token.{Token, TokenFault}
 use Rattle.template_compiler_tokens.specs.Steps.{Read, fault}
-use Rattle.template_compiler_grammar.specs.Reader.{expression_at}
+use Rattle.template_compiler_placed_grammar.specs.TreeReader.{expression_at}
 use Rattle.template_compiler_placed_grammar.specs.Nodes.{placed}
 use Rattle.template_compiler_placed_grammar.specs.TemplateNodes.{PlacedTemplate}
 use Rattle.template_compiler_placed_grammar.specs.TreeStatements.{places_of_statements}

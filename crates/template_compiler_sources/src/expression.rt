@@ -50,7 +50,6 @@ pub fn parse_expr<'source>(alloc: Global, source: &'source str) -> Result<Expr<'
 }
 
 /// Reads all tokens as one expression.
-#[tactic(auto, unfolding(template_compiler_grammar::specs::Reader::expression_at))]
 pub(crate) fn whole_expression<'source>(
     alloc: Global,
     tokens: &mut TokenStream<'source>,

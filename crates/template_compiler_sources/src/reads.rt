@@ -1,6 +1,4 @@
 //! The parser of expressions that statements read with.
-ghost use Rattle.template_compiler_grammar.specs.Reader.{condition_at, expression_at, filter_at, filter_chain_at};
-ghost use Rattle.template_tree.specs.View.{optional_in};
 
 use std::alloc::Global;
 use template_compiler_expression_parser as parser;

@@ -6,21 +6,16 @@ use Rattle.template_tree.specs.declared.expressions.Expr.{Expr}
 use Rattle.template_tree.specs.declared.span.Span.{Span}
 use Rattle.template_compiler_tokens.specs.Token.{Token}
 use Rattle.template_compiler_grammar.specs.Grammar.{IsFilterChain, chain_end, chain_more}
-use Rattle.template_compiler_grammar.specs.Reader as plain
-use Rattle.template_compiler_grammar_laws.proofs.Sound.{filter_chain_sound}
 use Rattle.template_compiler_placed_grammar.specs.Reader.{filter_chain_at}
 use Rattle.template_compiler_placed_grammar.specs.Views.{optional_node_in}
-use Rattle.template_compiler_placed_grammar.proofs.Bare.{bare_reads}
-use Rattle.template_compiler_placed_grammar.proofs.Erased.{filter_chain_erased}
+use Rattle.template_compiler_placed_grammar.proofs.Readings.{tree_of}
+use Rattle.template_compiler_placed_grammar.proofs.Sound.{filter_chain_both}
 
 none_left : {d : ℕ} {v f : Optional} {ts us : List Token} → IsFilterChain d v ts f us → (e : Expression) → v ≡ given e → f ≡ absent → ⊥
 none_left (chain_end {value = v}) e h k = cc
 none_left (chain_more {e = x} y m) e h k = none_left m x refl k
 
-none_read : (d : ℕ) (e : Expression) (ts us : List Token) → plain.filter_chain_at d (given e) ts ≡ Ok (absent, us) → ⊥
-none_read d e ts us h = none_left ((filter_chain_sound d (given e) ts).tree absent us h).0 e refl refl
-
 pub filters_given : (spans : List Span) (d : ℕ) (first : Expr) (ts us : List Token) →
     filter_chain_at spans d (optional_node_in (Some first)) ts ≡ Ok (optional_node_in None, us) → ⊥
 filters_given spans d first ts us h =
-    none_read d (expression_of first) ts us (bare_reads (filter_chain_erased spans d (optional_node_in (Some first)) ts) h)
+    none_left (tree_of (filter_chain_both spans spans d (given (expression_of first)) _ _ ts) h).0 (expression_of first) refl refl

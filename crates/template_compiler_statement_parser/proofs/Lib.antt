@@ -1,6 +1,5 @@
 pub mod Next
 pub mod Less
-pub mod Falls
 pub mod Wholes
 pub mod Made
 pub mod Put

@@ -9,20 +9,16 @@ use Rattle.template_tree.specs.declared.span.Span.{Span}
 use Rattle.template_compiler_tokens.specs.Places.{next_span}
 use Rattle.template_compiler_tokens.specs.Token.{Token, bad_syntax, comma, dot, paren_open, identifier, symbol}
 use Rattle.template_compiler_tokens.specs.Steps.{Read, fault, and_then, goes, stops, all}
-use Rattle.template_compiler_tokens.proofs.Loops.{Shrinks, all_goes, all_stops}
+use Rattle.template_compiler_tokens.proofs.Loops.{all_goes, all_stops}
 use Rattle.template_compiler_grammar.specs.TemplateWords.{is_reserved}
 use Rattle.template_compiler_grammar.specs.Words.{begins_word}
-use Rattle.template_compiler_grammar.specs.TemplateReader as plain
 use Rattle.template_compiler_grammar.specs.TemplateReader.{more_step}
-use Rattle.template_compiler_grammar_laws.proofs.TemplatesSound.{next_import_takes, next_target_takes, path_takes}
 use Rattle.template_compiler_placed_grammar.specs.Nodes.{Node, first_node, given_node, no_node, node, placed}
 use Rattle.template_compiler_placed_grammar.specs.Reader.{up_to}
 use Rattle.template_compiler_placed_grammar.specs.TemplateNodes.{PlacedImports, and_placed_import, unpacked_node}
 use Rattle.template_compiler_placed_grammar.specs.TemplateReader.{alias_by, import_by, inner_targets, more_targets_by, one_target_by, path_by, path_step, stored_by, target_by, targets_by}
 use Rattle.template_compiler_placed_grammar.specs.Views.{node_of}
-use Rattle.template_compiler_placed_grammar.proofs.Bare.{placed_shrinks}
-use Rattle.template_compiler_placed_grammar.proofs.TemplateEnds.{more_bare}
-use Rattle.template_compiler_placed_grammar.proofs.TemplatesErased.{import_bare, inner_bare, one_target_bare, path_step_bare}
+use Rattle.template_compiler_placed_grammar.proofs.TemplatesSound.{paths_fall}
 use Rattle.template_compiler_stream.specs.Left.{passed}
 use Rattle.template_compiler_statement_parts.proofs.Standing.{no_more}
 use Rattle.template_compiler_stream.specs.Signs.{begins_symbol, next_word, second_word}
@@ -66,11 +62,6 @@ module _ (spans : List Span) where
       ap (λ b. if b then and_then (stored_by spans ts) (λ a us. Ok (and_placed_import is n (given_node a), us))
       else Ok (and_placed_import is n no_node, t ∷ ts)) h
 
-  pub imports_fall : Shrinks (more_step (import_by spans))
-  imports_fall =
-      placed_shrinks (more_step (import_by spans)) (more_step plain.import_by) (more_bare (import_by spans) plain.import_by (import_bare spans))
-      next_import_takes
-
   -- targets
   pub no_paren_target : (dots : Bool) (inner : List Token → Read Node) (ts : List Token) → begins_symbol paren_open ts ≡ false →
       target_by spans dots inner ts ≡ and_then (stored_by spans ts) (path_by spans dots (next_span spans ts))
@@ -84,14 +75,6 @@ module _ (spans : List Span) where
   unfolding inner_targets
   inner_less dots d n ts e = ap (λ d. inner_targets spans dots d ts) e
 
-  pub targets_fall : (dots : Bool) (d : ℕ) → Shrinks (more_step (one_target_by spans dots (inner_targets spans dots d)))
-  targets_fall dots d =
-      placed_shrinks (more_step (one_target_by spans dots (inner_targets spans dots d)))
-      (more_step (plain.one_target_by dots (plain.inner_targets dots d)))
-      (more_bare (one_target_by spans dots (inner_targets spans dots d)) (plain.one_target_by dots (plain.inner_targets dots d))
-      (one_target_bare spans dots _ _ (inner_bare spans dots d)))
-      (next_target_takes dots d)
-
   -- one target with no comma behind it
   pub alone : (dots : Bool) (inner : List Token → Read Node) (start : Span) (a : Node) (ts : List Token) → begins_symbol comma ts ≡ false →
       more_targets_by spans dots inner start a ts ≡ Ok (a, ts)
@@ -101,9 +84,6 @@ module _ (spans : List Span) where
       (all_stops (more_step (one_target_by spans dots inner)) (first_node a) ts (no_more (one_target_by spans dots inner) (first_node a) ts h))
 
   -- parts of a path
-  paths_fall : (start : Span) → Shrinks (path_step spans start)
-  paths_fall start = placed_shrinks (path_step spans start) plain.path_step (path_step_bare spans start) path_takes
-
   pub path_on : (now : List Span) (start whole : Span) (e : Node) (f : Expr) (n : List ℕ) (ts us : List Token) →
       ts ≡ symbol dot ∷ identifier n ∷ us → now ≡ spans → whole ≡ up_to now start us → expression_of f ≡ attribute e.tree n →
       places_of f ≡ at whole (one e.places) → all (path_step spans start) e ts ≡ all (path_step spans start) (node_of f) us
@@ -112,7 +92,7 @@ module _ (spans : List Span) where
       let made : node_of f ≡ node (attribute e.tree n) (up_to spans start us) (one e.places) =
       ap (λ t. placed t (places_of f)) tree ∙ ap (λ p. placed (attribute e.tree n) p) places ∙
       ap (λ s. node (attribute e.tree n) s (one e.places)) (stands ∙ ap (λ spans. up_to spans start us) table) in
-      all_goes (path_step spans start) (paths_fall start) e (node_of f) ts us
+      all_goes (path_step spans start) (paths_fall spans start) e (node_of f) ts us
       (ap (λ ts. path_step spans start e ts) h ∙ ap (λ f. goes f us) (sym made))
 
 pub no_part_word : (ts : List Token) → None ≡ second_word ts → (spans : List Span) (start : Span) (e : Node) → path_step spans start e ts ≡ stops

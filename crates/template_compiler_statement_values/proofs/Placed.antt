@@ -3,21 +3,13 @@ use Rattle.std.proofs.Common.{◌≡◌, ℕ, suc, false, true, if◌then◌else
 use Rattle.template_tree.specs.declared.span.Span.{Span}
 use Rattle.template_compiler_tokens.specs.Token.{Token, bad_syntax, assign, block_end, paren_close, paren_open, symbol}
 use Rattle.template_compiler_tokens.specs.Steps.{Read, and_then, all}
-use Rattle.template_compiler_tokens.proofs.Loops.{Shrinks}
-use Rattle.template_compiler_grammar.specs.Reader as plain
-use Rattle.template_compiler_grammar.specs.TemplateReader as whole
 use Rattle.template_compiler_grammar.specs.TemplateReader.{is_nothing, more_step}
 use Rattle.template_compiler_grammar.specs.Reader.{paren_end}
 use Rattle.template_compiler_grammar.specs.Words.{begins_word}
-use Rattle.template_compiler_grammar_laws.proofs.TemplatesSound.{next_assignment_takes, next_parameter_takes, next_value_takes}
 use Rattle.template_compiler_placed_grammar.specs.Nodes.{Node, given_node, no_node}
 use Rattle.template_compiler_placed_grammar.specs.Reader.{expression_at}
 use Rattle.template_compiler_placed_grammar.specs.TemplateNodes.{PlacedParameters, and_placed_plain, no_placed_assignments, no_placed_parameters}
 use Rattle.template_compiler_placed_grammar.specs.TemplateReader.{Here, assignment_by, assignments_by, deeper_parameters, default_by, here, loop_filter_by, optional_parameters_by, parameter_by, parameters_by, value_by}
-use Rattle.template_compiler_placed_grammar.proofs.Bare.{placed_shrinks}
-use Rattle.template_compiler_placed_grammar.proofs.Erased.{expression_erased}
-use Rattle.template_compiler_placed_grammar.proofs.TemplateEnds.{more_bare}
-use Rattle.template_compiler_placed_grammar.proofs.TemplatesErased.{assignment_bare, here_bare, parameter_bare, value_bare}
 use Rattle.template_compiler_stream.specs.Signs.{begins_symbol}
 use Rattle.template_compiler_stream.specs.Tags.{begins_block_end}
 
@@ -62,26 +54,6 @@ module _ (spans : List Span) where
   some_assignment r [] h = refl
   some_assignment r (block_end ∷ ts) h = cc
   some_assignment r (t ∷ ts) h = refl
-
-  -- each round takes a token at least
-  pub values_fall : (d : ℕ) → Shrinks (more_step (value_by spans (expression_at spans d)))
-  values_fall d =
-      placed_shrinks (more_step (value_by spans (expression_at spans d))) (more_step (whole.value_by (plain.expression_at d)))
-      (more_bare (value_by spans (expression_at spans d)) (whole.value_by (plain.expression_at d)) (value_bare spans _ _ (expression_erased spans d)))
-      (next_value_takes d)
-
-  pub assignments_fall : (d : ℕ) → Shrinks (more_step (assignment_by spans (here spans d)))
-  assignments_fall d =
-      placed_shrinks (more_step (assignment_by spans (here spans d))) (more_step (whole.assignment_by (whole.here d)))
-      (more_bare (assignment_by spans (here spans d)) (whole.assignment_by (whole.here d)) (assignment_bare spans _ _ (here_bare spans d)))
-      (next_assignment_takes d)
-
-  pub parameters_fall : (d : ℕ) → Shrinks (more_step (parameter_by spans (expression_at spans d)))
-  parameters_fall d =
-      placed_shrinks (more_step (parameter_by spans (expression_at spans d))) (more_step (whole.parameter_by (plain.expression_at d)))
-      (more_bare (parameter_by spans (expression_at spans d)) (whole.parameter_by (plain.expression_at d))
-      (parameter_bare spans _ _ (expression_erased spans d)))
-      (next_parameter_takes d)
 
   -- one level less
   pub parameters_less : (d n : ℕ) (ts : List Token) → d ≡ suc n → deeper_parameters spans d ts ≡ parameters_by spans (expression_at spans n) ts

@@ -1,10 +1,10 @@
-use Rattle.template_compiler_grammar_laws.proofs.Complete.{expression_complete}
-use Rattle.template_compiler_grammar_laws.proofs.Sound.{expression_sound}
+use Rattle.template_compiler_placed_grammar.proofs.Laws.{tree_complete}
+use Rattle.template_compiler_placed_grammar.proofs.Sound.{expression_sound}
 use Rattle.template_compiler_grammar_laws.proofs.reads_the_grammar.Goals as goal
 
 pub returns : goal.returns
 returns c = record {
-  complete = expression_complete;
+  complete = tree_complete;
   sound = λ d ts us e h. ((expression_sound d ts).tree e us h).0;
   blamed = λ d ts f h. (expression_sound d ts).blames f h;
 }

@@ -1,5 +1,5 @@
 use Rattle.template_compiler_placed_grammar.proofs.Complete.{expression_complete}
-use Rattle.template_compiler_placed_grammar.proofs.Erased.{expression_erased}
+use Rattle.template_compiler_placed_grammar.proofs.Sound.{expression_erased}
 use Rattle.template_compiler_placed_grammar.proofs.Laws.{expression_sound_placed}
 use Rattle.template_compiler_placed_grammar.proofs.reads_with_places.Goals as goal
 

@@ -1,6 +1,6 @@
-use Rattle.template_compiler_grammar_laws.proofs.TemplatesComplete.{template_complete}
-use Rattle.template_compiler_grammar_laws.proofs.TemplatesSound.{template_sound, template_blamed}
+use Rattle.template_compiler_placed_grammar.proofs.TemplateLaws.{tree_complete}
+use Rattle.template_compiler_placed_grammar.proofs.TemplatesSound.{template_sound, template_blamed}
 use Rattle.template_compiler_grammar_laws.proofs.templates.reads_the_grammar.Goals as goal
 
 pub returns : goal.returns
-returns c = record { complete = template_complete; sound = template_sound; blamed = template_blamed }
+returns c = record { complete = tree_complete; sound = template_sound; blamed = template_blamed }

@@ -1,5 +1,5 @@
 use Rattle.template_compiler_placed_grammar.proofs.TemplatesComplete.{template_complete}
-use Rattle.template_compiler_placed_grammar.proofs.TemplatesErased.{template_erased}
+use Rattle.template_compiler_placed_grammar.proofs.TemplatesSound.{template_erased}
 use Rattle.template_compiler_placed_grammar.proofs.TemplateLaws.{template_sound_placed}
 use Rattle.template_compiler_placed_grammar.proofs.templates.templates_read_with_places.Goals as goal
 

@@ -17,7 +17,7 @@ use Rattle.template_compiler_statement_parser.specs.Kinds.{parent_opening}
 use Rattle.template_compiler_statement_declarations.specs.Heads.{block_rest, set_over, set_rest}
 use Rattle.template_compiler_statement_loops.specs.Heads.{for_rest}
 use Rattle.template_compiler_statement_parser.specs.Bodies.{ParsedStatement, PutBehind, if_rest, put_behind}
-use Rattle.template_compiler_statement_parser.proofs.Falls.{branches_fall, statements_fall}
+use Rattle.template_compiler_placed_grammar.proofs.TemplatesSound.{branches_fall, statements_fall}
 use Rattle.template_compiler_statement_parser.proofs.Less.{body_less}
 use Rattle.template_compiler_statement_parser.proofs.Made.{alone_fails, behind, behind_fails, body_fails, body_made, branch_made, branches_fail, else_body_fails, else_ended, else_fails, else_read, else_tag_fails, for_body_fails, for_else_fails, for_made, head_fails, if_behind, if_made, if_whole, rest_made, set_body_fails, set_body_made, set_opened, set_read}
 use Rattle.template_compiler_statement_parser.proofs.Next.{tag_here, text_put}
