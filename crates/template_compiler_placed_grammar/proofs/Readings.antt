@@ -65,8 +65,8 @@ then_by {P = P} (Ok x) (Ok y) go on r next =
     (subst (λ a. Reads P x.1 (go x.0 x.1) (on (placed a y.0.places) x.1)) (ok_tree r.same) (next x.0.tree x.0.places y.0.places x.1 z.0)))
 then_by (Ok x) (Err g) go on r next = let e = r.same in cc
 then_by (Err f) (Ok y) go on r next = let e = r.same in cc
-then_by {P = P} {ts = ts} (Err f) (Err g) go on r next =
-    let e = r.same in let is : f ≡ g = cc in subst (λ g. Reads P ts (Err f) (Err g)) is (reads_fault f (r.reads.blames f refl))
+then_by {S = S} {P = P} {ts = ts} (Err f) (Err g) go on r next =
+    let e = r.same in let is : f ≡ g = cc in subst (λ g. Reads {R = S} P ts (Err f) (Err g)) is (reads_fault f (r.reads.blames f refl))
 
 pub reads_then : {A B R S : Type 0} {P : B → List Token → Type 0} {Q : A → List Token → Type 0} {ts : List Token} {m n : Read (Placed A R)}
     (go on : Placed A R → List Token → Read (Placed B S)) → Reads Q ts m n →
@@ -129,8 +129,8 @@ under_by {P = P} (Ok x) (Ok y) go on r next =
     (subst (λ a. StepReads P x.1 (go x.0 x.1) (on (placed a y.0.places) x.1)) (ok_tree r.same) (next x.0.tree x.0.places y.0.places x.1 z.0)))
 under_by (Ok x) (Err g) go on r next = let e = r.same in cc
 under_by (Err f) (Ok y) go on r next = let e = r.same in cc
-under_by {P = P} {ts = ts} (Err f) (Err g) go on r next =
-    let e = r.same in let is : f ≡ g = cc in subst (λ g. StepReads P ts (fails f) (fails g)) is (step_fails f (r.reads.blames f refl))
+under_by {S = S} {P = P} {ts = ts} (Err f) (Err g) go on r next =
+    let e = r.same in let is : f ≡ g = cc in subst (λ g. StepReads {R = S} P ts (fails f) (fails g)) is (step_fails f (r.reads.blames f refl))
 
 pub step_under : {A B R S : Type 0} {P : B → List Token → Type 0} {Q : A → List Token → Type 0} {ts : List Token} {m n : Read (Placed A R)}
     (go on : Placed A R → List Token → Step (Placed B S)) → Reads Q ts m n →
@@ -156,7 +156,7 @@ module _ {A R : Type 0} (step on : Placed A R → List Token → Step (Placed A 
       (subst (λ t. Reads (P b.tree us) us (many n step b us) (many n on (placed t c.places) us)) tree (rest b.tree us b.places c.places))))
   goes_on_reads n a p q ts stops stops here r rest = reads_end here
   goes_on_reads n a p q ts (fails f) (fails g) here r rest =
-      let e = r.same in let is : f ≡ g = cc in subst (λ g. Reads (P a ts) ts (Err f) (Err g)) is (reads_fault f (r.reads.blames f refl))
+      let e = r.same in let is : f ≡ g = cc in subst (λ g. Reads {R = R} (P a ts) ts (Err f) (Err g)) is (reads_fault f (r.reads.blames f refl))
   goes_on_reads n a p q ts _ _ here r rest = let e = r.same in cc
 
   many_reads : ((a : A) (ts : List Token) → P a ts a ts) →

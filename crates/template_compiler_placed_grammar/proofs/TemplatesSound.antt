@@ -890,7 +890,8 @@ more_falls : {A R : Type 0} (item : A → List Token → A → List Token → Ty
     ((a : A) (p q : R) (ts : List Token) → Reads (item a ts) ts (read (placed a p) ts) (read (placed a q) ts)) → Shrinks (more_step read)
 unfolding more_step
 more_falls item read items a b (symbol comma ∷ ts) us e =
-    let l = (step_tree (step_under _ _ (items a.tree a.places a.places ts) (λ b _ _ us i. step_goes i (same us))) e).1.1 in omega arith
+    let l = (step_tree (step_under goes goes (items a.tree a.places a.places ts) (λ b p q us i. step_goes {p = p} {q = q} i (same us))) e).1.1 in
+    omega arith
 more_falls item read items a b _ us e = cc
 
 module _ (spans : List Span) where
@@ -921,9 +922,11 @@ module _ (spans : List Span) where
   unfolding statement_step
   statements_fall d p ss all (template_data s ∷ ts) us e = let same : ts ≡ us = cc in let l = ap length same in omega arith
   statements_fall d p ss all (variable_start ∷ ts) us e =
-      let l = (step_tree (printed_reads spans spans d (bodies_read spans spans d) p _ _ ss.tree ss.places ss.places ts) e).1.1 in omega arith
+      let start = next_span spans (variable_start ∷ ts) in
+      let l = (step_tree (printed_reads spans spans d (bodies_read spans spans d) p start start ss.tree ss.places ss.places ts) e).1.1 in omega arith
   statements_fall d p ss all (block_start ∷ identifier n ∷ ts) us e =
-      let l = (step_tree (tagged_reads spans spans d (bodies_read spans spans d) p _ _ ss.tree ss.places ss.places n ts) e).1.1 in omega arith
+      let start = next_span spans (block_start ∷ identifier n ∷ ts) in
+      let l = (step_tree (tagged_reads spans spans d (bodies_read spans spans d) p start start ss.tree ss.places ss.places n ts) e).1.1 in omega arith
   statements_fall d p ss all _ us e = cc
 
   pub branches_fall : (d : ℕ) (p : Around) → Shrinks (branch_step spans (here spans d) p)
