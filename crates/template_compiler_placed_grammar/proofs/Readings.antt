@@ -27,7 +27,8 @@ pub reads_end : {A R : Type 0} {P : A → List Token → Type 0} {a : A} {p q : 
 unfolding bare
 reads_end x = record { same = refl; reads = alone.reads_end x }
 
-pub reads_fault : {A R : Type 0} {P : A → List Token → Type 0} {ts : List Token} (f : TokenFault) → Blamed f ts → Reads {R = R} P ts (Err f) (Err f)
+pub reads_fault : {A R : Type 0} {P : A → List Token → Type 0} {ts : List Token} (f : TokenFault) → Blamed f ts →
+    Reads {R = R} P ts (Err f) (Err f)
 unfolding bare
 reads_fault f b = record { same = refl; reads = alone.reads_fault f b }
 
@@ -76,14 +77,16 @@ reads_then {m = m} {n = n} go on r next = then_by m n go on r next
 
 -- behind what has no places
 after_by : {A B S : Type 0} {P : B → List Token → Type 0} {Q : A → List Token → Type 0} {ts : List Token} (m : Read A)
-    (go on : A → List Token → Read (Placed B S)) → alone.Reads Q ts m → ((a : A) (us : List Token) → Q a us → Reads P us (go a us) (on a us)) →
+    (go on : A → List Token → Read (Placed B S)) → alone.Reads Q ts m →
+    ((a : A) (us : List Token) → Q a us → Reads P us (go a us) (on a us)) →
     Reads P ts (and_then m go) (and_then m on)
 unfolding and_then
 after_by (Ok x) go on r next = let y = r.tree x.0 x.1 refl in reads_within y.1 (next x.0 x.1 y.0)
 after_by (Err f) go on r next = reads_fault f (r.blames f refl)
 
 pub reads_after : {A B S : Type 0} {P : B → List Token → Type 0} {Q : A → List Token → Type 0} {ts : List Token} {m : Read A}
-    (go on : A → List Token → Read (Placed B S)) → alone.Reads Q ts m → ((a : A) (us : List Token) → Q a us → Reads P us (go a us) (on a us)) →
+    (go on : A → List Token → Read (Placed B S)) → alone.Reads Q ts m →
+    ((a : A) (us : List Token) → Q a us → Reads P us (go a us) (on a us)) →
     Reads P ts (and_then m go) (and_then m on)
 reads_after {m = m} go on r next = after_by m go on r next
 
@@ -97,7 +100,8 @@ pub step_stops : {A R : Type 0} {P : A → List Token → Type 0} {ts : List Tok
 unfolding bare_step
 step_stops = record { same = refl; reads = alone.step_stops }
 
-pub step_fails : {A R : Type 0} {P : A → List Token → Type 0} {ts : List Token} (f : TokenFault) → Blamed f ts → StepReads {R = R} P ts (fails f) (fails f)
+pub step_fails : {A R : Type 0} {P : A → List Token → Type 0} {ts : List Token} (f : TokenFault) → Blamed f ts →
+    StepReads {R = R} P ts (fails f) (fails f)
 unfolding bare_step
 step_fails f b = record { same = refl; reads = alone.step_fails f b }
 
@@ -126,11 +130,13 @@ unfolding bare under
 under_by {P = P} (Ok x) (Ok y) go on r next =
     let z = r.reads.tree x.0.tree x.1 refl in
     step_within z.1 (subst (λ us. StepReads P x.1 (go x.0 x.1) (on y.0 us)) (ok_rest r.same)
-    (subst (λ a. StepReads P x.1 (go x.0 x.1) (on (placed a y.0.places) x.1)) (ok_tree r.same) (next x.0.tree x.0.places y.0.places x.1 z.0)))
+    (subst (λ a. StepReads P x.1 (go x.0 x.1) (on (placed a y.0.places) x.1)) (ok_tree r.same)
+    (next x.0.tree x.0.places y.0.places x.1 z.0)))
 under_by (Ok x) (Err g) go on r next = let e = r.same in cc
 under_by (Err f) (Ok y) go on r next = let e = r.same in cc
 under_by {S = S} {P = P} {ts = ts} (Err f) (Err g) go on r next =
-    let e = r.same in let is : f ≡ g = cc in subst (λ g. StepReads {R = S} P ts (fails f) (fails g)) is (step_fails f (r.reads.blames f refl))
+    let e = r.same in let is : f ≡ g = cc in subst (λ g. StepReads {R = S} P ts (fails f) (fails g)) is
+        (step_fails f (r.reads.blames f refl))
 
 pub step_under : {A B R S : Type 0} {P : B → List Token → Type 0} {Q : A → List Token → Type 0} {ts : List Token} {m n : Read (Placed A R)}
     (go on : Placed A R → List Token → Step (Placed B S)) → Reads Q ts m n →
@@ -156,7 +162,8 @@ module _ {A R : Type 0} (step on : Placed A R → List Token → Step (Placed A 
       (subst (λ t. Reads (P b.tree us) us (many n step b us) (many n on (placed t c.places) us)) tree (rest b.tree us b.places c.places))))
   goes_on_reads n a p q ts stops stops here r rest = reads_end here
   goes_on_reads n a p q ts (fails f) (fails g) here r rest =
-      let e = r.same in let is : f ≡ g = cc in subst (λ g. Reads {R = R} (P a ts) ts (Err f) (Err g)) is (reads_fault f (r.reads.blames f refl))
+      let e = r.same in let is : f ≡ g = cc in subst (λ g. Reads {R = R} (P a ts) ts (Err f) (Err g)) is
+          (reads_fault f (r.reads.blames f refl))
   goes_on_reads n a p q ts _ _ here r rest = let e = r.same in cc
 
   many_reads : ((a : A) (ts : List Token) → P a ts a ts) →
@@ -186,11 +193,13 @@ unfolding bare
 bare_fails e g = sym e ∙ ap bare g
 
 -- what is read has its tree, and keeps the tokens
-pub tree_of : {A R : Type 0} {P : A → List Token → Type 0} {ts us : List Token} {m n : Read (Placed A R)} {a : Placed A R} → Reads P ts m n →
+pub tree_of : {A R : Type 0} {P : A → List Token → Type 0} {ts us : List Token} {m n : Read (Placed A R)} {a : Placed A R} →
+    Reads P ts m n →
     m ≡ Ok (a, us) → P a.tree us × Kept us ts
 tree_of {us = us} {a = a} r e = r.reads.tree a.tree us (bare_reads refl e)
 
-pub step_tree : {A R : Type 0} {P : A → List Token → Type 0} {ts us : List Token} {s t : Step (Placed A R)} {a : Placed A R} → StepReads P ts s t →
+pub step_tree : {A R : Type 0} {P : A → List Token → Type 0} {ts us : List Token} {s t : Step (Placed A R)} {a : Placed A R} →
+    StepReads P ts s t →
     s ≡ goes a us → P a.tree us × Kept us ts
 unfolding bare_step
 step_tree {us = us} {a = a} r e = r.reads.tree a.tree us (ap bare_step e)

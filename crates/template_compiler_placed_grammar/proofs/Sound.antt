@@ -86,10 +86,12 @@ name_tail_reads (suc n) m _ h = alone.reads_end (name_end refl)
 
 name_reads : (ts : List Token) → alone.Reads (IsName ts) ts (name_of ts)
 unfolding name_of all
-name_reads (identifier n ∷ ts) = alone.reads_behind (alone.reads_as (λ a us t. name t) (name_tail_reads (suc (length ts)) n ts (omega arith)))
+name_reads (identifier n ∷ ts) = alone.reads_behind
+    (alone.reads_as (λ a us t. name t) (name_tail_reads (suc (length ts)) n ts (omega arith)))
 name_reads ts = alone.reads_none ts
 
-text_reads : (s : List ℕ) (ts : List Token) → alone.StepReads (λ t us. (c : List ℕ) (vs : List Token) → IsTexts t us c vs → IsTexts s ts c vs) ts (text_step s ts)
+text_reads : (s : List ℕ) (ts : List Token) → alone.StepReads
+    (λ t us. (c : List ℕ) (vs : List Token) → IsTexts t us c vs → IsTexts s ts c vs) ts (text_step s ts)
 unfolding text_step
 text_reads s (string t ∷ ts) = alone.step_goes (λ c vs p. texts_more p) (one (string t) ts)
 text_reads s _ = alone.step_stops
@@ -164,19 +166,28 @@ few_of n e = grind (arith, nat_tests)
 
 -- what is known one level deeper
 record DeeperReads (spans others : List Span) (d : ℕ) : Type 0 where
-  expression : (ts : List Token) → Reads (λ e us. Below d (λ n. IsExpression n ts e us)) ts ((deeper spans d).expression ts) ((deeper others d).expression ts)
-  condition : (ts : List Token) → Reads (λ e us. Below d (λ n. IsBinary n disjunction ts e us)) ts ((deeper spans d).condition ts) ((deeper others d).condition ts)
-  negation : (ts : List Token) → Reads (λ e us. Below d (λ n. IsNegation n ts e us)) ts ((deeper spans d).negation ts) ((deeper others d).negation ts)
+  expression : (ts : List Token) → Reads (λ e us. Below d (λ n. IsExpression n ts e us)) ts ((deeper spans d).expression ts)
+      ((deeper others d).expression ts)
+  condition : (ts : List Token) → Reads (λ e us. Below d (λ n. IsBinary n disjunction ts e us)) ts ((deeper spans d).condition ts)
+      ((deeper others d).condition ts)
+  negation : (ts : List Token) → Reads (λ e us. Below d (λ n. IsNegation n ts e us)) ts ((deeper spans d).negation ts)
+      ((deeper others d).negation ts)
   power : (ts : List Token) → Reads (λ e us. Below d (λ n. IsPower n ts e us)) ts ((deeper spans d).power ts) ((deeper others d).power ts)
-  unary_sign : (ts : List Token) → Reads (λ e us. Below d (λ n. IsUnary n ts e us)) ts ((deeper spans d).unary_sign ts) ((deeper others d).unary_sign ts)
-  paren : (s t : Span) (ts : List Token) → Reads (λ e us. Below d (λ n. IsParen n ts e us)) ts ((deeper spans d).paren s ts) ((deeper others d).paren t ts)
+  unary_sign : (ts : List Token) → Reads (λ e us. Below d (λ n. IsUnary n ts e us)) ts ((deeper spans d).unary_sign ts)
+      ((deeper others d).unary_sign ts)
+  paren : (s t : Span) (ts : List Token) → Reads (λ e us. Below d (λ n. IsParen n ts e us)) ts ((deeper spans d).paren s ts)
+      ((deeper others d).paren t ts)
   list : (s t : Span) (ts : List Token) →
-      Reads (λ e us. Below d (λ n. IsPrimary (suc n) (symbol bracket_open ∷ ts) e us)) ts ((deeper spans d).list s ts) ((deeper others d).list t ts)
+      Reads (λ e us. Below d (λ n. IsPrimary (suc n) (symbol bracket_open ∷ ts) e us)) ts ((deeper spans d).list s ts)
+      ((deeper others d).list t ts)
   pairs : (s t : Span) (ts : List Token) →
-      Reads (λ e us. Below d (λ n. IsPrimary (suc n) (symbol brace_open ∷ ts) e us)) ts ((deeper spans d).pairs s ts) ((deeper others d).pairs t ts)
+      Reads (λ e us. Below d (λ n. IsPrimary (suc n) (symbol brace_open ∷ ts) e us)) ts ((deeper spans d).pairs s ts)
+      ((deeper others d).pairs t ts)
   subscript : (s t : Span) (a : Expression) (p q : Places) (ts : List Token) →
-      Reads (λ e us. Below d (λ n. IsSubscript n a ts e us)) ts ((deeper spans d).subscript s (placed a p) ts) ((deeper others d).subscript t (placed a q) ts)
-  arguments : (ts : List Token) → Reads (λ args us. Below d (λ n. IsArgumentList n ts args us)) ts ((deeper spans d).arguments ts) ((deeper others d).arguments ts)
+      Reads (λ e us. Below d (λ n. IsSubscript n a ts e us)) ts ((deeper spans d).subscript s (placed a p) ts)
+      ((deeper others d).subscript t (placed a q) ts)
+  arguments : (ts : List Token) → Reads (λ args us. Below d (λ n. IsArgumentList n ts args us)) ts ((deeper spans d).arguments ts)
+      ((deeper others d).arguments ts)
 
 module _ (spans others : List Span) (d : ℕ) (r : DeeperReads spans others d) where
   word_reads : (n : List ℕ) (p q : Places) (ts : List Token) (o : Option Val) → literal_word n ≡ o →
@@ -184,13 +195,15 @@ module _ (spans others : List Span) (d : ℕ) (r : DeeperReads spans others d) w
   word_reads n p q ts None e = reads_ok (name_primary e) (one (identifier n) ts)
   word_reads n p q ts (Some v) e = reads_ok (word_primary e) (one (identifier n) ts)
 
-  primary_reads : (ts : List Token) → Reads (IsPrimary d ts) ts (primary_by spans (deeper spans d) ts) (primary_by others (deeper others d) ts)
+  primary_reads : (ts : List Token) → Reads (IsPrimary d ts) ts (primary_by spans (deeper spans d) ts)
+      (primary_by others (deeper others d) ts)
   unfolding primary_by
   primary_reads (identifier n ∷ ts) = word_reads n _ _ ts (literal_word n) refl
   primary_reads (number n ∷ ts) = reads_ok number_primary (one (number n) ts)
   primary_reads (string s ∷ ts) = reads_behind (reads_after _ _ (texts_reads s ts) (λ t us x. reads_end (text_primary x)))
   primary_reads (symbol paren_open ∷ ts) =
-      reads_behind (reads_as (λ e us x. below d _ (λ n. IsPrimary n (symbol paren_open ∷ ts) e us) (λ n y. paren_primary y) x) (r.paren _ _ ts))
+      reads_behind (reads_as (λ e us x. below d _ (λ n. IsPrimary n (symbol paren_open ∷ ts) e us) (λ n y. paren_primary y) x)
+      (r.paren _ _ ts))
   primary_reads (symbol bracket_open ∷ ts) =
       reads_behind (reads_as (λ e us x. below d _ (λ n. IsPrimary n (symbol bracket_open ∷ ts) e us) (λ n y. y) x) (r.list _ _ ts))
   primary_reads (symbol brace_open ∷ ts) =
@@ -205,7 +218,8 @@ module _ (spans others : List Span) (d : ℕ) (r : DeeperReads spans others d) w
   dot_reads s t a p q ts = step_fails (fault ts) (fault_blamed ts)
 
   part_reads : (s t : Span) (a : Expression) (p q : Places) (ts : List Token) →
-      StepReads (IsPart d a ts) ts (part_step spans (deeper spans d) s (placed a p) ts) (part_step others (deeper others d) t (placed a q) ts)
+      StepReads (IsPart d a ts) ts (part_step spans (deeper spans d) s (placed a p) ts)
+      (part_step others (deeper others d) t (placed a q) ts)
   unfolding part_step
   part_reads s t a p q (symbol dot ∷ ts) = step_behind (dot_reads s t a p q ts)
   part_reads s t a p q (symbol bracket_open ∷ ts) =
@@ -232,10 +246,12 @@ module _ (spans others : List Span) (d : ℕ) (r : DeeperReads spans others d) w
 
   -- filters and tests
   optional_reads : (ts : List Token) →
-      Reads (IsOptionalArguments d ts) ts (optional_arguments_by spans (deeper spans d) ts) (optional_arguments_by others (deeper others d) ts)
+      Reads (IsOptionalArguments d ts) ts (optional_arguments_by spans (deeper spans d) ts)
+      (optional_arguments_by others (deeper others d) ts)
   unfolding optional_arguments_by
   optional_reads (symbol paren_open ∷ ts) =
-      reads_behind (reads_as (λ args us x. below d _ (λ n. IsOptionalArguments n (symbol paren_open ∷ ts) args us) (λ n y. a_list y) x) (r.arguments ts))
+      reads_behind (reads_as (λ args us x. below d _ (λ n. IsOptionalArguments n (symbol paren_open ∷ ts) args us) (λ n y. a_list y) x)
+      (r.arguments ts))
   optional_reads _ = reads_end (no_list refl)
 
   filter_reads : (s t : Span) (value : Optional) (p q : Parts) (ts : List Token) → Reads (IsFilter d value ts) ts
@@ -246,7 +262,8 @@ module _ (spans others : List Span) (d : ℕ) (r : DeeperReads spans others d) w
 
   test_arguments_reads : (negated : Bool) (s t : Span) (a : Expression) (p q : Places) (n : List ℕ) (ts us : List Token) (b : Bool) →
       begins_bare us ≡ b → IsName ts n us → Reads (IsTest d negated a ts) us
-      (test_arguments_by spans (deeper spans d) b negated s (placed a p) n us) (test_arguments_by others (deeper others d) b negated t (placed a q) n us)
+      (test_arguments_by spans (deeper spans d) b negated s (placed a p) n us)
+      (test_arguments_by others (deeper others d) b negated t (placed a q) n us)
   unfolding test_arguments_by
   test_arguments_reads g s t a p q n ts us true e x = reads_then _ _ (unary_reads us) (λ b _ _ vs y. reads_end (bare_test x e y refl))
   test_arguments_reads g s t a p q n ts us false e x = reads_then _ _ (optional_reads us)
@@ -280,10 +297,12 @@ module _ (spans others : List Span) (d : ℕ) (r : DeeperReads spans others d) w
       (λ e. step_stops)
   filter_step_reads s t a p q _ = step_stops
 
-  filtered_reads : (ts : List Token) → Reads (IsFiltered d ts) ts (filtered_by spans (deeper spans d) ts) (filtered_by others (deeper others d) ts)
+  filtered_reads : (ts : List Token) → Reads (IsFiltered d ts) ts (filtered_by spans (deeper spans d) ts)
+      (filtered_by others (deeper others d) ts)
   unfolding filtered_by
   filtered_reads ts = reads_then _ _ (unary_reads ts) (λ a p q us x. reads_as (λ e vs y. filtered_value x y)
-      (reads_all (filter_step spans (deeper spans d) (next_span spans ts)) (filter_step others (deeper others d) (next_span others ts)) (IsFilters d)
+      (reads_all (filter_step spans (deeper spans d) (next_span spans ts)) (filter_step others (deeper others d) (next_span others ts))
+      (IsFilters d)
       (λ a ts. filters_end) (λ a p q ts. step_as (λ b us x c vs y. filters_more x y) (filter_step_reads _ _ a p q ts)) a p q us))
 
   -- operators
@@ -300,7 +319,8 @@ module _ (spans others : List Span) (d : ℕ) (r : DeeperReads spans others d) w
 
   -- levels of operators, by the reading of their operands
   module _ (k : Level) (read on : List Token → Read Node) (x : (ts : List Token) → Reads (IsOperand d k ts) ts (read ts) (on ts)) where
-    operand_behind_reads : (s t : Span) (u : Token) (a : Expression) (p q : Places) (ts : List Token) (o : Option BinOpKind) → operator k u ≡ o →
+    operand_behind_reads : (s t : Span) (u : Token) (a : Expression) (p q : Places) (ts : List Token) (o : Option BinOpKind) →
+        operator k u ≡ o →
         StepReads (λ b us. (c : Expression) (vs : List Token) → IsOperands d k b us c vs → IsOperands d k a (u ∷ ts) c vs) ts
         (operand_behind spans o read s (placed a p) ts) (operand_behind others o on t (placed a q) ts)
     unfolding operand_behind
@@ -322,7 +342,8 @@ module _ (spans others : List Span) (d : ℕ) (r : DeeperReads spans others d) w
         (λ a ts. operands_end) (operand_step_reads _ _) a p q us))
 
   factors_reads : (ts : List Token) →
-      Reads (IsBinary d factors ts) ts (binary_of spans factors (power_by spans (deeper spans d)) ts) (binary_of others factors (power_by others (deeper others d)) ts)
+      Reads (IsBinary d factors ts) ts (binary_of spans factors (power_by spans (deeper spans d)) ts)
+      (binary_of others factors (power_by others (deeper others d)) ts)
   factors_reads ts = binary_of_reads factors _ _ (λ ts. reads_as (λ e us x. factor x) (power_reads ts)) ts
 
   texts_level_reads : (ts : List Token) → Reads (IsBinary d texts ts) ts
@@ -330,14 +351,16 @@ module _ (spans others : List Span) (d : ℕ) (r : DeeperReads spans others d) w
       (binary_of others texts (binary_of others factors (power_by others (deeper others d))) ts)
   texts_level_reads ts = binary_of_reads texts _ _ (λ ts. reads_as (λ e us x. text_operand x) (factors_reads ts)) ts
 
-  terms_reads : (ts : List Token) → Reads (IsBinary d terms ts) ts (terms_by spans (deeper spans d) ts) (terms_by others (deeper others d) ts)
+  terms_reads : (ts : List Token) → Reads (IsBinary d terms ts) ts (terms_by spans (deeper spans d) ts)
+      (terms_by others (deeper others d) ts)
   unfolding terms_by
   terms_reads ts = binary_of_reads terms _ _ (λ ts. reads_as (λ e us x. term x) (texts_level_reads ts)) ts
 
   -- comparisons
   not_in_reads : (ls : Links) (p q : Parts) (t : Token) (ts : List Token) → is_word (codes "not") t ≡ true →
       StepReads (λ ms us. (c : Links) (vs : List Token) → IsLinks d ms us c vs → IsLinks d ls (t ∷ ts) c vs) ts
-      (not_in_link spans (terms_by spans (deeper spans d)) (placed ls p) ts) (not_in_link others (terms_by others (deeper others d)) (placed ls q) ts)
+      (not_in_link spans (terms_by spans (deeper spans d)) (placed ls p) ts)
+      (not_in_link others (terms_by others (deeper others d)) (placed ls q) ts)
   unfolding not_in_link
   not_in_reads ls p q t [] e = step_fails bad_syntax (inl refl)
   not_in_reads ls p q t (u ∷ ts) e = step_if (is_word (codes "in") u)
@@ -347,10 +370,12 @@ module _ (spans others : List Span) (d : ℕ) (r : DeeperReads spans others d) w
       (same us))))
       (λ f. step_fails (fault (u ∷ ts)) (fault_blamed (u ∷ ts)))
 
-  link_behind_reads : (ls : Links) (p q : Parts) (t : Token) (ts : List Token) (o : Option CompareOpKind) (b : Bool) → comparison_operator t ≡ o →
+  link_behind_reads : (ls : Links) (p q : Parts) (t : Token) (ts : List Token) (o : Option CompareOpKind) (b : Bool) →
+      comparison_operator t ≡ o →
       is_word (codes "not") t ≡ b →
       StepReads (λ ms us. (c : Links) (vs : List Token) → IsLinks d ms us c vs → IsLinks d ls (t ∷ ts) c vs) ts
-      (link_behind spans o b (terms_by spans (deeper spans d)) (placed ls p) ts) (link_behind others o b (terms_by others (deeper others d)) (placed ls q) ts)
+      (link_behind spans o b (terms_by spans (deeper spans d)) (placed ls p) ts)
+      (link_behind others o b (terms_by others (deeper others d)) (placed ls q) ts)
   unfolding link_behind
   link_behind_reads ls p q t ts (Some op) b e f =
       step_under _ _ (terms_reads ts) (λ g _ _ us y. step_goes (λ c vs z. links_operator e y z) (same us))
@@ -359,19 +384,22 @@ module _ (spans others : List Span) (d : ℕ) (r : DeeperReads spans others d) w
 
   link_reads : (ls : Links) (p q : Parts) (ts : List Token) →
       StepReads (λ ms us. (c : Links) (vs : List Token) → IsLinks d ms us c vs → IsLinks d ls ts c vs) ts
-      (link_step spans (terms_by spans (deeper spans d)) (placed ls p) ts) (link_step others (terms_by others (deeper others d)) (placed ls q) ts)
+      (link_step spans (terms_by spans (deeper spans d)) (placed ls p) ts)
+      (link_step others (terms_by others (deeper others d)) (placed ls q) ts)
   unfolding link_step
   link_reads ls p q [] = step_stops
   link_reads ls p q (t ∷ ts) = step_behind (link_behind_reads ls p q t ts (comparison_operator t) (is_word (codes "not") t) refl refl)
 
-  comparison_reads : (ts : List Token) → Reads (IsComparison d ts) ts (comparison_by spans (deeper spans d) ts) (comparison_by others (deeper others d) ts)
+  comparison_reads : (ts : List Token) → Reads (IsComparison d ts) ts (comparison_by spans (deeper spans d) ts)
+      (comparison_by others (deeper others d) ts)
   unfolding comparison_by
   comparison_reads ts = reads_then _ _ (terms_reads ts) (λ a _ _ us x. reads_then _ _
       (reads_all (link_step spans (terms_by spans (deeper spans d))) (link_step others (terms_by others (deeper others d))) (IsLinks d)
       (λ ls ts. links_end) link_reads no_links _ _ us)
       (λ ls _ _ vs y. reads_end (comparison x y refl)))
 
-  negation_reads : (ts : List Token) → Reads (IsNegation d ts) ts (negation_by spans (deeper spans d) ts) (negation_by others (deeper others d) ts)
+  negation_reads : (ts : List Token) → Reads (IsNegation d ts) ts (negation_by spans (deeper spans d) ts)
+      (negation_by others (deeper others d) ts)
   unfolding negation_by
   negation_reads [] = reads_as (λ e us x. no_negation refl x) (comparison_reads [])
   negation_reads (t ∷ ts) = reads_if (is_word (codes "not") t)
@@ -381,18 +409,21 @@ module _ (spans others : List Span) (d : ℕ) (r : DeeperReads spans others d) w
       (λ f. reads_as (λ e us x. no_negation f x) (comparison_reads (t ∷ ts)))
 
   conjunction_reads : (ts : List Token) → Reads (IsBinary d conjunction ts) ts
-      (binary_of spans conjunction (negation_by spans (deeper spans d)) ts) (binary_of others conjunction (negation_by others (deeper others d)) ts)
+      (binary_of spans conjunction (negation_by spans (deeper spans d)) ts)
+      (binary_of others conjunction (negation_by others (deeper others d)) ts)
   conjunction_reads ts = binary_of_reads conjunction _ _ (λ ts. reads_as (λ e us x. conjunct x) (negation_reads ts)) ts
 
   condition_reads : (ts : List Token) →
-      Reads (IsBinary d disjunction ts) ts (binary_by spans (deeper spans d) disjunction ts) (binary_by others (deeper others d) disjunction ts)
+      Reads (IsBinary d disjunction ts) ts (binary_by spans (deeper spans d) disjunction ts)
+      (binary_by others (deeper others d) disjunction ts)
   unfolding binary_by operand_by
   condition_reads ts = binary_of_reads disjunction _ _ (λ ts. reads_as (λ e us x. disjunct x) (conjunction_reads ts)) ts
 
   -- if-expressions
   else_reads : (s t : Span) (a c : Expression) (p q p' q' : Places) (ts us vs : List Token) → IsBinary d disjunction ts a (word_if ∷ us) →
       Below d (λ n. IsBinary n disjunction us c vs) → Reads (IsExpression d ts) vs
-      (else_behind spans (deeper spans d) s (placed a p) (placed c p') vs) (else_behind others (deeper others d) t (placed a q) (placed c q') vs)
+      (else_behind spans (deeper spans d) s (placed a p) (placed c p') vs)
+      (else_behind others (deeper others d) t (placed a q) (placed c q') vs)
   unfolding else_behind
   else_reads s t a c p q p' q' ts us [] x y = reads_end (no_else d a c ts us [] x y)
   else_reads s t a c p q p' q' ts us (v ∷ vs) x y = reads_if (is_word (codes "else") v)
@@ -401,7 +432,8 @@ module _ (spans others : List Span) (d : ℕ) (r : DeeperReads spans others d) w
       (subst (λ t. Below d (λ n. IsBinary n disjunction us c (t ∷ vs))) (word_same (codes "else") v f) y) z))))
       (λ f. reads_end (no_else d a c ts us (v ∷ vs) x y))
 
-  if_reads : (s t : Span) (a : Expression) (p q : Places) (ts us : List Token) → IsBinary d disjunction ts a us → Reads (IsExpression d ts) us
+  if_reads : (s t : Span) (a : Expression) (p q : Places) (ts us : List Token) → IsBinary d disjunction ts a us →
+      Reads (IsExpression d ts) us
       (if_behind spans (deeper spans d) s (placed a p) us) (if_behind others (deeper others d) t (placed a q) us)
   unfolding if_behind
   if_reads s t a p q ts [] x = reads_end (unconditional x)
@@ -410,32 +442,38 @@ module _ (spans others : List Span) (d : ℕ) (r : DeeperReads spans others d) w
       else_reads s t a c p q p' q' ts us vs (subst (λ t. IsBinary d disjunction ts a (t ∷ us)) (word_same (codes "if") u f) x) y)))
       (λ f. reads_end (unconditional x))
 
-  expression_reads : (ts : List Token) → Reads (IsExpression d ts) ts (expression_by spans (deeper spans d) ts) (expression_by others (deeper others d) ts)
+  expression_reads : (ts : List Token) → Reads (IsExpression d ts) ts (expression_by spans (deeper spans d) ts)
+      (expression_by others (deeper others d) ts)
   unfolding expression_by
   expression_reads ts = reads_then _ _ (condition_reads ts) (λ a p q us x. if_reads _ _ a p q ts us x)
 
   -- lists in brackets
   item_reads : (es : Expressions) (p q : Parts) (ts : List Token) →
       StepReads (λ fs us. (c : Expressions) (vs : List Token) → IsItems d fs us c vs → IsItems d es ts c vs) ts
-      (items_step spans (expression_by spans (deeper spans d)) (placed es p) ts) (items_step others (expression_by others (deeper others d)) (placed es q) ts)
+      (items_step spans (expression_by spans (deeper spans d)) (placed es p) ts)
+      (items_step others (expression_by others (deeper others d)) (placed es q) ts)
   item_reads es p q ts = unless_reads ts (step_under _ _ (expression_reads ts) (λ e _ _ us x. separated_reads _ (and_expression es e) _ _ us
       (λ vs f c ws y. items_more (subst (λ us. IsExpression d ts e us) f x) y)
       (λ f c vs y. let z = items_closed y f in items_last (subst (λ us. IsExpression d ts e us) z.1 x) (sym z.0))))
 
   items_reads : (es : Expressions) (p q : Parts) (ts : List Token) → Reads (IsItems d es ts) ts
-      (items_by spans (expression_by spans (deeper spans d)) (placed es p) ts) (items_by others (expression_by others (deeper others d)) (placed es q) ts)
+      (items_by spans (expression_by spans (deeper spans d)) (placed es p) ts)
+      (items_by others (expression_by others (deeper others d)) (placed es q) ts)
   unfolding items_by
   items_reads es p q ts =
-      reads_all (items_step spans (expression_by spans (deeper spans d))) (items_step others (expression_by others (deeper others d))) (IsItems d)
+      reads_all (items_step spans (expression_by spans (deeper spans d))) (items_step others (expression_by others (deeper others d)))
+      (IsItems d)
       (λ es ts. items_end) item_reads es p q ts
 
   key_reads : (ts : List Token) → Reads (λ k us. IsExpression d ts k (symbol colon ∷ us)) ts
       (and_then (expression_by spans (deeper spans d) ts) colon_end) (and_then (expression_by others (deeper others d) ts) colon_end)
-  key_reads ts = reads_then _ _ (expression_reads ts) (λ k p q us x. colon_reads _ k p q us (λ vs f. subst (λ us. IsExpression d ts k us) f x))
+  key_reads ts = reads_then _ _ (expression_reads ts)
+      (λ k p q us x. colon_reads _ k p q us (λ vs f. subst (λ us. IsExpression d ts k us) f x))
 
   pair_reads : (ps : Paired) (p q : PairedPlaces) (ts : List Token) →
       StepReads (λ qs us. (c : Paired) (vs : List Token) → IsPairs d qs us c vs → IsPairs d ps ts c vs) ts
-      (pairs_step spans (expression_by spans (deeper spans d)) (placed ps p) ts) (pairs_step others (expression_by others (deeper others d)) (placed ps q) ts)
+      (pairs_step spans (expression_by spans (deeper spans d)) (placed ps p) ts)
+      (pairs_step others (expression_by others (deeper others d)) (placed ps q) ts)
   pair_reads ps p q ts = unless_reads ts (step_under _ _ (key_reads ts) (λ k _ _ us x. step_under _ _ (expression_reads us) (λ v _ _ vs y.
       separated_reads _ (and_pair ps k v) _ _ vs
       (λ ws f c zs z. pairs_more x (subst (λ vs. IsExpression d us v vs) f y) z)
@@ -445,15 +483,18 @@ module _ (spans others : List Span) (d : ℕ) (r : DeeperReads spans others d) w
       (pairs_by spans (expression_by spans (deeper spans d)) ts) (pairs_by others (expression_by others (deeper others d)) ts)
   unfolding pairs_by
   pairs_reads ts =
-      reads_all (pairs_step spans (expression_by spans (deeper spans d))) (pairs_step others (expression_by others (deeper others d))) (IsPairs d)
+      reads_all (pairs_step spans (expression_by spans (deeper spans d))) (pairs_step others (expression_by others (deeper others d)))
+      (IsPairs d)
       (λ ps ts. pairs_end) pair_reads nothing_paired _ _ ts
 
   paren_behind_reads : (s t : Span) (e : Expression) (p q : Places) (ts us : List Token) → IsExpression d ts e us → Reads (IsParen d ts) us
-      (paren_behind spans (expression_by spans (deeper spans d)) s (placed e p) us) (paren_behind others (expression_by others (deeper others d)) t (placed e q) us)
+      (paren_behind spans (expression_by spans (deeper spans d)) s (placed e p) us)
+      (paren_behind others (expression_by others (deeper others d)) t (placed e q) us)
   unfolding paren_behind
   paren_behind_reads s t e p q ts (symbol comma ∷ us) x =
       reads_behind (reads_then _ _ (items_reads (expressions_more e no_expressions) _ _ us) (λ es _ _ vs y.
-      paren_end_reads _ (tuple_literal es) _ _ vs (λ ws f. tuple x (subst (λ vs. IsItems d (expressions_more e no_expressions) us es vs) f y))))
+      paren_end_reads _ (tuple_literal es) _ _ vs
+      (λ ws f. tuple x (subst (λ vs. IsItems d (expressions_more e no_expressions) us es vs) f y))))
   paren_behind_reads s t e p q ts us x = paren_end_reads _ e p q us (λ vs f. in_parens (subst (λ us. IsExpression d ts e us) f x))
 
   paren_reads : (s t : Span) (ts : List Token) → Reads (IsParen d ts) ts
@@ -506,7 +547,8 @@ module _ (spans others : List Span) (d : ℕ) (r : DeeperReads spans others d) w
   subscript_behind_reads s t a p q absent p' q' ts us x = reads_none us
 
   subscript_reads : (s t : Span) (a : Expression) (p q : Places) (ts : List Token) → Reads (IsSubscript d a ts) ts
-      (subscript_by spans (expression_by spans (deeper spans d)) s (placed a p) ts) (subscript_by others (expression_by others (deeper others d)) t (placed a q) ts)
+      (subscript_by spans (expression_by spans (deeper spans d)) s (placed a p) ts)
+      (subscript_by others (expression_by others (deeper others d)) t (placed a q) ts)
   unfolding subscript_by
   subscript_reads s t a p q ts = reads_then _ _ (bound_reads ts) (λ o p' q' us x. subscript_behind_reads s t a p q o p' q' ts us x)
 
@@ -517,14 +559,16 @@ module _ (spans others : List Span) (d : ℕ) (r : DeeperReads spans others d) w
   argument_reads (identifier n ∷ symbol assign ∷ ts) =
       reads_behind (reads_behind (reads_then _ _ (expression_reads ts) (λ e _ _ us x. reads_end (keyword_argument x))))
   argument_reads (symbol mul ∷ ts) = reads_behind (reads_then _ _ (expression_reads ts) (λ e _ _ us x. reads_end (spread_argument x)))
-  argument_reads (symbol pow ∷ ts) = reads_behind (reads_then _ _ (expression_reads ts) (λ e _ _ us x. reads_end (keyword_spread_argument x)))
+  argument_reads (symbol pow ∷ ts) = reads_behind
+      (reads_then _ _ (expression_reads ts) (λ e _ _ us x. reads_end (keyword_spread_argument x)))
   argument_reads ts = reads_then _ _ (expression_reads ts) (λ e _ _ us x. reads_end (positional_argument x))
 
   next_argument_reads : (w : Written) (p q : WrittenPlaces) (ts : List Token) →
       StepReads (λ x us. (c : Written) (vs : List Token) → IsArguments d x us c vs → IsArguments d w ts c vs) ts
       (arguments_step spans (expression_by spans (deeper spans d)) (placed w p) ts)
       (arguments_step others (expression_by others (deeper others d)) (placed w q) ts)
-  next_argument_reads w p q ts = unless_reads ts (step_under _ _ (argument_reads ts) (λ a _ _ us x. separated_reads _ (and_written w a) _ _ us
+  next_argument_reads w p q ts = unless_reads ts
+      (step_under _ _ (argument_reads ts) (λ a _ _ us x. separated_reads _ (and_written w a) _ _ us
       (λ vs f c ws y. arguments_next (subst (λ us. IsArgument d ts a us) f x) y)
       (λ f c vs y. let z = arguments_closed y f in arguments_last (subst (λ us. IsArgument d ts a us) z.1 x) (sym z.0))))
 
@@ -539,7 +583,8 @@ module _ (spans others : List Span) (d : ℕ) (r : DeeperReads spans others d) w
   unfolding arguments_by
   argument_list_reads ts =
       reads_then _ _
-      (reads_all (arguments_step spans (expression_by spans (deeper spans d))) (arguments_step others (expression_by others (deeper others d)))
+      (reads_all (arguments_step spans (expression_by spans (deeper spans d)))
+      (arguments_step others (expression_by others (deeper others d)))
       (IsArguments d) (λ w ts. arguments_end) next_argument_reads nothing_written _ _ ts)
       (λ w p q us x. reads_then _ _ (paren_end_reads (λ w vs. IsArguments d nothing_written ts w (symbol paren_close ∷ vs)) w p q us
       (λ vs f. subst (λ us. IsArguments d nothing_written ts w us) f x))
@@ -614,7 +659,8 @@ module _ (spans others : List Span) where
       Reads (IsFilterChain d value ts) ts (filter_chain_at spans d (placed value p) ts) (filter_chain_at others d (placed value q) ts)
   unfolding filter_chain_at filter_chain_by
   filter_chain_both d value p q ts =
-      reads_all (chain_step spans (deeper spans d)) (chain_step others (deeper others d)) (IsFilterChain d) (λ o ts. chain_end) (chain_reads d)
+      reads_all (chain_step spans (deeper spans d)) (chain_step others (deeper others d)) (IsFilterChain d) (λ o ts. chain_end)
+      (chain_reads d)
       value p q ts
 
 -- each round of a repetition takes a token at least
@@ -625,13 +671,15 @@ module _ (spans : List Span) (d : ℕ) where
 
   pub filters_fall : (start : Span) → Shrinks (filter_step spans (deeper spans d) start)
   filters_fall start a b ts us e =
-      shrinks.filter_parts_shrinks (step_tree (filter_step_reads spans spans d (deeper_reads spans spans d) start start a.tree a.places a.places ts) e).0
+      shrinks.filter_parts_shrinks (step_tree
+      (filter_step_reads spans spans d (deeper_reads spans spans d) start start a.tree a.places a.places ts) e).0
 
   pub operands_fall : (k : Level) (start : Span) → Shrinks (operand_step spans k (operand_by spans (deeper spans d) k) start)
   unfolding operand_step
   operands_fall k start a b [] us e = cc
   operands_fall k start a b (t ∷ ts) us e =
-      let kept = (step_tree (operand_behind_reads spans spans d (deeper_reads spans spans d) k _ _ (operand_reads spans spans d k) start start
+      let kept = (step_tree (operand_behind_reads spans spans d (deeper_reads spans spans d) k _ _
+          (operand_reads spans spans d k) start start
       t a.tree a.places a.places ts (operator k t) refl) e).1.1 in omega arith
 
   pub links_fall : Shrinks (link_step spans (terms_by spans (deeper spans d)))
@@ -648,7 +696,8 @@ module _ (spans : List Span) (d : ℕ) where
   pub filter_takes : (start : Span) (value : OptionalNode) (e : Node) (ts us : List Token) →
       filter_by spans (deeper spans d) start value ts ≡ Ok (e, us) → length us < length ts
   filter_takes start value e ts us h =
-      shrinks.filter_shrinks (tree_of (filter_reads spans spans d (deeper_reads spans spans d) start start value.tree value.places value.places ts) h).0
+      shrinks.filter_shrinks (tree_of
+      (filter_reads spans spans d (deeper_reads spans spans d) start start value.tree value.places value.places ts) h).0
 
 -- without its places, the reading is the one over no table
 module _ (spans : List Span) (d : ℕ) where
@@ -664,7 +713,8 @@ module _ (spans : List Span) (d : ℕ) where
   unfolding tree.filter_at
   filter_erased value ts = (filter_both spans [] d value.tree value.places no_parts ts).same
 
-  pub filter_chain_erased : (value : OptionalNode) (ts : List Token) → bare (filter_chain_at spans d value ts) ≡ tree.filter_chain_at d value.tree ts
+  pub filter_chain_erased : (value : OptionalNode) (ts : List Token) →
+      bare (filter_chain_at spans d value ts) ≡ tree.filter_chain_at d value.tree ts
   unfolding tree.filter_chain_at
   filter_chain_erased value ts = (filter_chain_both spans [] d value.tree value.places no_parts ts).same
 
@@ -673,6 +723,7 @@ pub expression_sound : (d : ℕ) (ts : List Token) → alone.Reads (IsExpression
 unfolding tree.expression_at
 expression_sound d ts = (expression_both [] [] d ts).reads
 
-pub filter_chain_sound : (d : ℕ) (value : Optional) (ts : List Token) → alone.Reads (IsFilterChain d value ts) ts (tree.filter_chain_at d value ts)
+pub filter_chain_sound : (d : ℕ) (value : Optional) (ts : List Token) →
+    alone.Reads (IsFilterChain d value ts) ts (tree.filter_chain_at d value ts)
 unfolding tree.filter_chain_at
 filter_chain_sound d value ts = (filter_chain_both [] [] d value no_parts no_parts ts).reads

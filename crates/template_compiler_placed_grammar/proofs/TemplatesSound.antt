@@ -87,7 +87,8 @@ module _ {A : Type 0} (P : A → List Token → Type 0) where
   word_alone_by name a t ts true e x = alone.reads_ok (subst (λ t. P a (t ∷ ts)) (word_same name t e) x) (one t ts)
   word_alone_by name a t ts false e x = alone.reads_none (t ∷ ts)
 
-  word_alone : (name : List ℕ) (a : A) (ts : List Token) → P a ts → alone.Reads (λ b us. P b (identifier name ∷ us)) ts (expect_word name a ts)
+  word_alone : (name : List ℕ) (a : A) (ts : List Token) → P a ts → alone.Reads (λ b us. P b (identifier name ∷ us)) ts
+      (expect_word name a ts)
   unfolding expect_word
   word_alone name a [] x = alone.reads_syntax
   word_alone name a (t ∷ ts) x = word_alone_by name a t ts (is_word name t) refl x
@@ -126,7 +127,8 @@ context_reads_by : {A R : Type 0} (P : A → List Token → Type 0) (a : A) (p q
     (if b then expect_word (codes "context") (placed a q) ts else Ok (placed a q, t ∷ ts))
 context_reads_by P a p q t ts true e x =
     reads_behind (reads_as (λ b us y. (word (codes "with") ∷ word (codes "context") ∷ us, y, with_context))
-    (word_passes (λ b us. P b (word (codes "with") ∷ us)) (codes "context") a p q ts (subst (λ t. P a (t ∷ ts)) (word_same (codes "with") t e) x)))
+    (word_passes (λ b us. P b (word (codes "with") ∷ us)) (codes "context") a p q ts
+    (subst (λ t. P a (t ∷ ts)) (word_same (codes "with") t e) x)))
 context_reads_by P a p q t ts false e x = reads_end (t ∷ ts, x, no_context)
 
 context_reads : {A R : Type 0} (P : A → List Token → Type 0) (a : A) (p q : R) (ts : List Token) → P a ts →
@@ -135,14 +137,17 @@ unfolding context_by
 context_reads P a p q [] x = reads_end ([], x, no_context)
 context_reads P a p q (t ∷ ts) x = context_reads_by P a p q t ts (is_word (codes "with") t) refl x
 
-context_alone_by : {A : Type 0} (P : A → List Token → Type 0) (a : A) (t : Token) (ts : List Token) (b : Bool) → is_word (codes "with") t ≡ b →
+context_alone_by : {A : Type 0} (P : A → List Token → Type 0) (a : A) (t : Token) (ts : List Token) (b : Bool) →
+    is_word (codes "with") t ≡ b →
     P a (t ∷ ts) → alone.Reads (Standing P) (t ∷ ts) (if b then expect_word (codes "context") a ts else Ok (a, t ∷ ts))
 context_alone_by P a t ts true e x =
     alone.reads_behind (alone.reads_as (λ b us y. (word (codes "with") ∷ word (codes "context") ∷ us, y, with_context))
-    (word_alone (λ b us. P b (word (codes "with") ∷ us)) (codes "context") a ts (subst (λ t. P a (t ∷ ts)) (word_same (codes "with") t e) x)))
+    (word_alone (λ b us. P b (word (codes "with") ∷ us)) (codes "context") a ts
+    (subst (λ t. P a (t ∷ ts)) (word_same (codes "with") t e) x)))
 context_alone_by P a t ts false e x = alone.reads_end (t ∷ ts, x, no_context)
 
-context_alone : {A : Type 0} (P : A → List Token → Type 0) (a : A) (ts : List Token) → P a ts → alone.Reads (Standing P) ts (context_by a ts)
+context_alone : {A : Type 0} (P : A → List Token → Type 0) (a : A) (ts : List Token) → P a ts →
+    alone.Reads (Standing P) ts (context_by a ts)
 unfolding context_by
 context_alone P a [] x = alone.reads_end ([], x, no_context)
 context_alone P a (t ∷ ts) x = context_alone_by P a t ts (is_word (codes "with") t) refl x
@@ -174,7 +179,8 @@ module _ {A R : Type 0} (item : A → List Token → A → List Token → Type 0
       step_behind (step_under _ _ (items a p q ts) (λ b _ _ us i. step_goes (λ c vs m. more_next i m) (same us)))
   next_reads a p q ts = step_stops
 
-  more_reads : (a : A) (p q : R) (ts : List Token) → Reads (IsMore item a ts) ts (all (more_step read) (placed a p) ts) (all (more_step on) (placed a q) ts)
+  more_reads : (a : A) (p q : R) (ts : List Token) → Reads (IsMore item a ts) ts (all (more_step read) (placed a p) ts)
+      (all (more_step on) (placed a q) ts)
   more_reads a p q ts = reads_all (more_step read) (more_step on) (IsMore item) (λ a ts. more_end) next_reads a p q ts
 
 nothing_same : (es : Expressions) → is_nothing es ≡ true → es ≡ no_expressions
@@ -183,7 +189,8 @@ nothing_same (expressions_more a es) e = cc
 
 module _ (spans others : List Span) where
   -- targets
-  stored_reads_by : (n : List ℕ) (p q : Places) (ts : List Token) (b : Bool) → is_reserved n ≡ b → Reads (IsStored (identifier n ∷ ts)) (identifier n ∷ ts)
+  stored_reads_by : (n : List ℕ) (p q : Places) (ts : List Token) (b : Bool) → is_reserved n ≡ b →
+      Reads (IsStored (identifier n ∷ ts)) (identifier n ∷ ts)
       (if b then Err bad_syntax else Ok (placed (variable n) p, ts)) (if b then Err bad_syntax else Ok (placed (variable n) q, ts))
   stored_reads_by n p q ts true e = reads_syntax
   stored_reads_by n p q ts false e = reads_ok (stored e) (one (identifier n) ts)
@@ -215,7 +222,8 @@ module _ (spans others : List Span) where
     unfolding target_by
     target_reads (symbol paren_open ∷ ts) =
         reads_behind (reads_as
-        (λ e us x. below d (λ n. IsTargets dots n ts e (symbol paren_close ∷ us)) (λ n. IsTarget dots n (symbol paren_open ∷ ts) e us) (λ n y. paren_target y) x)
+        (λ e us x. below d (λ n. IsTargets dots n ts e (symbol paren_close ∷ us)) (λ n. IsTarget dots n (symbol paren_open ∷ ts) e us)
+        (λ n y. paren_target y) x)
         (reads_then _ _ (inner ts) (λ e p q us x. paren_passes (λ e us. Below d (λ n. IsTargets dots n ts e us)) e p q us x)))
     target_reads ts = reads_then _ _ (stored_reads ts) (λ e p q us x. path_reads dots _ _ e p q ts us d x)
 
@@ -231,11 +239,14 @@ module _ (spans others : List Span) where
         (λ fs _ _ us f. step_goes f (same us)))
     one_target_reads es p q ts = step_stops
 
-    more_targets_reads : (s t : Span) (a : Expression) (p q : Places) (ts us : List Token) → IsTarget dots d ts a us → Reads (IsTargets dots d ts) us
-        (more_targets_by spans dots (inner_targets spans dots d) s (placed a p) us) (more_targets_by others dots (inner_targets others dots d) t (placed a q) us)
+    more_targets_reads : (s t : Span) (a : Expression) (p q : Places) (ts us : List Token) → IsTarget dots d ts a us →
+        Reads (IsTargets dots d ts) us
+        (more_targets_by spans dots (inner_targets spans dots d) s (placed a p) us)
+        (more_targets_by others dots (inner_targets others dots d) t (placed a q) us)
     unfolding more_targets_by
     more_targets_reads s t a p q ts us x =
-        reads_then _ _ (reads_all (more_step (one_target_by spans dots (inner_targets spans dots d))) (more_step (one_target_by others dots (inner_targets others dots d)))
+        reads_then _ _ (reads_all (more_step (one_target_by spans dots (inner_targets spans dots d)))
+        (more_step (one_target_by others dots (inner_targets others dots d)))
         (IsMoreTargets dots d) (λ es ts. targets_end) one_target_reads (expressions_more a no_expressions) _ _ us)
         (λ es _ _ vs m. reads_end (targets x m refl))
 
@@ -261,7 +272,8 @@ module _ (spans others : List Span) where
   unfolding values_by
   values_reads d ts =
       reads_then _ _ (value_reads d no_expressions _ _ ts) (λ es p q us v.
-      reads_then _ _ (more_reads (IsValue d) (value_by spans (expression_at spans d)) (value_by others (expression_at others d)) (value_reads d) es p q us)
+      reads_then _ _ (more_reads (IsValue d) (value_by spans (expression_at spans d)) (value_by others (expression_at others d))
+      (value_reads d) es p q us)
       (λ fs _ _ vs m. reads_end (values v m refl)))
 
   assignment_reads : (d : ℕ) (gs : Assignments) (p q : Parts) (ts : List Token) → Reads (IsAssignment d gs ts) ts
@@ -279,7 +291,8 @@ module _ (spans others : List Span) where
   assignments_reads d ts =
       reads_then _ _ (assignment_reads d no_assignments _ _ ts) (λ gs p q us a.
       reads_as (λ hs vs m. some_assigned a m)
-      (more_reads (IsAssignment d) (assignment_by spans (here spans d)) (assignment_by others (here others d)) (assignment_reads d) gs p q us))
+      (more_reads (IsAssignment d) (assignment_by spans (here spans d)) (assignment_by others (here others d))
+      (assignment_reads d) gs p q us))
 
   -- conditions of loops
   loop_filter_reads : (d : ℕ) (ts : List Token) →
@@ -292,7 +305,8 @@ module _ (spans others : List Span) where
       (λ f. reads_end no_loop_filter)
 
   -- imported names
-  alias_reads : (is : Imports) (m w : Parts) (n : Expression) (p q : Places) (ts us : List Token) → IsStored ts n us → Reads (IsImport is ts) us
+  alias_reads : (is : Imports) (m w : Parts) (n : Expression) (p q : Places) (ts us : List Token) → IsStored ts n us →
+      Reads (IsImport is ts) us
       (alias_by spans (placed is m) (placed n p) us) (alias_by others (placed is w) (placed n q) us)
   unfolding alias_by
   alias_reads is m w n p q ts [] x = reads_end (same_name x refl)
@@ -301,14 +315,16 @@ module _ (spans others : List Span) where
       reads_end (other_name (subst (λ u. IsStored ts n (u ∷ us)) (word_same (codes "as") t e) x) y refl))))
       (λ e. reads_end (same_name x refl))
 
-  import_reads : (is : Imports) (m w : Parts) (ts : List Token) → Reads (IsImport is ts) ts (import_by spans (placed is m) ts) (import_by others (placed is w) ts)
+  import_reads : (is : Imports) (m w : Parts) (ts : List Token) → Reads (IsImport is ts) ts (import_by spans (placed is m) ts)
+      (import_by others (placed is w) ts)
   unfolding import_by
   import_reads is m w ts = reads_then _ _ (stored_reads ts) (λ n p q us x. alias_reads is m w n p q ts us x)
 
   -- parameters
   default_reads : (d : ℕ) (ps : Parameters) (m w : PairedPlaces) (a : Expression) (p q : Places) (ts us : List Token) → IsStored ts a us →
       Reads (IsParameter d ps ts) us
-      (default_by spans (expression_at spans d) (placed ps m) (placed a p) us) (default_by others (expression_at others d) (placed ps w) (placed a q) us)
+      (default_by spans (expression_at spans d) (placed ps m) (placed a p) us)
+      (default_by others (expression_at others d) (placed ps w) (placed a q) us)
   unfolding default_by
   default_reads d ps m w a p q ts (symbol assign ∷ us) x =
       reads_behind (reads_then _ _ (expression_both spans others d us) (λ e _ _ vs y. reads_end (default_parameter x y refl)))
@@ -337,7 +353,8 @@ module _ (spans others : List Span) where
   deeper_parameters_reads (suc d) ts = parameters_reads d ts
 
   optional_parameters_reads : (d : ℕ) (ts : List Token) →
-      Reads (IsOptionalParameters d ts) ts (optional_parameters_by spans (here spans d) ts) (optional_parameters_by others (here others d) ts)
+      Reads (IsOptionalParameters d ts) ts (optional_parameters_by spans (here spans d) ts)
+      (optional_parameters_by others (here others d) ts)
   unfolding optional_parameters_by here here_by
   optional_parameters_reads d (symbol paren_open ∷ ts) =
       reads_behind (reads_as (λ q us b.
@@ -364,8 +381,10 @@ below_with (suc d) P Q f h = f d h
 abbrev Body : ℕ → Around → List Token → Statements → List Token → Type 0
 Body d p ts body us = Below d (λ n. IsStatements n p no_statements ts body us)
 
-for_at : (d : ℕ) (p : Around) (xs ys : List Token) (body other : Statements) {t i : Expression} {f : Optional} {r : Bool} {ts us vs ws zs : List Token} →
-    IsTargets false d ts t (word_in ∷ us) → IsBinary d disjunction us i vs → IsLoopFilter d vs f ws → IsWord (codes "recursive") ws r (block_end ∷ xs) →
+for_at : (d : ℕ) (p : Around) (xs ys : List Token) (body other : Statements) {t i : Expression} {f : Optional} {r : Bool}
+    {ts us vs ws zs : List Token} →
+    IsTargets false d ts t (word_in ∷ us) → IsBinary d disjunction us i vs → IsLoopFilter d vs f ws →
+    IsWord (codes "recursive") ws r (block_end ∷ xs) →
     Body d (loop_around p) xs body ys → Below d (λ n. IsElse n p (codes "endfor") ys other zs) →
     IsStatement d p (opens (codes "for") ts) (for_loop t i f r body other) zs
 unfolding Below
@@ -374,7 +393,8 @@ for_at (suc d) p xs ys body other x y z w b e = for_statement x y z w b e
 
 if_at : (d : ℕ) (p : Around) (us vs ws : List Token) (body other : Statements) (bs : Branches) {c : Expression} {ts xs : List Token} →
     IsExpression d ts c (block_end ∷ us) → Body d p us body vs → Below d (λ n. IsBranches n p no_branches vs bs ws) →
-    Below d (λ n. IsElse n p (codes "endif") ws other xs) → IsStatement d p (opens (codes "if") ts) (if_condition c body (branched bs other)) xs
+    Below d (λ n. IsElse n p (codes "endif") ws other xs) → IsStatement d p (opens (codes "if") ts)
+    (if_condition c body (branched bs other)) xs
 unfolding Below
 if_at zero p us vs ws body other bs x b y e = absurd b
 if_at (suc d) p us vs ws body other bs x b y e = if_statement x b y e refl
@@ -428,8 +448,10 @@ unfolding Below
 macro_at zero p n us body q ts vs e x b = absurd b
 macro_at (suc d) p n us body q ts vs e x b = macro_statement e x b refl
 
-call_at : (d : ℕ) (p : Around) (vs : List Token) (body : Statements) {q : Parameters} {c : Expression} {args : Arguments} {ts us ws : List Token} →
-    IsOptionalParameters d ts q us → IsExpression d us (call c args) (block_end ∷ vs) → Body d macro_around vs body (tag (codes "endcall") ws) →
+call_at : (d : ℕ) (p : Around) (vs : List Token) (body : Statements) {q : Parameters} {c : Expression} {args : Arguments}
+    {ts us ws : List Token} →
+    IsOptionalParameters d ts q us → IsExpression d us (call c args) (block_end ∷ vs) →
+    Body d macro_around vs body (tag (codes "endcall") ws) →
     IsStatement d p (opens (codes "call") ts) (call_block c args q.0 q.1 body) ws
 unfolding Below
 call_at zero p vs body x y b = absurd b
@@ -443,16 +465,20 @@ filtered_given (chain_more {e = x} y m) e h = filtered_given m x refl
 
 parts_same : (e c : Expression) (args : Arguments) → call_parts e ≡ Some (c, args) → e ≡ call c args
 parts_same (call c' args') c args h =
-    let l = ap (λ (o : Option (Expression × Arguments)). (unwrap_or {T = Expression × Arguments} o (c, args)).0) h in let r = ap (λ (o : Option (Expression × Arguments)). (unwrap_or {T = Expression × Arguments} o (c, args)).1) h in ap (λ x. call x args') l ∙ ap (λ y. call c y) r
+    let l = ap (λ (o : Option (Expression × Arguments)). (unwrap_or {T = Expression × Arguments} o (c, args)).0) h in let r = ap
+        (λ (o : Option (Expression × Arguments)). (unwrap_or {T = Expression × Arguments} o (c, args)).1) h in ap (λ x. call x args') l ∙ ap
+        (λ y. call c y) r
 parts_same _ c args h = cc
 
 -- statements, by the reading of bodies one level deeper
 module _ (spans others : List Span) (d : ℕ) (bodies : (p : Around) (ts : List Token) →
-    Reads (λ body us. Below d (λ n. IsStatements n p no_statements ts body us)) ts (deeper_body spans d p ts) (deeper_body others d p ts)) where
+    Reads (λ body us. Below d (λ n. IsStatements n p no_statements ts body us)) ts (deeper_body spans d p ts)
+    (deeper_body others d p ts)) where
   abbrev Statement_at : Around → List ℕ → List Token → Statement → List Token → Type 0
   Statement_at p name ts s us = IsStatement d p (opens name ts) s us
 
-  body_reads : (P : Statement → List Token → Type 0) (p : Around) (end : List ℕ) (s t : Span) (make other : PlacedStatements → Span → PlacedStatement)
+  body_reads : (P : Statement → List Token → Type 0) (p : Around) (end : List ℕ) (s t : Span)
+      (make other : PlacedStatements → Span → PlacedStatement)
       (ts : List Token) →
       ((body : Statements) (m w : Parts) (k l : Span) (us : List Token) → Body d p ts body (tag end us) →
       Reads P us (Ok (make (placed body m) k, us)) (Ok (other (placed body w) l, us))) →
@@ -462,7 +488,8 @@ module _ (spans others : List Span) (d : ℕ) (bodies : (p : Around) (ts : List 
       reads_then _ _ (bodies p ts) (λ body m w us b.
       reads_then _ _ (tag_passes (Body d p ts) end body m w us b) (λ body m w vs b. f body m w _ _ vs b))
 
-  else_reads : (p : Around) (end : List ℕ) (ts : List Token) → Below d (λ n. Unit {0}) → Reads (λ other us. Below d (λ n. IsElse n p end ts other us)) ts
+  else_reads : (p : Around) (end : List ℕ) (ts : List Token) → Below d (λ n. Unit {0}) →
+      Reads (λ other us. Below d (λ n. IsElse n p end ts other us)) ts
       (else_by spans (here spans d) p end ts) (else_by others (here others d) p end ts)
   unfolding else_by here here_by
   else_reads p end ts l = reads_if (begins_tag (codes "else") ts)
@@ -475,7 +502,8 @@ module _ (spans others : List Span) (d : ℕ) (bodies : (p : Around) (ts : List 
       (λ n. subst (λ ts. IsElse n p end ts body us) x.1 (subst (λ body. IsElse n p end (tag end us) body us) (sym x.0) no_else)) l)
       (tag_passes (λ body us. (body ≡ no_statements) × (us ≡ ts)) end no_statements no_parts no_parts ts (refl, refl)))
 
-  for_body_reads : (p : Around) (ts us vs ws xs : List Token) (s s' : Span) (t i : Expression) (f : Optional) (b : Bool) (tp tq ip iq : Places) (fp fq : Parts) →
+  for_body_reads : (p : Around) (ts us vs ws xs : List Token) (s s' : Span) (t i : Expression) (f : Optional) (b : Bool)
+      (tp tq ip iq : Places) (fp fq : Parts) →
       IsTargets false d ts t (word_in ∷ us) → IsBinary d disjunction us i vs → IsLoopFilter d vs f ws → IsWord (codes "recursive") ws b xs →
       Reads (Statement_at p (codes "for") ts) xs
       (for_body spans (here spans d) p s (placed t tp) (placed i ip) (placed f fp) b xs)
@@ -484,7 +512,8 @@ module _ (spans others : List Span) (d : ℕ) (bodies : (p : Around) (ts : List 
   for_body_reads p ts us vs ws xs s s' t i f b tp tq ip iq fp fq x y z w =
       reads_after _ _ (end_alone (IsWord (codes "recursive") ws) b xs w) (λ c ys w.
       reads_then _ _ (bodies (loop_around p) ys) (λ body _ _ zs m.
-      reads_then _ _ (else_reads p (codes "endfor") zs (level_of d (λ n. IsStatements n (loop_around p) no_statements ys body zs) m)) (λ other _ _ as' o.
+      reads_then _ _ (else_reads p (codes "endfor") zs (level_of d (λ n. IsStatements n (loop_around p) no_statements ys body zs) m))
+      (λ other _ _ as' o.
       reads_end (for_at d p ys zs body other x y z w m o))))
 
   for_reads : (p : Around) (s t : Span) (ts : List Token) → Reads (Statement_at p (codes "for") ts) ts
@@ -516,10 +545,12 @@ module _ (spans others : List Span) (d : ℕ) (bodies : (p : Around) (ts : List 
   branch_test_reads : (p : Around) (bs : Branches) (m w : List (Span × Parts)) (t : Token) (ts : List Token) →
       StepReads (Branching p bs (block_start ∷ t ∷ ts)) ts
       (if is_word (codes "elif") t
-      then under (branch_by spans (here spans d) p ts) (λ b us. goes (and_placed_branch (placed bs m) (next_span spans (block_start ∷ t ∷ ts)) b) us)
+      then under (branch_by spans (here spans d) p ts)
+      (λ b us. goes (and_placed_branch (placed bs m) (next_span spans (block_start ∷ t ∷ ts)) b) us)
       else stops)
       (if is_word (codes "elif") t
-      then under (branch_by others (here others d) p ts) (λ b us. goes (and_placed_branch (placed bs w) (next_span others (block_start ∷ t ∷ ts)) b) us)
+      then under (branch_by others (here others d) p ts)
+      (λ b us. goes (and_placed_branch (placed bs w) (next_span others (block_start ∷ t ∷ ts)) b) us)
       else stops)
   branch_test_reads p bs m w t ts = step_if (is_word (codes "elif") t)
       (λ e. step_under _ _ (branch_reads p ts) (λ b _ _ us h. step_goes
@@ -557,7 +588,8 @@ module _ (spans others : List Span) (d : ℕ) (bodies : (p : Around) (ts : List 
   with_reads p s t ts =
       reads_then _ _ (assignments_reads spans others d ts) (λ gs m w us x.
       reads_then _ _ (end_passes (IsAssignments d ts) gs m w us x) (λ gs m w vs x.
-      body_reads (Statement_at p (codes "with") ts) p (codes "endwith") s t (with_node (placed gs m)) (with_node (placed gs w)) vs (λ body _ _ _ _ ws b.
+      body_reads (Statement_at p (codes "with") ts) p (codes "endwith") s t (with_node (placed gs m)) (with_node (placed gs w)) vs
+      (λ body _ _ _ _ ws b.
       reads_end (with_at d p vs body x b))))
 
   set_reads : (p : Around) (s t : Span) (ts : List Token) → Reads (Statement_at p (codes "set") ts) ts
@@ -572,7 +604,8 @@ module _ (spans others : List Span) (d : ℕ) (bodies : (p : Around) (ts : List 
       reads_then _ _ (end_passes (IsValues d ws) v m w xs z) (λ v _ _ ys z. reads_end (set_statement y z))))))
       (λ e. reads_then _ _ (filter_chain_both spans others d absent no_parts no_parts us) (λ f k l vs y.
       reads_then _ _ (end_passes (IsFilterChain d absent us) f k l vs y) (λ f k l ws y.
-      body_reads (Statement_at p (codes "set") ts) p (codes "endset") s t (set_block_node (placed a m) (placed f k)) (set_block_node (placed a w) (placed f l)) ws
+      body_reads (Statement_at p (codes "set") ts) p (codes "endset") s t (set_block_node (placed a m) (placed f k))
+      (set_block_node (placed a w) (placed f l)) ws
       (λ body _ _ _ _ xs b. reads_end (set_block_at d p ws body x y b))))))
 
   autoescape_reads : (p : Around) (s t : Span) (ts : List Token) → Reads (Statement_at p (codes "autoescape") ts) ts
@@ -581,7 +614,8 @@ module _ (spans others : List Span) (d : ℕ) (bodies : (p : Around) (ts : List 
   autoescape_reads p s t ts =
       reads_then _ _ (expression_both spans others d ts) (λ e m w us x.
       reads_then _ _ (end_passes (IsExpression d ts) e m w us x) (λ e m w vs x.
-      body_reads (Statement_at p (codes "autoescape") ts) p (codes "endautoescape") s t (auto_escape_node (placed e m)) (auto_escape_node (placed e w)) vs
+      body_reads (Statement_at p (codes "autoescape") ts) p (codes "endautoescape") s t (auto_escape_node (placed e m))
+      (auto_escape_node (placed e w)) vs
       (λ body _ _ _ _ ws b. reads_end (autoescape_at d p vs body x b))))
 
   filter_reads : (p : Around) (s t : Span) (ts : List Token) → Reads (Statement_at p (codes "filter") ts) ts
@@ -592,7 +626,8 @@ module _ (spans others : List Span) (d : ℕ) (bodies : (p : Around) (ts : List 
       reads_then _ _ (filter_chain_both spans others d (given e) _ _ us) (λ f m w vs y.
       reads_then _ _ (end_passes (IsFilterChain d (given e) us) f m w vs y) (λ f m w ws y.
       let h = filtered_given y e refl in
-      body_reads (Statement_at p (codes "filter") ts) p (codes "endfilter") s t (filter_block_node (placed f m)) (filter_block_node (placed f w)) ws
+      body_reads (Statement_at p (codes "filter") ts) p (codes "endfilter") s t (filter_block_node (placed f m))
+      (filter_block_node (placed f w)) ws
       (λ body _ _ _ _ xs b. reads_end (subst (λ g. Statement_at p (codes "filter") ts (filtered_body g body) xs) (sym h.1)
       (filter_at_level d p ws body x (subst (λ g. IsFilterChain d (given e) us g (block_end ∷ ws)) h.1 y) b))))))
 
@@ -610,7 +645,8 @@ module _ (spans others : List Span) (d : ℕ) (bodies : (p : Around) (ts : List 
       (end_passes (λ b vs. (b ≡ body) × (us ≡ vs)) body k l us (refl, refl))
 
   block_end_reads : {R : Type 0} (P : Statements → List Token → Type 0) (n : List ℕ) (body : Statements) (k l : R) (ts : List Token) →
-      ((vs : List Token) → IsBlockEnd n ts vs → P body vs) → Reads P ts (block_end_by n (placed body k) ts) (block_end_by n (placed body l) ts)
+      ((vs : List Token) → IsBlockEnd n ts vs → P body vs) → Reads P ts (block_end_by n (placed body k) ts)
+      (block_end_by n (placed body l) ts)
   unfolding block_end_by
   block_end_reads P n body k l (block_start ∷ ts) f =
       reads_behind (reads_then _ _ (word_passes (λ b us. (b ≡ body) × (ts ≡ us)) (codes "endblock") body k l ts (refl, refl))
@@ -626,7 +662,8 @@ module _ (spans others : List Span) (d : ℕ) (bodies : (p : Around) (ts : List 
       reads_after _ _ (end_alone (IsWord (codes "required") ts) b us w) (λ c vs w.
       reads_then _ _ (bodies (block_around p) vs) (λ body k l ws m.
       reads_if (is_block_body c body)
-      (λ f. reads_then _ _ (block_end_reads (λ body xs. Statement_at p (codes "block") (identifier n ∷ ts) (block n c body) xs) n body k l ws
+      (λ f. reads_then _ _ (block_end_reads
+      (λ body xs. Statement_at p (codes "block") (identifier n ∷ ts) (block n c body) xs) n body k l ws
       (λ xs g. block_at d p n vs ws body e w m f g)) (λ body _ _ xs x. reads_end x))
       (λ f. reads_syntax))))))
   block_reads p s t ts = reads_none ts
@@ -650,7 +687,8 @@ module _ (spans others : List Span) (d : ℕ) (bodies : (p : Around) (ts : List 
       reads_then _ _ (import_reads spans others no_imports _ _ vs) (λ is m w ws y.
       reads_then _ _ (more_reads IsImport (import_by spans) (import_by others) (import_reads spans others) is m w ws) (λ js m w xs z.
       reads_then _ _ (context_reads (IsMore IsImport is ws) js m w xs z) (λ js m w ys c.
-      reads_then _ _ (end_passes (Standing (IsMore IsImport is ws)) js m w ys c) (λ js _ _ zs c. reads_end (from_statement x y c.1 c.2)))))))
+      reads_then _ _ (end_passes (Standing (IsMore IsImport is ws)) js m w ys c)
+      (λ js _ _ zs c. reads_end (from_statement x y c.1 c.2)))))))
 
   extends_reads : (p : Around) (s t : Span) (ts : List Token) → Reads (Statement_at p (codes "extends") ts) ts
       (extends_by spans (here spans d) s ts) (extends_by others (here others d) t ts)
@@ -675,13 +713,15 @@ module _ (spans others : List Span) (d : ℕ) (bodies : (p : Around) (ts : List 
       reads_behind (reads_behind (reads_then _ _ (deeper_parameters_reads spans others d ts) (λ ps m w us x.
       reads_then _ _ (end_passes (λ ps us. Below d (λ m. IsParameters m ts ps us)) ps m w us x) (λ ps m w vs x.
       body_reads (Statement_at p (codes "macro") (identifier n ∷ symbol paren_open ∷ ts)) macro_around (codes "endmacro") s t
-      (macro_node n (placed ps m)) (macro_node n (placed ps w)) vs (λ body _ _ _ _ ws b. reads_end (macro_at d p n vs body ps ts ws e x b)))))))
+      (macro_node n (placed ps m)) (macro_node n (placed ps w)) vs
+      (λ body _ _ _ _ ws b. reads_end (macro_at d p n vs body ps ts ws e x b)))))))
   macro_reads p s t (identifier n ∷ ts) = reads_behind (reads_none ts)
   macro_reads p s t ts = reads_none ts
 
   only_call_reads : {A R : Type 0} {P : A → List Token → Type 0} (go on : Expression → Arguments → List Token → Read (Placed A R))
       (o : Option (Expression × Arguments)) (us : List Token) →
-      ((c : Expression) (args : Arguments) → o ≡ Some (c, args) → Reads P us (go c args us) (on c args us)) → Reads P us (only_call go o us) (only_call on o us)
+      ((c : Expression) (args : Arguments) → o ≡ Some (c, args) → Reads P us (go c args us) (on c args us)) →
+      Reads P us (only_call go o us) (only_call on o us)
   unfolding only_call
   only_call_reads go on (Some parts) us f = f parts.0 parts.1 refl
   only_call_reads go on None us f = reads_syntax
@@ -719,7 +759,8 @@ module _ (spans others : List Span) (d : ℕ) (bodies : (p : Around) (ts : List 
   abbrev Next : Around → Statements → List Token → Statements → List Token → Type 0
   Next p ss ts all us = (cs : Statements) (vs : List Token) → IsStatements d p all us cs vs → IsStatements d p ss ts cs vs
 
-  opened_reads : (p : Around) (s t : Span) (ss : Statements) (m w : Parts) (n : List ℕ) (ts : List Token) (o : Opening) (name : List ℕ) → bytes_eq name n ≡ true →
+  opened_reads : (p : Around) (s t : Span) (ss : Statements) (m w : Parts) (n : List ℕ) (ts : List Token) (o : Opening) (name : List ℕ) →
+      bytes_eq name n ≡ true →
       Reads (Statement_at p name ts) ts (opened_by spans (here spans d) p o s ts) (opened_by others (here others d) p o t ts) →
       StepReads (Next p ss (opens n ts)) ts
       (opened_step spans (here spans d) p s (placed ss m) (Some o) ts) (opened_step others (here others d) p t (placed ss w) (Some o) ts)
@@ -739,7 +780,8 @@ module _ (spans others : List Span) (d : ℕ) (bodies : (p : Around) (ts : List 
     opened_if false x y f g = g
 
     opened : (o : Opening) (name : List ℕ) → bytes_eq name n ≡ true →
-        Reads (Statement_at p name ts) ts (opened_by spans (here spans d) p o s ts) (opened_by others (here others d) p o t ts) → Tagged (Some o)
+        Reads (Statement_at p name ts) ts (opened_by spans (here spans d) p o s ts) (opened_by others (here others d) p o t ts) →
+        Tagged (Some o)
     opened o name e r = opened_reads p s t ss m w n ts o name e r
 
     tagged_reads : Tagged (opening n)
@@ -774,7 +816,8 @@ module _ (spans others : List Span) (d : ℕ) (bodies : (p : Around) (ts : List 
       reads_then _ _ (expression_both spans others d ts) (λ e m w us x.
       reads_then _ _ (print_passes (IsExpression d ts) e m w us x) (λ e _ _ vs x. reads_end (print_statement x)))
 
-  printed_reads : (p : Around) (s t : Span) (ss : Statements) (m w : Parts) (ts : List Token) → StepReads (Next p ss (variable_start ∷ ts)) ts
+  printed_reads : (p : Around) (s t : Span) (ss : Statements) (m w : Parts) (ts : List Token) →
+      StepReads (Next p ss (variable_start ∷ ts)) ts
       (under (print_by spans (here spans d) s ts) (λ a us. goes (and_placed_statement (placed ss m) a) us))
       (under (print_by others (here others d) t ts) (λ a us. goes (and_placed_statement (placed ss w) a) us))
   printed_reads p s t ss m w ts = step_under _ _ (print_reads p s t ts) (λ a _ _ us x. step_goes (λ cs vs y. statements_next x y) (same us))
@@ -791,7 +834,8 @@ module _ (spans others : List Span) (d : ℕ) (bodies : (p : Around) (ts : List 
       (statements_by spans (here spans d) p ts) (statements_by others (here others d) p ts)
   unfolding statements_by
   statements_reads p ts =
-      reads_all (statement_step spans (here spans d) p) (statement_step others (here others d) p) (IsStatements d p) (λ ss ts. statements_end)
+      reads_all (statement_step spans (here spans d) p) (statement_step others (here others d) p) (IsStatements d p)
+      (λ ss ts. statements_end)
       (statement_reads p) no_statements _ _ ts
 
 bodies_read : (spans others : List Span) (d : ℕ) (p : Around) (ts : List Token) →
@@ -817,7 +861,8 @@ ended_by (Err f) = Err f
 
 module _ (spans : List Span) (start : Span) where
   distinct_bare : (ss : PlacedStatements) (b : Bool) →
-      bare_template (if b then Ok (placed ss.tree (at (up_to spans start []) ss.places)) else Err bad_syntax) ≡ (if b then Ok ss.tree else Err bad_syntax)
+      bare_template (if b then Ok (placed ss.tree (at (up_to spans start []) ss.places)) else Err bad_syntax) ≡
+      (if b then Ok ss.tree else Err bad_syntax)
   unfolding bare_template
   distinct_bare ss true = refl
   distinct_bare ss false = refl
@@ -832,7 +877,8 @@ module _ (spans : List Span) (start : Span) where
   whole_bare (Ok x) = behind_bare x.0 x.1
   whole_bare (Err f) = refl
 
-template_bare : (spans : List Span) (ts : List Token) → bare_template (template_of spans ts) ≡ ended_by (bare (statements_at spans 150 nothing_around ts))
+template_bare : (spans : List Span) (ts : List Token) → bare_template (template_of spans ts) ≡ ended_by
+    (bare (statements_at spans 150 nothing_around ts))
 unfolding template_of
 template_bare spans ts = whole_bare spans (next_span spans ts) (statements_at spans 150 nothing_around ts)
 
@@ -843,7 +889,8 @@ template_erased spans ts =
     template_bare spans ts ∙ ap ended_by (statements_both spans [] 150 nothing_around ts).same ∙ sym (template_bare [] ts)
 
 -- it is the source's template
-whole_tree : (ts : List Token) (ss : Statements) (ts' : List Token) → IsStatements 150 nothing_around no_statements ts ss ts' → (us : Statements) →
+whole_tree : (ts : List Token) (ss : Statements) (ts' : List Token) → IsStatements 150 nothing_around no_statements ts ss ts' →
+    (us : Statements) →
     (b : Bool) → are_distinct (blocks_among ss) ≡ b → ended ss ts' ≡ Ok us → IsTemplate ts us
 whole_tree ts ss [] x us true e h =
     let taken : (if are_distinct (blocks_among ss) then Ok ss else Err bad_syntax) ≡ Ok us = h in
@@ -865,11 +912,13 @@ whole_blame ts ss [] k f false e h =
 whole_blame ts ss (t ∷ ts') k f b e h =
     let is : fault (t ∷ ts') ≡ f = cc in kept_blame (t ∷ ts') ts f k (subst (λ f. Blamed f (t ∷ ts')) is (fault_blamed (t ∷ ts')))
 
-template_by : (ts : List Token) (r : Read Statements) → alone.Reads (λ all us. IsStatements 150 nothing_around no_statements ts all us) ts r →
+template_by : (ts : List Token) (r : Read Statements) → alone.Reads
+    (λ all us. IsStatements 150 nothing_around no_statements ts all us) ts r →
     ((ss : Statements) → ended_by r ≡ Ok ss → IsTemplate ts ss) × ((f : TokenFault) → ended_by r ≡ Err f → Blamed f ts)
 template_by ts (Ok x) r =
     let y = r.tree x.0 x.1 refl in
-    (λ ss h. whole_tree ts x.0 x.1 y.0 ss (are_distinct (blocks_among x.0)) refl h, λ f h. whole_blame ts x.0 x.1 y.1 f (are_distinct (blocks_among x.0)) refl h)
+    (λ ss h. whole_tree ts x.0 x.1 y.0 ss (are_distinct (blocks_among x.0)) refl h, λ f h. whole_blame ts x.0 x.1 y.1 f
+    (are_distinct (blocks_among x.0)) refl h)
 template_by ts (Err g) r = (λ ss h. cc, λ f h. let is : g ≡ f = cc in r.blames f (ap (λ g. Err g) is))
 
 template_read : (ts : List Token) →
@@ -890,7 +939,8 @@ more_falls : {A R : Type 0} (item : A → List Token → A → List Token → Ty
     ((a : A) (p q : R) (ts : List Token) → Reads (item a ts) ts (read (placed a p) ts) (read (placed a q) ts)) → Shrinks (more_step read)
 unfolding more_step
 more_falls item read items a b (symbol comma ∷ ts) us e =
-    let l = (step_tree (step_under goes goes (items a.tree a.places a.places ts) (λ b p q us i. step_goes {p = p} {q = q} i (same us))) e).1.1 in
+    let l = (step_tree (step_under goes goes (items a.tree a.places a.places ts)
+        (λ b p q us i. step_goes {p = p} {q = q} i (same us))) e).1.1 in
     omega arith
 more_falls item read items a b _ us e = cc
 
@@ -923,14 +973,17 @@ module _ (spans : List Span) where
   statements_fall d p ss all (template_data s ∷ ts) us e = let same : ts ≡ us = cc in let l = ap length same in omega arith
   statements_fall d p ss all (variable_start ∷ ts) us e =
       let start = next_span spans (variable_start ∷ ts) in
-      let l = (step_tree (printed_reads spans spans d (bodies_read spans spans d) p start start ss.tree ss.places ss.places ts) e).1.1 in omega arith
+      let l = (step_tree (printed_reads spans spans d
+          (bodies_read spans spans d) p start start ss.tree ss.places ss.places ts) e).1.1 in omega arith
   statements_fall d p ss all (block_start ∷ identifier n ∷ ts) us e =
       let start = next_span spans (block_start ∷ identifier n ∷ ts) in
-      let l = (step_tree (tagged_reads spans spans d (bodies_read spans spans d) p start start ss.tree ss.places ss.places n ts) e).1.1 in omega arith
+      let l = (step_tree (tagged_reads spans spans d
+          (bodies_read spans spans d) p start start ss.tree ss.places ss.places n ts) e).1.1 in omega arith
   statements_fall d p ss all _ us e = cc
 
   pub branches_fall : (d : ℕ) (p : Around) → Shrinks (branch_step spans (here spans d) p)
   unfolding branch_step
   branches_fall d p bs all (block_start ∷ t ∷ ts) us e =
-      let l = (step_tree (branch_test_reads spans spans d (bodies_read spans spans d) p bs.tree bs.places bs.places t ts) e).1.1 in omega arith
+      let l = (step_tree (branch_test_reads spans spans d
+          (bodies_read spans spans d) p bs.tree bs.places bs.places t ts) e).1.1 in omega arith
   branches_fall d p bs all _ us e = cc
