@@ -9,7 +9,7 @@ use Rattle.template_tree.specs.NodePlaces.{no_parts, one}
 use Rattle.template_compiler_tokens.specs.Places.{next_span, stretch}
 use Rattle.template_compiler_tokens.specs.Token.{Token, identifier, number, symbol, variable_end, block_end, comma, colon, paren_close, bracket_close, brace_close}
 use Rattle.template_compiler_grammar.specs.Words.{is_word, literal_word, Level, factors, texts, terms, conjunction, disjunction, operator}
-use Rattle.template_compiler_grammar.specs.Reader.{word_tree}
+use Rattle.template_compiler_grammar.specs.ReaderParts.{word_tree}
 use Rattle.template_compiler_tokens.specs.Steps.{Read, and_then, stops, all}
 use Rattle.template_compiler_tokens.proofs.Loops.{then_goes, all_stops}
 use Rattle.template_compiler_placed_grammar.specs.Nodes.{Node, node, PlacedLinks, no_placed_links, compared_node}

@@ -7,7 +7,7 @@ use Rattle.template_compiler_tokens.specs.Token.{Token, TokenFault, bad, symbol,
 use Rattle.template_compiler_grammar.specs.Words.{begins_dotted, begins_word, word_not, Level, factors, texts, terms, conjunction, disjunction, operator}
 use Rattle.template_compiler_grammar.specs.Trees.{dotted}
 use Rattle.template_compiler_tokens.specs.Steps.{Read, and_then, Step, goes, stops, fails, under, all}
-use Rattle.template_compiler_grammar.specs.Reader.{dotted_step, name_of}
+use Rattle.template_compiler_grammar.specs.ReaderParts.{dotted_step, name_of}
 use Rattle.template_compiler_tokens.proofs.Loops.{Shrinks, all_goes, all_stops, all_fails}
 use Rattle.template_compiler_stream.specs.declared.refusal.Refusal.{Refusal}
 use Rattle.template_compiler_stream.specs.declared.refusal.Refusal.TheVariants as refusals

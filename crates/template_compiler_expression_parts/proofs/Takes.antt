@@ -2,7 +2,7 @@
 use Rattle.std.proofs.Common.{◌≡◌, ◌<◌, ℕ, List, ◌∷◌, length, ap, arith}
 use Rattle.template_compiler_tokens.specs.Token.{Token, symbol, identifier, string, dot}
 use Rattle.template_compiler_tokens.specs.Steps.{goes}
-use Rattle.template_compiler_grammar.specs.Reader.{dotted_step, text_step}
+use Rattle.template_compiler_grammar.specs.ReaderParts.{dotted_step, text_step}
 
 pub dotted_takes : (n m : List ℕ) (ts us : List Token) → dotted_step n ts ≡ goes m us → length us < length ts
 unfolding dotted_step

@@ -1,7 +1,7 @@
 //! What must stand behind something.
 ghost use Rattle.std.specs.Prelude.{◌≡◌, true, List};
 ghost use Rattle.template_compiler_expression_parts.specs.Parsed.{IsDeeper, Parsed, ParsedAs, Separated, written_in};
-ghost use Rattle.template_compiler_grammar.specs.Reader.{brace_end, bracket_end, colon_end, paren_end, separated};
+ghost use Rattle.template_compiler_grammar.specs.ReaderParts.{brace_end, bracket_end, colon_end, paren_end, separated};
 ghost use Rattle.template_compiler_placed_grammar.specs.Reader.{few_arguments};
 ghost use Rattle.template_compiler_placed_grammar.specs.Views.{node_of, placed_arguments_in};
 ghost use Rattle.template_tree.specs.declared.span.Span.{Span};
@@ -31,7 +31,7 @@ pub fn deeper(left: u32) -> Result<u32, Refusal>
 }
 
 /// The value, behind which a `)` stands.
-#[tactic(auto, using(crate::proofs::Nothing::no_paren), unfolding(template_compiler_grammar::specs::Reader::paren_end))]
+#[tactic(auto, using(crate::proofs::Nothing::no_paren), unfolding(template_compiler_grammar::specs::ReaderParts::paren_end))]
 pub fn in_parens<'source>(
     tokens: &mut TokenStream<'source>,
     value: Expr<'source>,
@@ -47,7 +47,7 @@ pub fn in_parens<'source>(
 }
 
 /// The value, behind which a `]` stands.
-#[tactic(auto, using(crate::proofs::Nothing::no_bracket), unfolding(template_compiler_grammar::specs::Reader::bracket_end))]
+#[tactic(auto, using(crate::proofs::Nothing::no_bracket), unfolding(template_compiler_grammar::specs::ReaderParts::bracket_end))]
 pub fn in_brackets<'source>(
     tokens: &mut TokenStream<'source>,
     value: Expr<'source>,
@@ -63,7 +63,7 @@ pub fn in_brackets<'source>(
 }
 
 /// The value, behind which a `}` stands.
-#[tactic(auto, using(crate::proofs::Nothing::no_brace), unfolding(template_compiler_grammar::specs::Reader::brace_end))]
+#[tactic(auto, using(crate::proofs::Nothing::no_brace), unfolding(template_compiler_grammar::specs::ReaderParts::brace_end))]
 pub fn in_braces<'source>(
     tokens: &mut TokenStream<'source>,
     value: Expr<'source>,
@@ -79,7 +79,7 @@ pub fn in_braces<'source>(
 }
 
 /// The key, behind which a `:` stands.
-#[tactic(auto, using(crate::proofs::Nothing::no_colon), unfolding(template_compiler_grammar::specs::Reader::colon_end))]
+#[tactic(auto, using(crate::proofs::Nothing::no_colon), unfolding(template_compiler_grammar::specs::ReaderParts::colon_end))]
 pub fn before_colon<'source>(
     tokens: &mut TokenStream<'source>,
     key: Expr<'source>,
@@ -95,7 +95,7 @@ pub fn before_colon<'source>(
 }
 
 /// Passes the comma behind an item; a closing bracket may stand there too, and stays.
-#[tactic(auto, using(crate::proofs::Nothing::no_comma), unfolding(template_compiler_grammar::specs::Reader::separated))]
+#[tactic(auto, using(crate::proofs::Nothing::no_comma), unfolding(template_compiler_grammar::specs::ReaderParts::separated))]
 pub fn separated(tokens: &mut TokenStream) -> Result<(), Refusal>
     ensures parsed { Separated (separated true tokens.old.left) tokens.new.left result }
     ensures spans { tokens.new.spans ≡ tokens.old.spans }
@@ -108,7 +108,7 @@ pub fn separated(tokens: &mut TokenStream) -> Result<(), Refusal>
 }
 
 /// The arguments, behind which a `)` stands: those by place first, and not more than [`ARGUMENT_LIMIT`].
-#[tactic(auto, using(crate::proofs::Nothing::no_paren), unfolding(template_compiler_grammar::specs::Reader::paren_end, template_compiler_tokens::specs::Steps::and_then))]
+#[tactic(auto, using(crate::proofs::Nothing::no_paren), unfolding(template_compiler_grammar::specs::ReaderParts::paren_end, template_compiler_tokens::specs::Steps::and_then))]
 pub fn in_order<'source>(
     tokens: &mut TokenStream<'source>,
     written: Written<'source>,

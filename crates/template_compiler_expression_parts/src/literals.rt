@@ -3,7 +3,7 @@ ghost use Rattle.std.specs.Prelude.{◌≡◌, pos, IfOk, IfErr, List, Ok, strin
 ghost use Rattle.std.specs.Cow.{cow_str_bytes};
 ghost use Rattle.template_compiler_expression_parts.specs.Parsed.{Parsed, ParsedAs, WentOn, dotted_by, literal_at};
 ghost use Rattle.template_compiler_stream.specs.declared.refusal.Refusal.TheVariants as refusals;
-ghost use Rattle.template_compiler_grammar.specs.Reader.{dotted_step, name_of, text_step, word_tree};
+ghost use Rattle.template_compiler_grammar.specs.ReaderParts.{dotted_step, name_of, text_step, word_tree};
 ghost use Rattle.template_compiler_placed_grammar.specs.Nodes.{node};
 ghost use Rattle.template_compiler_placed_grammar.specs.Reader.{dot_part, nothing_deeper, primary_by, up_to};
 ghost use Rattle.template_compiler_placed_grammar.specs.Views.{node_of};
@@ -30,7 +30,7 @@ use template_values_core::Value;
 /// # Errors
 ///
 /// The fault of the token where no identifier stands, or want of memory.
-#[tactic(auto, using(crate::proofs::Rounds::name_more, crate::proofs::Rounds::name_alone), unfolding(template_compiler_grammar::specs::Reader::name_of))]
+#[tactic(auto, using(crate::proofs::Rounds::name_more, crate::proofs::Rounds::name_alone), unfolding(template_compiler_grammar::specs::ReaderParts::name_of))]
 pub fn name<'source>(
     alloc: Global,
     tokens: &mut TokenStream<'source>,

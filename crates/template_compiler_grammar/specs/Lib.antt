@@ -2,8 +2,8 @@ pub mod Words
 pub mod Trees
 pub mod Grammar
 pub mod Ends
-pub mod Reader
+pub mod ReaderParts
 pub mod TemplateWords
 pub mod TemplateTrees
 pub mod TemplateGrammar
-pub mod TemplateReader
+pub mod TemplateReaderParts

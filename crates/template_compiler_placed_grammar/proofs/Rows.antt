@@ -7,7 +7,7 @@ use Rattle.template_tree.specs.declared.operators.BinOpKind.TheVariants.{Eq, Gt,
 use Rattle.template_tree.specs.declared.operators.CompareOpKind.TheVariants as compare
 use Rattle.template_compiler_tokens.specs.Token.{Token, bad_syntax, bad_escape, float_literal, bad, identifier, string, number, symbol, plus, minus, mul, pow, dot, comma, colon, assign, pipe, eq, gt, lt, bracket_open, bracket_close, paren_open, paren_close, brace_open, brace_close}
 use Rattle.template_compiler_tokens.specs.Steps.{Read, many, all, and_then, under, goes_on}
-use Rattle.template_compiler_grammar.specs.Reader.{dotted_step, name_of, text_step, paren_end, bracket_end, brace_end, colon_end, separated, unless_closing}
+use Rattle.template_compiler_grammar.specs.ReaderParts.{dotted_step, name_of, text_step, paren_end, bracket_end, brace_end, colon_end, separated, unless_closing}
 use Rattle.template_compiler_placed_grammar.specs.Nodes.{bare}
 use Rattle.template_compiler_placed_grammar.specs.Reader.{expression_by, deeper, primary_by, dot_part, part_step, parts_by, unary_by, optional_arguments_by, filter_by, test_arguments_by, test_by, is_by, filter_step, filtered_by, power_behind, power_by, operand_behind, operand_step, binary_of, terms_by, not_in_link, link_behind, link_step, comparison_by, negation_by, operand_by, binary_by, else_behind, if_behind, items_by, pairs_by, paren_behind, paren_by, list_by, map_by, bound_by, step_by, slice_by, item_by, subscript_behind, subscript_by, named_argument, argument_by, few_arguments, arguments_by}
 use Rattle.template_compiler_placed_grammar.specs.Reader as reader

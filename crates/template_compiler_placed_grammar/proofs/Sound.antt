@@ -19,7 +19,7 @@ use Rattle.template_compiler_tokens.proofs.Readings.{Kept, fault_blamed}
 use Rattle.template_compiler_grammar.specs.Words.{is_word, word_if, word_else, word_not, word_is, begins_bare, literal_word, Level, factors, texts, terms, conjunction, disjunction, operator, comparison_operator}
 use Rattle.template_compiler_grammar.specs.Trees.{dotted, and_expression, tested_as, Paired, nothing_paired, and_pair, Written, nothing_written, and_written, argument_count, in_order}
 use Rattle.template_compiler_grammar.specs.Grammar.{IsNameTail, name_end, name_more, IsName, name, IsTexts, texts_end, texts_more, IsExpression, unconditional, if_alone, if_else, IsBinary, operands, IsOperands, operands_end, operands_more, IsOperand, factor, text_operand, term, conjunct, disjunct, IsNegation, negation, no_negation, IsComparison, comparison, IsLinks, links_end, links_operator, links_not_in, IsPower, no_power, power, IsFiltered, filtered_value, IsFilters, filters_end, filters_more, IsFilterParts, filter_parts, is_test, is_not_test, IsFilter, filter, IsTest, test, bare_test, IsOptionalArguments, no_list, a_list, IsUnary, minus_sign, primary, IsParts, parts_end, parts_more, IsPart, attribute_part, number_part, subscript_part, call_part, IsSubscript, item_subscript, slice_subscript, IsBound, no_bound, a_bound, IsStep, no_step, a_step, IsPrimary, name_primary, word_primary, number_primary, text_primary, paren_primary, list_primary, map_primary, IsParen, empty_tuple, in_parens, tuple, IsItems, items_end, items_last, items_more, IsPairs, pairs_end, pairs_last, pairs_more, IsArgumentList, argument_list, IsArguments, arguments_end, arguments_last, arguments_next, IsArgument, positional_argument, keyword_argument, spread_argument, keyword_spread_argument, IsFilterChain, chain_end, chain_more}
-use Rattle.template_compiler_grammar.specs.Reader.{dotted_step, name_of, text_step, paren_end, bracket_end, brace_end, colon_end, separated, unless_closing, word_tree, begins_closing, begins_bound_end}
+use Rattle.template_compiler_grammar.specs.ReaderParts.{dotted_step, name_of, text_step, paren_end, bracket_end, brace_end, colon_end, separated, unless_closing, word_tree, begins_closing, begins_bound_end}
 use Rattle.template_compiler_grammar.proofs.Ranks.{same_name}
 use Rattle.template_compiler_grammar.proofs.Shrinks as shrinks
 use Rattle.template_compiler_grammar.proofs.Opens.{expression_opens}

@@ -6,7 +6,7 @@ use Rattle.template_compiler_tokens.specs.Token.{Token, identifier, string, symb
 use Rattle.template_compiler_tokens.specs.Steps.{Read, Step, goes, stops, and_then}
 use Rattle.template_compiler_grammar.specs.Words.{is_word, begins_word, begins_paren, begins_dotted, Level}
 use Rattle.template_compiler_grammar.specs.Ends.{Behind}
-use Rattle.template_compiler_grammar.specs.Reader.{dotted_step, text_step, name_of, begins_closing, begins_bound_end, separated, unless_closing}
+use Rattle.template_compiler_grammar.specs.ReaderParts.{dotted_step, text_step, name_of, begins_closing, begins_bound_end, separated, unless_closing}
 use Rattle.template_compiler_grammar.proofs.Ranks.{level_rank, no_is, no_operator, no_comparison, is_no_not, is_no_if, is_no_else}
 use Rattle.template_compiler_grammar.specs.Grammar.{IsArgument, positional_argument, keyword_argument, spread_argument, keyword_spread_argument}
 use Rattle.template_compiler_grammar.proofs.Opens.{begins_opener, expression_opens}

@@ -6,10 +6,10 @@ use Rattle.template_values_model.specs.Val.{int}
 use Rattle.template_tree.specs.Tree.{variable, constant, attribute, filtered, list_literal, tuple_literal, absent, given, no_expressions, expressions_more, no_arguments, raw, print, for_loop, if_condition, with_block, set, set_block, block, import, from_import, include, macro, call_block, break_loop, do_call, no_statements, statements_more, no_assignments, assignments_more, no_imports, imports_more}
 use Rattle.template_compiler_tokens.specs.Token.{bad_syntax, template_data, variable_start, variable_end, block_end, identifier, number, symbol, dot, comma, assign, pipe, paren_open, paren_close}
 use Rattle.template_compiler_tokens.specs.Steps.{and_then, under, goes_on, many, all}
-use Rattle.template_compiler_grammar.specs.Reader.{dotted_step, name_of, text_step, paren_end, bracket_end, brace_end, colon_end, separated, unless_closing}
+use Rattle.template_compiler_grammar.specs.ReaderParts.{dotted_step, name_of, text_step, paren_end, bracket_end, brace_end, colon_end, separated, unless_closing}
 use Rattle.template_compiler_grammar.specs.TemplateWords.{opens, tag}
 use Rattle.template_compiler_grammar.specs.TemplateGrammar.{nothing_around}
-use Rattle.template_compiler_grammar.specs.TemplateReader.{expect_word, expect_assign, print_end, tag_end, expect_tag, more_step, word_by, context_by, missing_behind, missing_by, end_name_by, block_end_by, only_call}
+use Rattle.template_compiler_grammar.specs.TemplateReaderParts.{expect_word, expect_assign, print_end, tag_end, expect_tag, more_step, word_by, context_by, missing_behind, missing_by, end_name_by, block_end_by, only_call}
 use Rattle.template_compiler_placed_grammar.specs.Nodes.{bare}
 use Rattle.template_compiler_placed_grammar.specs.Reader.{primary_by, dot_part, part_step, parts_by, unary_by, optional_arguments_by, filter_by, test_arguments_by, test_by, is_by, filter_step, filtered_by, chain_step, filter_chain_by, power_behind, power_by, operand_behind, operand_step, binary_of, terms_by, not_in_link, link_behind, link_step, comparison_by, negation_by, operand_by, binary_by, else_behind, if_behind, expression_by, items_by, pairs_by, paren_behind, paren_by, list_by, map_by, bound_by, step_by, slice_by, item_by, subscript_behind, subscript_by, named_argument, argument_by, few_arguments, arguments_by, deeper, expression_at, condition_at, optional_arguments_at, filter_at, filter_chain_at}
 use Rattle.template_compiler_placed_grammar.specs.TemplateNodes.{bare_template}

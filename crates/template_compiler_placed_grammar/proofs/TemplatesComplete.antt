@@ -11,7 +11,7 @@ use Rattle.template_compiler_tokens.specs.Steps.{Read, goes, stops, and_then, al
 use Rattle.template_compiler_tokens.proofs.Loops.{then_goes, under_goes, Loops, loop_stops, loop_goes, all_of}
 use Rattle.template_compiler_grammar.specs.Words.{is_word, begins_paren}
 use Rattle.template_compiler_grammar.specs.Ends.{Behind}
-use Rattle.template_compiler_grammar.specs.Reader.{paren_end}
+use Rattle.template_compiler_grammar.specs.ReaderParts.{paren_end}
 use Rattle.template_compiler_grammar.specs.Grammar.{IsFilterChain, chain_end, chain_more}
 use Rattle.template_compiler_grammar.proofs.Shrinks.{expression_shrinks}
 use Rattle.template_compiler_placed_grammar.specs.DerivedNodes.{and_place, PairedPlaces}
@@ -24,7 +24,7 @@ use Rattle.template_compiler_placed_grammar.proofs.Complete.{expression_complete
 use Rattle.template_compiler_grammar.specs.TemplateWords.{tag, opens, word}
 use Rattle.template_compiler_grammar.specs.TemplateTrees.{Branches, and_branch, branched, Parameters, no_parameters}
 use Rattle.template_compiler_grammar.specs.TemplateGrammar.{Around, IsStored, stored, IsPath, path_end, path_more, IsMore, more_end, more_next, IsTarget, name_target, path_target, paren_target, IsTargets, targets, IsMoreTargets, targets_end, targets_next, IsValue, value, IsValues, values, IsAssignment, assignment, IsAssignments, none_assigned, some_assigned, IsLoopFilter, no_loop_filter, a_loop_filter, IsWord, no_word, a_word, IsContext, no_context, with_context, IsMissing, not_ignored, ignored, IsImport, same_name, other_name, IsParameter, plain_parameter, default_parameter, IsParameters, none_declared, some_declared, IsOptionalParameters, not_declared, declared, IsBlockEnd, plain_end, named_end, IsStatements, statements_end, statements_next, IsStatement, text_statement, print_statement, for_statement, if_statement, with_statement, set_statement, set_block_statement, autoescape_statement, filter_statement, block_statement, import_statement, from_statement, extends_statement, include_statement, macro_statement, call_statement, do_statement, break_statement, continue_statement, IsBranches, branches_end, branches_next, IsElse, no_else, an_else, IsTemplate, whole_template}
-use Rattle.template_compiler_grammar.specs.TemplateReader.{expect_word, expect_assign, print_end, tag_end, expect_tag, more_step, word_by, context_by, missing_behind, missing_by, begins_values, end_name_by, block_end_by, only_call, opening}
+use Rattle.template_compiler_grammar.specs.TemplateReaderParts.{expect_word, expect_assign, print_end, tag_end, expect_tag, more_step, word_by, context_by, missing_behind, missing_by, begins_values, end_name_by, block_end_by, only_call, opening}
 use Rattle.template_compiler_grammar.proofs.TemplateShrinks.{target_shrinks, value_shrinks, assignment_shrinks, import_shrinks, parameter_shrinks, statement_shrinks, statements_within}
 use Rattle.template_compiler_placed_grammar.specs.TemplateNodes.{no_placed_assignments, PlacedImports, and_placed_import, PlacedParameters, no_placed_parameters, and_placed_plain, PlacedStatements, no_placed_statements, and_placed_statement, PlacedBranches, branched_at}
 use Rattle.template_compiler_placed_grammar.specs.TemplateReader.{Here, path_step, stored_by, path_by, target_by, one_target_by, more_targets_by, targets_by, inner_targets, value_by, values_by, assignment_by, assignments_by, loop_filter_by, alias_by, import_by, default_by, parameter_by, parameters_by, optional_parameters_by, body_by, else_by, for_body, for_in, for_by, branch_by, branch_step, if_by, with_by, set_values, set_body, set_behind, set_by, autoescape_by, filter_block_by, block_body, block_by, import_statement_by, from_by, extends_by, include_by, macro_by, call_body, call_by, do_by, in_loop, opened_by, opened_step, print_by, statement_step, statements_by, deeper_parameters, here_by, deeper_body, here, statements_at, template_behind, whole, template_of}

@@ -14,12 +14,12 @@ use Rattle.template_compiler_tokens.proofs.Loops.{Shrinks}
 use Rattle.template_compiler_tokens.proofs.Readings as alone
 use Rattle.template_compiler_tokens.proofs.Readings.{Kept, fault_blamed}
 use Rattle.template_compiler_grammar.specs.Words.{is_word, word_in, disjunction}
-use Rattle.template_compiler_grammar.specs.Reader.{paren_end}
+use Rattle.template_compiler_grammar.specs.ReaderParts.{paren_end}
 use Rattle.template_compiler_grammar.specs.Grammar.{IsExpression, IsBinary, IsFilter, IsFilterChain, chain_end, chain_more}
 use Rattle.template_compiler_grammar.specs.TemplateWords.{tag, opens, word, is_reserved}
 use Rattle.template_compiler_grammar.specs.TemplateTrees.{Branches, no_branches, and_branch, branched, Parameters, no_parameters, is_block_body, blocks_among, are_distinct}
 use Rattle.template_compiler_grammar.specs.TemplateGrammar.{Around, nothing_around, loop_around, block_around, macro_around, IsStored, stored, IsPath, path_end, path_more, IsMore, more_end, more_next, IsTarget, name_target, path_target, paren_target, IsTargets, targets, IsMoreTargets, targets_end, targets_next, IsValue, value, IsValues, values, IsAssignment, assignment, IsAssignments, none_assigned, some_assigned, IsLoopFilter, no_loop_filter, a_loop_filter, IsWord, no_word, a_word, IsContext, no_context, with_context, IsMissing, not_ignored, ignored, IsImport, same_name, other_name, IsParameter, plain_parameter, default_parameter, IsParameters, none_declared, some_declared, IsOptionalParameters, not_declared, declared, IsBlockEnd, plain_end, named_end, IsStatements, statements_end, statements_next, IsStatement, text_statement, print_statement, for_statement, if_statement, with_statement, set_statement, set_block_statement, autoescape_statement, filter_statement, block_statement, import_statement, from_statement, extends_statement, include_statement, macro_statement, call_statement, do_statement, break_statement, continue_statement, IsBranches, branches_end, branches_next, IsElse, no_else, an_else, IsTemplate, whole_template}
-use Rattle.template_compiler_grammar.specs.TemplateReader.{expect_word, expect_assign, print_end, tag_end, expect_tag, more_step, for_tag, if_tag, with_tag, set_tag, autoescape_tag, filter_tag, block_tag, import_tag, from_tag, extends_tag, include_tag, macro_tag, call_tag, do_tag, break_tag, continue_tag, word_by, context_by, missing_behind, missing_by, is_nothing, begins_tag, begins_values, filtered_body, end_name_by, block_end_by, only_call, Opening, opening}
+use Rattle.template_compiler_grammar.specs.TemplateReaderParts.{expect_word, expect_assign, print_end, tag_end, expect_tag, more_step, for_tag, if_tag, with_tag, set_tag, autoescape_tag, filter_tag, block_tag, import_tag, from_tag, extends_tag, include_tag, macro_tag, call_tag, do_tag, break_tag, continue_tag, word_by, context_by, missing_behind, missing_by, is_nothing, begins_tag, begins_values, filtered_body, end_name_by, block_end_by, only_call, Opening, opening}
 use Rattle.template_compiler_placed_grammar.specs.DerivedNodes.{PairedPlaces}
 use Rattle.template_compiler_placed_grammar.specs.Nodes.{Placed, placed, bare}
 use Rattle.template_compiler_placed_grammar.specs.Reader.{up_to, expression_at}

@@ -16,7 +16,7 @@ use Rattle.template_compiler_tokens.specs.Token.{Token, bad_syntax, identifier, 
 use Rattle.template_compiler_tokens.specs.Steps.{Read, fault, and_then, Step, goes, stops, fails, under, all}
 use Rattle.template_compiler_grammar.specs.Words.{is_word, begins_bare, literal_word, Level, factors, texts, terms, conjunction, disjunction, operator, comparison_operator}
 use Rattle.template_compiler_grammar.specs.Trees.{argument_count, in_order}
-use Rattle.template_compiler_grammar.specs.Reader.{too_deep, name_of, text_step, paren_end, bracket_end, brace_end, colon_end, separated, unless_closing, word_tree, begins_bound_end}
+use Rattle.template_compiler_grammar.specs.ReaderParts.{too_deep, name_of, text_step, paren_end, bracket_end, brace_end, colon_end, separated, unless_closing, word_tree, begins_bound_end}
 use Rattle.template_compiler_placed_grammar.specs.Nodes.{placed, Node, node, OptionalNode, no_node, given_node, Nodes, no_nodes, first_node, and_node, PlacedLinks, no_placed_links, and_placed_link, PlacedPairs, no_placed_pairs, and_placed_pair, PlacedArgument, PlacedWritten, no_placed_written, and_placed_written, PlacedArguments, no_placed_arguments, bare_argument, placed_in_order, binary_node, conditional_node, slice_node, compared_node, tested_node}
 
 -- what can be read one nesting level deeper; what has begun before it has where that starts

@@ -5,7 +5,7 @@ use Rattle.template_tree.specs.Tree.{Expression, Arguments, Statement, for_loop,
 use Rattle.template_tree.specs.NodePlaces.{Places, at, Parts, no_parts, parts_more, one, and_parts}
 use Rattle.template_compiler_tokens.specs.Places.{until}
 use Rattle.template_compiler_tokens.specs.Token.{TokenFault}
-use Rattle.template_compiler_grammar.specs.TemplateReader.{filtered_body}
+use Rattle.template_compiler_grammar.specs.TemplateReaderParts.{filtered_body}
 use Rattle.template_compiler_placed_grammar.specs.DerivedNodes.{and_place, PairedPlaces}
 use Rattle.template_compiler_placed_grammar.specs.DerivedParts.{alone_or}
 use Rattle.template_compiler_placed_grammar.specs.Nodes.{Placed, placed, Node, Nodes, OptionalNode}

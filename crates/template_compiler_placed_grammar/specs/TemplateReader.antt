@@ -10,13 +10,13 @@ use Rattle.template_compiler_tokens.specs.Places.{next_span, stretch}
 use Rattle.template_compiler_tokens.specs.Token.{Token, TokenFault, bad_syntax, template_data, variable_start, block_start, block_end, identifier, symbol, dot, assign, paren_open, paren_close}
 use Rattle.template_compiler_tokens.specs.Steps.{Read, fault, and_then, Step, goes, stops, under, all}
 use Rattle.template_compiler_grammar.specs.Words.{is_word}
-use Rattle.template_compiler_grammar.specs.Reader.{too_deep, paren_end}
+use Rattle.template_compiler_grammar.specs.ReaderParts.{too_deep, paren_end}
 use Rattle.template_compiler_placed_grammar.specs.Nodes.{placed, Node, node, Nodes, no_nodes, first_node, and_node, OptionalNode, no_node, given_node}
 use Rattle.template_compiler_placed_grammar.specs.Reader.{up_to, expression_at, condition_at, filter_at, filter_chain_at}
 use Rattle.template_compiler_grammar.specs.TemplateWords.{is_reserved}
 use Rattle.template_compiler_grammar.specs.TemplateTrees.{is_block_body, blocks_among, are_distinct}
 use Rattle.template_compiler_grammar.specs.TemplateGrammar.{Around, nothing_around, loop_around, block_around, macro_around}
-use Rattle.template_compiler_grammar.specs.TemplateReader.{expect_word, expect_assign, print_end, tag_end, expect_tag, more_step, word_by, context_by, missing_by, is_nothing, begins_tag, begins_values, block_end_by, only_call, Opening, for_tag, if_tag, with_tag, set_tag, autoescape_tag, filter_tag, block_tag, import_tag, from_tag, extends_tag, include_tag, macro_tag, call_tag, do_tag, break_tag, continue_tag, opening}
+use Rattle.template_compiler_grammar.specs.TemplateReaderParts.{expect_word, expect_assign, print_end, tag_end, expect_tag, more_step, word_by, context_by, missing_by, is_nothing, begins_tag, begins_values, block_end_by, only_call, Opening, for_tag, if_tag, with_tag, set_tag, autoescape_tag, filter_tag, block_tag, import_tag, from_tag, extends_tag, include_tag, macro_tag, call_tag, do_tag, break_tag, continue_tag, opening}
 use Rattle.template_compiler_placed_grammar.specs.TemplateNodes.{unpacked_node, together_node, PlacedAssignments, no_placed_assignments, and_placed_assignment, PlacedImports, no_placed_imports, and_placed_import, PlacedParameters, no_placed_parameters, and_placed_plain, and_placed_default, PlacedStatement, statement_node, PlacedStatements, no_placed_statements, and_placed_statement, PlacedTemplate, PlacedBranch, PlacedBranches, no_placed_branches, and_placed_branch, for_node, if_node, with_node, set_block_node, auto_escape_node, filter_block_node, block_node, macro_node, call_block_node}
 
 -- what can be read with so many levels left; bodies and parameters are one level deeper

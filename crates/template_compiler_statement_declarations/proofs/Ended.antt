@@ -2,7 +2,7 @@
 use Rattle.std.proofs.Common.{◌≡◌, ℕ, Bool, true, false, if◌then◌else◌, List, [], ◌∷◌, Ok, Err, codes, bytes_eq, refl, ap, ◌∙◌}
 use Rattle.template_compiler_tokens.specs.Token.{Token, bad_syntax, block_start, identifier}
 use Rattle.template_compiler_tokens.specs.Steps.{Read, and_then}
-use Rattle.template_compiler_grammar.specs.TemplateReader.{tag_end, expect_word, end_name_by, block_end_by}
+use Rattle.template_compiler_grammar.specs.TemplateReaderParts.{tag_end, expect_word, end_name_by, block_end_by}
 use Rattle.template_compiler_statement_parts.proofs.Again.{unit, again, tag_end_again, word_again}
 
 name_again : {A : Type 0} (a : A) (ts : List Token) (b : Bool) →

@@ -14,7 +14,7 @@ use Rattle.template_compiler_tokens.specs.Steps.{Read, fault, and_then}
 use Rattle.template_compiler_grammar.specs.TemplateWords.{is_reserved}
 use Rattle.template_compiler_grammar.specs.TemplateTrees.{is_block_body}
 use Rattle.template_compiler_grammar.specs.TemplateGrammar.{Around, block_around}
-use Rattle.template_compiler_grammar.specs.TemplateReader.{expect_assign, tag_end, begins_values, word_by, only_call, block_end_by}
+use Rattle.template_compiler_grammar.specs.TemplateReaderParts.{expect_assign, tag_end, begins_values, word_by, only_call, block_end_by}
 use Rattle.template_compiler_placed_grammar.specs.Nodes.{Node, OptionalNode, no_node}
 use Rattle.template_compiler_placed_grammar.specs.Reader.{up_to}
 use Rattle.template_compiler_placed_grammar.specs.TemplateNodes.{PlacedParameters, PlacedStatement, PlacedStatements, block_node, set_block_node}

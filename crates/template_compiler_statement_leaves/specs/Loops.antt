@@ -5,7 +5,7 @@ use Rattle.template_tree.specs.Tree.{Statement}
 use Rattle.template_tree.specs.declared.span.Span.{Span}
 use Rattle.template_compiler_tokens.specs.Steps.{Read, and_then}
 use Rattle.template_compiler_tokens.specs.Token.{Token, bad_syntax}
-use Rattle.template_compiler_grammar.specs.TemplateReader.{tag_end}
+use Rattle.template_compiler_grammar.specs.TemplateReaderParts.{tag_end}
 use Rattle.template_compiler_placed_grammar.specs.Reader.{up_to}
 use Rattle.template_compiler_placed_grammar.specs.TemplateNodes.{PlacedStatement, statement_node}
 

@@ -5,7 +5,7 @@ use Rattle.template_tree.specs.declared.span.Span.{Span}
 use Rattle.template_compiler_tokens.specs.Token.{Token}
 use Rattle.template_compiler_tokens.specs.Steps.{Read, and_then}
 use Rattle.template_compiler_grammar.specs.TemplateGrammar.{Around, loop_around}
-use Rattle.template_compiler_grammar.specs.TemplateReader.{expect_word, tag_end, word_by}
+use Rattle.template_compiler_grammar.specs.TemplateReaderParts.{expect_word, tag_end, word_by}
 use Rattle.template_compiler_placed_grammar.specs.Nodes.{Node, OptionalNode, no_node, given_node}
 use Rattle.template_compiler_placed_grammar.specs.Reader.{up_to}
 use Rattle.template_compiler_placed_grammar.specs.TemplateNodes.{PlacedAssignments, PlacedStatement, for_node}

@@ -2,7 +2,7 @@
 ghost use Rattle.std.specs.Prelude.{◌≡◌, [], IfOk};
 ghost use Rattle.template_compiler_statement_loops.specs.Heads.{expression_head, filter_head, with_head};
 ghost use Rattle.template_compiler_statement_parts.specs.Parsed.{ParsedAs, ParsedNode};
-ghost use Rattle.template_compiler_grammar.specs.TemplateReader.{tag_end};
+ghost use Rattle.template_compiler_grammar.specs.TemplateReaderParts.{tag_end};
 ghost use Rattle.template_compiler_placed_grammar.specs.Nodes.{given_node};
 ghost use Rattle.template_compiler_placed_grammar.specs.TemplateReader.{here};
 ghost use Rattle.template_compiler_placed_grammar.specs.Views.{node_of, placed_assignments_in};

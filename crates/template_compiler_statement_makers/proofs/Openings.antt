@@ -2,7 +2,7 @@
 use Rattle.std.proofs.Common.{◌≡◌, ℕ, false, if◌then◌else◌, List, Some, None, codes, bytes_eq, refl, sym, ap, ◌∙◌}
 use Rattle.std.proofs.lemmas.Bool.{false_from_ne_true}
 use Rattle.std.proofs.lemmas.Slice.Eq.{bytes_eq-Decides}
-use Rattle.template_compiler_grammar.specs.TemplateReader.{opening, from_tag, extends_tag, include_tag, macro_tag, call_tag, do_tag, break_tag, continue_tag, for_tag, if_tag, with_tag, set_tag, autoescape_tag, filter_tag, block_tag, import_tag}
+use Rattle.template_compiler_grammar.specs.TemplateReaderParts.{opening, from_tag, extends_tag, include_tag, macro_tag, call_tag, do_tag, break_tag, continue_tag, for_tag, if_tag, with_tag, set_tag, autoescape_tag, filter_tag, block_tag, import_tag}
 use Rattle.template_compiler_statement_makers.specs.Surroundings.{other_opening}
 
 not_named : (w n : List ℕ) → (n ≡ w → ⊥) → bytes_eq w n ≡ false

@@ -1,7 +1,7 @@
 -- What stands around a statement, and what begins one, as contracts see them.
 use Rattle.std.specs.Prelude.{ℕ, List, Option, None, Some, codes, bytes_eq, if◌then◌else◌}
 use Rattle.template_compiler_grammar.specs.TemplateGrammar as grammar
-use Rattle.template_compiler_grammar.specs.TemplateReader as reader
+use Rattle.template_compiler_grammar.specs.TemplateReaderParts as reader
 use Rattle.template_compiler_statement_makers.specs.declared.around.Around.{Around}
 use Rattle.template_compiler_statement_makers.specs.declared.opening.Opening.{Opening}
 use Rattle.template_compiler_statement_makers.specs.declared.opening.Opening.TheVariants.{For, If, With, Set, AutoEscape, Filter, Block, Import, From, Extends, Include, Macro, Call, Do, Break, Continue}

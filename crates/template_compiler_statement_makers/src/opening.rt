@@ -1,7 +1,7 @@
 //! The words that begin a statement.
 ghost use Rattle.std.specs.Prelude.{◌≡◌, IsNone, IsTrue, option_map};
 ghost use Rattle.template_compiler_statement_makers.specs.Surroundings.{opening_of, other_opening};
-ghost use Rattle.template_compiler_grammar.specs.TemplateReader.{opening};
+ghost use Rattle.template_compiler_grammar.specs.TemplateReaderParts.{opening};
 
 /// The statement that a word begins.
 #[derive(Clone, Copy)]

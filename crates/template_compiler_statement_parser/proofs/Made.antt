@@ -9,7 +9,7 @@ use Rattle.template_compiler_stream.specs.declared.refusal.Refusal.{Refusal}
 use Rattle.template_compiler_stream.specs.declared.refusal.Refusal.TheVariants as refusals
 use Rattle.template_compiler_stream.specs.Refusals.{Refused}
 use Rattle.template_compiler_grammar.specs.TemplateGrammar.{Around, loop_around}
-use Rattle.template_compiler_grammar.specs.TemplateReader.{begins_tag, expect_tag, tag_end}
+use Rattle.template_compiler_grammar.specs.TemplateReaderParts.{begins_tag, expect_tag, tag_end}
 use Rattle.template_compiler_placed_grammar.specs.Nodes.{Node, OptionalNode, placed}
 use Rattle.template_compiler_placed_grammar.specs.Reader.{up_to}
 use Rattle.template_compiler_placed_grammar.specs.TemplateNodes.{PlacedBranch, PlacedBranches, PlacedStatement, PlacedStatements, branched_node, condition_node, for_node, no_placed_branches, no_placed_statements, set_block_node}

@@ -12,7 +12,7 @@ use Rattle.template_compiler_stream.specs.Signs.{next_word}
 use Rattle.template_compiler_stream.specs.Tags.{begins_variable_start, next_text}
 use Rattle.template_compiler_statement_parts.specs.Tags.{next_tag}
 use Rattle.template_compiler_grammar.specs.TemplateGrammar.{Around}
-use Rattle.template_compiler_grammar.specs.TemplateReader.{begins_tag, expect_tag, expect_word, opening, tag_end}
+use Rattle.template_compiler_grammar.specs.TemplateReaderParts.{begins_tag, expect_tag, expect_word, opening, tag_end}
 use Rattle.template_compiler_placed_grammar.specs.TemplateNodes.{PlacedBranches, and_placed_branch, PlacedStatements, and_placed_statement, no_placed_statements, statement_node}
 use Rattle.template_compiler_placed_grammar.specs.TemplateReader.{Here, branch_by, branch_step, else_by, opened_step, print_by, statement_step}
 

@@ -1,5 +1,5 @@
 -- The statements that words begin, by whether they have a body.
-use Rattle.template_compiler_grammar.specs.TemplateReader as reader
+use Rattle.template_compiler_grammar.specs.TemplateReaderParts as reader
 use Rattle.template_compiler_statement_parser.specs.declared.kinds.Leaf.{Leaf}
 use Rattle.template_compiler_statement_parser.specs.declared.kinds.Leaf.TheVariants as leaves
 use Rattle.template_compiler_statement_parser.specs.declared.kinds.Parent.{Parent}

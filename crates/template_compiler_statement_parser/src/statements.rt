@@ -10,7 +10,7 @@ ghost use Rattle.template_compiler_statement_parser.specs.Bodies.{ParsedBody, Pa
 ghost use Rattle.template_compiler_statement_parser.specs.Kinds.{parent_opening};
 ghost use Rattle.template_compiler_statement_makers.specs.Surroundings.{around_of, opening_of};
 ghost use Rattle.template_compiler_stream.specs.Left.{passed};
-ghost use Rattle.template_compiler_grammar.specs.TemplateReader.{expect_tag, opening};
+ghost use Rattle.template_compiler_grammar.specs.TemplateReaderParts.{expect_tag, opening};
 ghost use Rattle.template_compiler_placed_grammar.specs.TemplateNodes.{no_placed_branches};
 ghost use Rattle.template_compiler_placed_grammar.specs.TemplateReader.{autoescape_by, block_by, branch_by, branch_step, call_by, deeper_body, else_by, filter_block_by, for_by, here, if_by, macro_by, opened_by, opened_step, set_by, statement_step, statements_at, with_by};
 ghost use Rattle.template_compiler_placed_grammar.specs.Views.{statement_node_of};

@@ -3,8 +3,8 @@ use Rattle.std.proofs.Common.{◌≡◌, ℕ, Bool, true, false, if◌then◌els
 use Rattle.template_compiler_tokens.specs.Token.{Token, variable_end, block_start, block_end, symbol, assign, paren_close}
 use Rattle.template_compiler_tokens.specs.Steps.{Read, and_then, fault}
 use Rattle.template_compiler_grammar.specs.Words.{is_word}
-use Rattle.template_compiler_grammar.specs.Reader.{paren_end}
-use Rattle.template_compiler_grammar.specs.TemplateReader.{print_end, tag_end, expect_word, expect_assign, expect_tag, context_by}
+use Rattle.template_compiler_grammar.specs.ReaderParts.{paren_end}
+use Rattle.template_compiler_grammar.specs.TemplateReaderParts.{print_end, tag_end, expect_word, expect_assign, expect_tag, context_by}
 use Rattle.template_compiler_stream.specs.declared.refusal.Refusal.{Refusal}
 use Rattle.template_compiler_stream.specs.declared.refusal.Refusal.TheVariants as refusals
 use Rattle.template_compiler_stream.specs.Refusals.{Refused}

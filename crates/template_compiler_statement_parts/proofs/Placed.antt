@@ -12,7 +12,7 @@ use Rattle.template_compiler_tokens.specs.Steps.{Read, fault, and_then, goes, st
 use Rattle.template_compiler_tokens.proofs.Loops.{all_goes, all_stops}
 use Rattle.template_compiler_grammar.specs.TemplateWords.{is_reserved}
 use Rattle.template_compiler_grammar.specs.Words.{begins_word}
-use Rattle.template_compiler_grammar.specs.TemplateReader.{more_step}
+use Rattle.template_compiler_grammar.specs.TemplateReaderParts.{more_step}
 use Rattle.template_compiler_placed_grammar.specs.Nodes.{Node, first_node, given_node, no_node, node, placed}
 use Rattle.template_compiler_placed_grammar.specs.Reader.{up_to}
 use Rattle.template_compiler_placed_grammar.specs.TemplateNodes.{PlacedImports, and_placed_import, unpacked_node}

@@ -3,11 +3,11 @@ use Rattle.std.proofs.Common.{◌≡◌, ℕ, true, false, if◌then◌else◌, 
 use Rattle.template_compiler_tokens.specs.Token.{Token, Symbol, bad_syntax, comma, variable_end, block_start, block_end, identifier, symbol, assign, paren_close}
 use Rattle.template_compiler_tokens.specs.Steps.{Read, fault, stops}
 use Rattle.template_compiler_grammar.specs.Words.{begins_word}
-use Rattle.template_compiler_grammar.specs.Reader.{paren_end}
+use Rattle.template_compiler_grammar.specs.ReaderParts.{paren_end}
 use Rattle.template_compiler_stream.specs.Left.{passed}
 use Rattle.template_compiler_stream.specs.Signs.{begins_symbol, next_symbol, next_word, second_word}
 use Rattle.template_compiler_stream.specs.Tags.{begins_variable_end, begins_block_end, begins_block_start}
-use Rattle.template_compiler_grammar.specs.TemplateReader.{print_end, tag_end, expect_word, expect_assign, expect_tag, more_step, begins_tag, begins_values, word_by, context_by, block_end_by, end_name_by}
+use Rattle.template_compiler_grammar.specs.TemplateReaderParts.{print_end, tag_end, expect_word, expect_assign, expect_tag, more_step, begins_tag, begins_values, word_by, context_by, block_end_by, end_name_by}
 use Rattle.template_compiler_statement_parts.specs.Tags.{next_tag}
 
 pub print_end_here : {A : Type 0} (a : A) (ts : List Token) → begins_variable_end ts ≡ true → print_end a ts ≡ Ok (a, passed ts)

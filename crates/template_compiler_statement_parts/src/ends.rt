@@ -1,8 +1,8 @@
 //! What must stand behind something.
 ghost use Rattle.std.specs.Prelude.{◌≡◌};
-ghost use Rattle.template_compiler_grammar.specs.Reader.{paren_end};
+ghost use Rattle.template_compiler_grammar.specs.ReaderParts.{paren_end};
 ghost use Rattle.template_compiler_statement_parts.specs.Parsed.{ParsedAs, passing};
-ghost use Rattle.template_compiler_grammar.specs.TemplateReader.{block_end_by, end_name_by, expect_assign, expect_tag, expect_word, print_end, tag_end};
+ghost use Rattle.template_compiler_grammar.specs.TemplateReaderParts.{block_end_by, end_name_by, expect_assign, expect_tag, expect_word, print_end, tag_end};
 
 use template_compiler_stream::{Fault, Refusal, Sign, TokenStream};
 
@@ -48,7 +48,7 @@ pub fn expect_tag_end<'source>(tokens: &mut TokenStream<'source>) -> Result<(), 
 ///
 /// The fault of the token that stands there.
 #[inline(always)]
-#[tactic(auto, using(crate::proofs::Standing::word_none), unfolding(template_compiler_grammar::specs::TemplateReader::expect_word))]
+#[tactic(auto, using(crate::proofs::Standing::word_none), unfolding(template_compiler_grammar::specs::TemplateReaderParts::expect_word))]
 pub fn expect_word<'source>(tokens: &mut TokenStream<'source>, word: &str) -> Result<(), Refusal>
     ensures parsed { ParsedAs passing (expect_word word.now tt tokens.old.left) tokens.new.left result }
     ensures spans { tokens.new.spans ≡ tokens.old.spans }
@@ -65,7 +65,7 @@ pub fn expect_word<'source>(tokens: &mut TokenStream<'source>, word: &str) -> Re
 /// # Errors
 ///
 /// The fault of the token that stands there.
-#[tactic(auto, using(crate::proofs::Standing::assign_none), unfolding(template_compiler_grammar::specs::TemplateReader::expect_assign))]
+#[tactic(auto, using(crate::proofs::Standing::assign_none), unfolding(template_compiler_grammar::specs::TemplateReaderParts::expect_assign))]
 pub fn expect_assign<'source>(tokens: &mut TokenStream<'source>) -> Result<(), Refusal>
     ensures parsed { ParsedAs passing (expect_assign tt tokens.old.left) tokens.new.left result }
     ensures spans { tokens.new.spans ≡ tokens.old.spans }
@@ -82,7 +82,7 @@ pub fn expect_assign<'source>(tokens: &mut TokenStream<'source>) -> Result<(), R
 /// # Errors
 ///
 /// The fault of the token that stands there.
-#[tactic(auto, using(crate::proofs::Standing::paren_none), unfolding(template_compiler_grammar::specs::Reader::paren_end))]
+#[tactic(auto, using(crate::proofs::Standing::paren_none), unfolding(template_compiler_grammar::specs::ReaderParts::paren_end))]
 pub fn expect_paren_end<'source>(tokens: &mut TokenStream<'source>) -> Result<(), Refusal>
     ensures parsed { ParsedAs passing (paren_end tt tokens.old.left) tokens.new.left result }
     ensures spans { tokens.new.spans ≡ tokens.old.spans }
@@ -136,7 +136,7 @@ pub fn expect_block_end<'source>(
     }
 }
 
-#[tactic(auto, using(crate::proofs::Standing::end_name_next), unfolding(template_compiler_grammar::specs::TemplateReader::end_name_by))]
+#[tactic(auto, using(crate::proofs::Standing::end_name_next), unfolding(template_compiler_grammar::specs::TemplateReaderParts::end_name_by))]
 fn expect_end_name<'source>(tokens: &mut TokenStream<'source>, name: &str) -> Result<(), Refusal>
     ensures parsed { ParsedAs passing (end_name_by name.now tt tokens.old.left) tokens.new.left result }
     ensures spans { tokens.new.spans ≡ tokens.old.spans }

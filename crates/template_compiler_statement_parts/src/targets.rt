@@ -1,7 +1,7 @@
 //! Targets: names, and names that are unpacked.
 ghost use Rattle.std.specs.Prelude.{◌≡◌, IfOk};
 ghost use Rattle.template_compiler_statement_parts.specs.Parsed.{ParsedInto, ParsedNode, PassesPart, SteppedTo};
-ghost use Rattle.template_compiler_grammar.specs.TemplateReader.{more_step};
+ghost use Rattle.template_compiler_grammar.specs.TemplateReaderParts.{more_step};
 ghost use Rattle.template_compiler_placed_grammar.specs.TemplateNodes.{unpacked_node};
 ghost use Rattle.template_compiler_placed_grammar.specs.TemplateReader.{inner_targets, more_targets_by, one_target_by, path_by, path_step, stored_by, target_by, targets_by};
 ghost use Rattle.template_compiler_placed_grammar.specs.Views.{node_of, nodes_in};

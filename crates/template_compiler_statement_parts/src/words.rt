@@ -2,7 +2,7 @@
 ghost use Rattle.std.specs.Prelude.{◌≡◌, Ok, option_map};
 ghost use Rattle.template_compiler_statement_parts.specs.Parsed.{ParsedAs, passing};
 ghost use Rattle.template_compiler_statement_parts.specs.Tags.{next_tag};
-ghost use Rattle.template_compiler_grammar.specs.TemplateReader.{begins_tag, begins_values, context_by, missing_by, word_by};
+ghost use Rattle.template_compiler_grammar.specs.TemplateReaderParts.{begins_tag, begins_values, context_by, missing_by, word_by};
 
 use crate::ends::expect_word;
 use template_compiler_stream::{Refusal, Sign, TokenStream};
@@ -48,7 +48,7 @@ pub fn begins_values<'source>(tokens: &TokenStream<'source>) -> bool
 }
 
 /// Passes the word where it stands next.
-#[tactic(auto, using(crate::proofs::Standing::flag_none), unfolding(template_compiler_grammar::specs::TemplateReader::word_by))]
+#[tactic(auto, using(crate::proofs::Standing::flag_none), unfolding(template_compiler_grammar::specs::TemplateReaderParts::word_by))]
 pub fn read_flag<'source>(tokens: &mut TokenStream<'source>, word: &str) -> bool
     ensures parsed { word_by word.now tokens.old.left ≡ Ok (result, tokens.new.left) }
     ensures spans { tokens.new.spans ≡ tokens.old.spans }
@@ -61,7 +61,7 @@ pub fn read_flag<'source>(tokens: &mut TokenStream<'source>, word: &str) -> bool
 /// # Errors
 ///
 /// The fault of the token that stands in the place of `context`.
-#[tactic(auto, using(crate::proofs::Standing::context_none), unfolding(template_compiler_grammar::specs::TemplateReader::context_by))]
+#[tactic(auto, using(crate::proofs::Standing::context_none), unfolding(template_compiler_grammar::specs::TemplateReaderParts::context_by))]
 pub fn pass_context<'source>(tokens: &mut TokenStream<'source>) -> Result<(), Refusal>
     ensures parsed { ParsedAs passing (context_by tt tokens.old.left) tokens.new.left result }
     ensures spans { tokens.new.spans ≡ tokens.old.spans }

@@ -7,7 +7,7 @@ use Rattle.template_compiler_stream.specs.Refusals.{Refused}
 use Rattle.template_compiler_stream.specs.declared.refusal.Refusal.{Refusal}
 use Rattle.template_compiler_stream.specs.declared.refusal.Refusal.TheVariants as refusals
 use Rattle.template_compiler_statement_parts.specs.Parsed.{ParsedInto}
-use Rattle.template_compiler_grammar.specs.TemplateReader.{expect_assign}
+use Rattle.template_compiler_grammar.specs.TemplateReaderParts.{expect_assign}
 use Rattle.template_compiler_placed_grammar.specs.Nodes.{Node}
 use Rattle.template_compiler_placed_grammar.specs.Reader.{expression_at}
 use Rattle.template_compiler_placed_grammar.specs.TemplateNodes.{PlacedAssignments, and_placed_assignment}

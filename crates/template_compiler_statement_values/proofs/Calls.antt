@@ -8,7 +8,7 @@ use Rattle.template_tree.specs.declared.calls.Call.{Call}
 use Rattle.template_tree.specs.declared.span.Spanned.{Spanned}
 use Rattle.template_compiler_tokens.specs.Token.{Token, bad_syntax}
 use Rattle.template_compiler_tokens.specs.Steps.{Read}
-use Rattle.template_compiler_grammar.specs.TemplateReader.{only_call}
+use Rattle.template_compiler_grammar.specs.TemplateReaderParts.{only_call}
 
 pub call_here : {A : Type 0} (go : Expression → Arguments → List Token → Read A) (o : Option (Expression × Arguments)) (n : Box (Spanned Call)) (ts : List Token) →
     call_in (Some n) ≡ o → only_call go o ts ≡ go (expression_of n.value.node.expr) (arguments_in n.value.node.args.items) ts

@@ -11,7 +11,7 @@ use Rattle.template_compiler_placed_grammar.specs.Views.{node_of, nodes_in}
 use Rattle.std.proofs.lemmas.Bool.Decides.{nat_tests}
 use Rattle.template_tree.specs.View.{expression_of, expressions_in}
 use Rattle.template_tree.specs.declared.expressions.Expr.{Expr}
-use Rattle.template_compiler_grammar.specs.TemplateReader.{is_nothing}
+use Rattle.template_compiler_grammar.specs.TemplateReaderParts.{is_nothing}
 
 pub nothing_in : (es : List Expr) → is_nothing (expressions_in es) ≡ (length es == 0)
 nothing_in [] = refl

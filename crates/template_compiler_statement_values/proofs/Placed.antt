@@ -3,8 +3,8 @@ use Rattle.std.proofs.Common.{◌≡◌, ℕ, suc, false, true, if◌then◌else
 use Rattle.template_tree.specs.declared.span.Span.{Span}
 use Rattle.template_compiler_tokens.specs.Token.{Token, bad_syntax, assign, block_end, paren_close, paren_open, symbol}
 use Rattle.template_compiler_tokens.specs.Steps.{Read, and_then, all}
-use Rattle.template_compiler_grammar.specs.TemplateReader.{is_nothing, more_step}
-use Rattle.template_compiler_grammar.specs.Reader.{paren_end}
+use Rattle.template_compiler_grammar.specs.TemplateReaderParts.{is_nothing, more_step}
+use Rattle.template_compiler_grammar.specs.ReaderParts.{paren_end}
 use Rattle.template_compiler_grammar.specs.Words.{begins_word}
 use Rattle.template_compiler_placed_grammar.specs.Nodes.{Node, given_node, no_node}
 use Rattle.template_compiler_placed_grammar.specs.Reader.{expression_at}

@@ -2,7 +2,7 @@
 ghost use Rattle.std.specs.Prelude.{◌≡◌, [], ◌∷◌};
 ghost use Rattle.template_compiler_statement_parts.specs.Parsed.{ParsedAs, SteppedTo, ParsedInto};
 ghost use Rattle.template_compiler_statement_values.specs.Written.{parameters_of, placed_parameters_of};
-ghost use Rattle.template_compiler_grammar.specs.TemplateReader.{is_nothing, more_step};
+ghost use Rattle.template_compiler_grammar.specs.TemplateReaderParts.{is_nothing, more_step};
 ghost use Rattle.template_compiler_placed_grammar.specs.Reader.{expression_at};
 ghost use Rattle.template_compiler_placed_grammar.specs.TemplateNodes.{no_placed_parameters};
 ghost use Rattle.template_compiler_placed_grammar.specs.TemplateReader.{deeper_parameters, here, optional_parameters_by, parameter_by, parameters_by};

@@ -1,7 +1,7 @@
 //! Values, and targets with values.
 ghost use Rattle.std.specs.Prelude.{◌≡◌, IfOk};
 ghost use Rattle.template_compiler_statement_parts.specs.Parsed.{ParsedAs, ParsedInto, ParsedNode, SteppedTo};
-ghost use Rattle.template_compiler_grammar.specs.TemplateReader.{more_step};
+ghost use Rattle.template_compiler_grammar.specs.TemplateReaderParts.{more_step};
 ghost use Rattle.template_compiler_placed_grammar.specs.Reader.{expression_at};
 ghost use Rattle.template_compiler_placed_grammar.specs.TemplateNodes.{together_node};
 ghost use Rattle.template_compiler_placed_grammar.specs.TemplateReader.{assignment_by, assignments_by, here, loop_filter_by, value_by, values_by};

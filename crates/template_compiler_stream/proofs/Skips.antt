@@ -2,7 +2,7 @@
 use Rattle.std.proofs.Common.{◌≡◌, ℕ, true, false, List, [], ◌∷◌, None, Some, Ok, refl, ap, sym}
 use Rattle.template_compiler_tokens.specs.Token.{Token, symbol, identifier, string, dot, assign}
 use Rattle.template_compiler_grammar.specs.Words.{begins_dotted}
-use Rattle.template_compiler_grammar.specs.Reader.{text_step}
+use Rattle.template_compiler_grammar.specs.ReaderParts.{text_step}
 use Rattle.template_compiler_tokens.specs.Steps.{goes, stops}
 use Rattle.template_compiler_stream.specs.Left.{passed}
 use Rattle.template_compiler_stream.specs.Signs.{begins_symbol, next_word, second_word, assigned_behind}

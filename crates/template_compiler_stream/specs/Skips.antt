@@ -4,7 +4,7 @@ use Rattle.std.specs.Borrow.{Bor}
 use Rattle.template_compiler_tokens.specs.Token.{Token, Symbol, symbol, identifier, string, dot, assign}
 use Rattle.template_compiler_grammar.specs.Words.{begins_word, begins_dotted}
 use Rattle.template_compiler_tokens.specs.Steps.{goes, stops}
-use Rattle.template_compiler_grammar.specs.Reader.{text_step}
+use Rattle.template_compiler_grammar.specs.ReaderParts.{text_step}
 use Rattle.template_compiler_stream.specs.Signs.{begins_symbol}
 
 abbrev pub SkipsSign : Symbol → List Token → List Token → Bool → Type 0

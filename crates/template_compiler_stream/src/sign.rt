@@ -3,7 +3,7 @@ ghost use Rattle.std.specs.Prelude.{◌≡◌, ◌==◌, bytes_eq, option_map};
 ghost use Rattle.template_compiler_stream.specs.Signs.{number_of, symbol_of, symbol_in};
 ghost use Rattle.template_compiler_stream.specs.Signs.{level_of, word_in, is_end, is_plain};
 ghost use Rattle.template_compiler_grammar.specs.Words.{conjunction, disjunction, factors, terms, texts, operator, comparison_operator, is_bare, is_no_argument};
-ghost use Rattle.template_compiler_grammar.specs.Reader.{is_closing, is_bound_end};
+ghost use Rattle.template_compiler_grammar.specs.ReaderParts.{is_closing, is_bound_end};
 ghost use Rattle.template_compiler_tokens.specs.View.{token_of};
 
 use template_compiler_tokens::Token;

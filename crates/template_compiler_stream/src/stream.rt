@@ -3,7 +3,7 @@ ghost use Rattle.std.specs.Prelude.{◌≡◌, ◌≤◌, IfSome, [], ◌∷◌,
 ghost use Rattle.template_compiler_tokens.specs.Steps.{fault};
 ghost use Rattle.template_compiler_tokens.specs.Token.{assign, bad_syntax, number};
 ghost use Rattle.template_compiler_grammar.specs.Words.{begins_bare};
-ghost use Rattle.template_compiler_grammar.specs.Reader.{begins_closing, begins_bound_end};
+ghost use Rattle.template_compiler_grammar.specs.ReaderParts.{begins_closing, begins_bound_end};
 ghost use Rattle.template_compiler_stream.specs.Refusals.{fault_of};
 ghost use Rattle.template_compiler_stream.specs.Left.{Peeks, Shows, ahead, behind, ended, passed};
 ghost use Rattle.template_compiler_stream.specs.Spans.{ShownAt, TakenAt};
@@ -427,7 +427,7 @@ impl<'source> TokenStream<'source> {
     /// # Errors
     ///
     /// Want of memory: nothing is passed.
-    #[tactic(auto, using(crate::proofs::Skips::text_put, crate::proofs::Skips::no_text), unfolding(template_compiler_grammar::specs::Reader::text_step))]
+    #[tactic(auto, using(crate::proofs::Skips::text_put, crate::proofs::Skips::no_text), unfolding(template_compiler_grammar::specs::ReaderParts::text_step))]
     pub fn skip_text(&mut self, text: &mut String) -> Result<bool, AllocError>
         ensures passed { SkipsText (string_bytes text.old) self.old.left (string_bytes text.new) self.new.left result }
         ensures spans { self.new.spans ≡ self.old.spans }

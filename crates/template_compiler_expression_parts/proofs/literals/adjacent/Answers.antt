@@ -1,5 +1,5 @@
 use Rattle.std.proofs.Common.{◌∙◌}
-use Rattle.template_compiler_grammar.specs.Reader.{text_step}
+use Rattle.template_compiler_grammar.specs.ReaderParts.{text_step}
 use Rattle.template_compiler_expression_parts.proofs.Rounds.{rounds_end, rounds_go}
 use Rattle.template_compiler_expression_parts.proofs.Takes.{text_takes}
 use Rattle.template_compiler_expression_parts.proofs.literals.adjacent.Goals as goal

@@ -1,5 +1,5 @@
 use Rattle.std.proofs.Common.{◌≡◌, length, string_bytes}
-use Rattle.template_compiler_grammar.specs.Reader.{text_step}
+use Rattle.template_compiler_grammar.specs.ReaderParts.{text_step}
 use Rattle.template_compiler_tokens.specs.Steps.{all}
 use Rattle.template_compiler_expression_parts.proofs.literals.adjacent.Given as goal
 

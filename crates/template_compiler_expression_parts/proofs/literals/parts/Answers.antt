@@ -1,5 +1,5 @@
 use Rattle.std.proofs.Common.{refl, string_bytes, ◌∙◌}
-use Rattle.template_compiler_grammar.specs.Reader.{dotted_step}
+use Rattle.template_compiler_grammar.specs.ReaderParts.{dotted_step}
 use Rattle.template_compiler_expression_parts.proofs.Rounds.{dotted_goes, dotted_none, rounds_end, rounds_go}
 use Rattle.template_compiler_expression_parts.proofs.Takes.{dotted_takes}
 use Rattle.template_compiler_expression_parts.proofs.literals.parts.Goals as goal

@@ -1,6 +1,6 @@
 use Rattle.std.proofs.Common.{rules, ◌∙◌}
 use Rattle.template_compiler_stream.specs.Refusals.{Refused}
-use Rattle.template_compiler_grammar.specs.TemplateReader.{tag_end}
+use Rattle.template_compiler_grammar.specs.TemplateReaderParts.{tag_end}
 use Rattle.template_compiler_statement_parts.proofs.Again.{no_again, ok_again, tag_end_again, unit}
 use Rattle.template_compiler_statement_declarations.specs.Heads.{block_head}
 use Rattle.template_compiler_statement_declarations.proofs.Named.{block_in_macro, block_outside}

@@ -1,5 +1,5 @@
 use Rattle.std.proofs.Common.{◌≡◌, false, Option, None, Some, is_some, refl}
-use Rattle.template_compiler_grammar.specs.TemplateReader.{opening}
+use Rattle.template_compiler_grammar.specs.TemplateReaderParts.{opening}
 use Rattle.template_compiler_statement_makers.proofs.opening.opening_named.Goals as goal
 
 none_is : {A : Type 0} (o : Option A) → is_some o ≡ false → None ≡ o

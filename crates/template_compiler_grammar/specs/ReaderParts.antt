@@ -1,5 +1,5 @@
--- What a reading of tokens from left to right does at the next one, whatever it reads: names and texts, what must stand behind
--- something, and where lists end. The reader itself, which has the places of nodes, stands in `template_compiler_placed_grammar`.
+-- Parts of the reader that need no places: names and texts, what must stand behind something, and where lists end. The reader
+-- itself stands in `template_compiler_placed_grammar`.
 use Rattle.std.specs.Prelude.{ℕ, Bool, true, false, if◌then◌else◌, List, [], ◌∷◌, ◌++◌, Option, None, Some, Ok, Err}
 use Rattle.template_values_model.specs.Val.{Val}
 use Rattle.template_tree.specs.Tree.{Expression, variable, constant}
