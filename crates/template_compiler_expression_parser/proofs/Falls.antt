@@ -2,6 +2,7 @@
 use Rattle.std.proofs.Common.{◌≡◌, ◌<◌, ◌≤◌, ℕ, Bool, true, false, if◌then◌else◌, List, [], ◌∷◌, length, Ok, Err, refl, ap, arith}
 use Rattle.template_tree.specs.Tree.{keyword, positional, positional_spread, keyword_spread}
 use Rattle.template_tree.specs.declared.span.Span.{Span}
+use Rattle.template_compiler_tokens.specs.Places.{next_span}
 use Rattle.template_compiler_tokens.specs.Token.{Token, TokenFault, symbol, identifier, mul, pow, comma, colon, assign, pipe}
 use Rattle.template_compiler_tokens.specs.Steps.{Read, fault, and_then, Step, goes, stops, fails, under}
 use Rattle.template_compiler_tokens.proofs.Loops.{Shrinks}
@@ -113,6 +114,7 @@ module _ (spans : List Span) (d : ℕ) where
   pub chains_fall : Shrinks (chain_step spans (deeper spans d))
   unfolding chain_step
   chains_fall o p (symbol pipe ∷ ts) us e =
-      let l = under_takes (filter_by spans (deeper spans d) _ o ts) _ p ts us (λ a vs h. filter_takes spans d _ o a ts vs h)
+      let start = next_span spans ts in
+      let l = under_takes (filter_by spans (deeper spans d) start o ts) _ p ts us (λ a vs h. filter_takes spans d start o a ts vs h)
       (λ a vs h. chain_within _ p vs us h) e in omega arith
   chains_fall o p _ us e = cc
