@@ -5,6 +5,7 @@ ghost use Rattle.template_values_forms.specs.Answers.{AppendsOrRefuses};
 ghost use Rattle.template_values_forms.specs.Escaped.{escaped};
 ghost use Rattle.template_values_forms.specs.Escapes.{html};
 ghost use Rattle.template_values_forms.specs.Known.{Known};
+ghost use Rattle.template_values_errors.specs.declared.modes.AutoEscape.TheVariants.{Html};
 ghost use Rattle.template_machine_meaning.specs.Undefined.{forbids_printing};
 ghost use Rattle.template_machine_meaning.specs.Replies.{guarded, kinded};
 ghost use Rattle.template_machine_operations.specs.Outcomes.{TellsFailures, Writes, Prints};
@@ -17,7 +18,7 @@ use template_machine_undefined::{forbids_printing, refusal};
 use template_values_core::{Content, Value};
 use template_values_errors::{AutoEscape, Error, UndefinedBehavior};
 use template_values_forms::Records;
-use template_values_print::{HTML_BLOCK, SHORT_TEXT, put_html};
+use template_values_print::{HTML_BLOCK, SHORT_TEXT, is_unmarked, put_html};
 use template_values_text::escape_to;
 
 /// Puts a text into a sink. No byte of it is copied.
@@ -158,16 +159,29 @@ fn write_number<S: Sink>(number: i128, sink: &mut S) -> Result<(), Error>
     write(Buffer::new().format(number), sink)
 }
 
-/// The text of a value that stands as it is under an escape, whatever is known of records: a safe text,
-/// or any without an escape.
+/// The text of a value that stands as it is under an escape, whatever is known of records: a safe text, for HTML one
+/// without markup, or any without an escape.
 #[inline(always)]
 fn standing_text(value: &Value, escape: AutoEscape) -> Option<&str>
     ensures { IfSome result (λ text. (known : Known) → escaped escape known value.now ≡ Ok text.now) }
 {
     match escape {
         AutoEscape::None => value.as_str(),
-        AutoEscape::Html | AutoEscape::Json => safe_text(value),
+        AutoEscape::Html => unmarked_text(value),
+        AutoEscape::Json => safe_text(value),
         AutoEscape::Custom(_) => None,
+    }
+}
+
+/// The text of a safe text, or of one that HTML reads as text alone.
+#[inline(always)]
+fn unmarked_text(value: &Value) -> Option<&str>
+    ensures { IfSome result (λ text. (known : Known) → escaped Html known value.now ≡ Ok text.now) }
+{
+    match value.content() {
+        Content::SafeText(text) => Some(text),
+        Content::Text(text) if is_unmarked(text) => Some(text),
+        _ => None,
     }
 }
 
