@@ -1,6 +1,6 @@
 -- What two readings of the same tokens answer, over a table of spans each: without its places the same, which is a tree by a
 -- relation, or a fault that is to blame.
-use Rattle.std.proofs.Common.{◌≡◌, ℕ, zero, suc, Bool, true, false, if◌then◌else◌, List, ◌∷◌, length, Ok, Err, refl, sym, ◌∙◌, ap, subst, inl, inr, arith}
+use Rattle.std.proofs.Common.{◌≡◌, ℕ, zero, suc, Bool, true, false, if◌then◌else◌, List, ◌∷◌, length, Ok, Err, refl, sym, ◌∙◌, ap, subst, inl}
 use Rattle.template_compiler_tokens.specs.Token.{Token, TokenFault, bad_syntax}
 use Rattle.template_compiler_tokens.specs.Blame.{Blamed}
 use Rattle.template_compiler_tokens.specs.Steps.{Read, fault, and_then, Step, goes, stops, fails, under, goes_on, many, all}

@@ -9,7 +9,7 @@ use Rattle.template_tree.specs.Tree.{Expression, variable, call, Optional, absen
 use Rattle.template_compiler_tokens.specs.Places.{next_span}
 use Rattle.template_compiler_tokens.specs.Token.{Token, TokenFault, bad_syntax, template_data, variable_start, variable_end, block_start, block_end, identifier, symbol, dot, comma, assign, paren_open, paren_close}
 use Rattle.template_compiler_tokens.specs.Blame.{Blamed}
-use Rattle.template_compiler_tokens.specs.Steps.{Read, fault, and_then, Step, goes, stops, under, all}
+use Rattle.template_compiler_tokens.specs.Steps.{Read, fault, goes, stops, under, all}
 use Rattle.template_compiler_tokens.proofs.Loops.{Shrinks}
 use Rattle.template_compiler_tokens.proofs.Readings as alone
 use Rattle.template_compiler_tokens.proofs.Readings.{Kept, fault_blamed}

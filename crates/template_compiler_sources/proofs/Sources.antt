@@ -13,7 +13,7 @@ use Rattle.template_compiler_stream.specs.declared.refusal.Refusal.TheVariants a
 use Rattle.template_compiler_source_tokens.specs.Kinds.{refused_kind}
 use Rattle.template_compiler_tokens.specs.Token.{Token, TokenFault, bad_syntax}
 use Rattle.template_compiler_tokens.specs.Places.{next_span}
-use Rattle.template_compiler_tokens.specs.Steps.{Read, fault}
+use Rattle.template_compiler_tokens.specs.Steps.{Read}
 use Rattle.template_tree.specs.NodePlaces.{at}
 use Rattle.template_compiler_source_tokens.specs.Scoped.{taken_spans, taken_words}
 use Rattle.template_compiler_source_tokens.specs.Spans.{HoldsTokens, token_spans}

@@ -16,7 +16,7 @@ use Rattle.template_compiler_grammar.specs.TemplateReaderParts.{more_step}
 use Rattle.template_compiler_placed_grammar.specs.Nodes.{Node, first_node, given_node, no_node, node, placed}
 use Rattle.template_compiler_placed_grammar.specs.Reader.{up_to}
 use Rattle.template_compiler_placed_grammar.specs.TemplateNodes.{PlacedImports, and_placed_import, unpacked_node}
-use Rattle.template_compiler_placed_grammar.specs.TemplateReader.{alias_by, import_by, inner_targets, more_targets_by, one_target_by, path_by, path_step, stored_by, target_by, targets_by}
+use Rattle.template_compiler_placed_grammar.specs.TemplateReader.{alias_by, inner_targets, more_targets_by, one_target_by, path_by, path_step, stored_by, target_by, targets_by}
 use Rattle.template_compiler_placed_grammar.specs.Views.{node_of}
 use Rattle.template_compiler_placed_grammar.proofs.TemplatesSound.{paths_fall}
 use Rattle.template_compiler_stream.specs.Left.{passed}
