@@ -136,7 +136,7 @@ under_by (Ok x) (Err g) go on r next = let e = r.same in cc
 under_by (Err f) (Ok y) go on r next = let e = r.same in cc
 under_by {S = S} {P = P} {ts = ts} (Err f) (Err g) go on r next =
     let e = r.same in let is : f ≡ g = cc in subst (λ g. StepReads {R = S} P ts (fails f) (fails g)) is
-        (step_fails f (r.reads.blames f refl))
+    (step_fails f (r.reads.blames f refl))
 
 pub step_under : {A B R S : Type 0} {P : B → List Token → Type 0} {Q : A → List Token → Type 0} {ts : List Token} {m n : Read (Placed A R)}
     (go on : Placed A R → List Token → Step (Placed B S)) → Reads Q ts m n →
@@ -163,7 +163,7 @@ module _ {A R : Type 0} (step on : Placed A R → List Token → Step (Placed A 
   goes_on_reads n a p q ts stops stops here r rest = reads_end here
   goes_on_reads n a p q ts (fails f) (fails g) here r rest =
       let e = r.same in let is : f ≡ g = cc in subst (λ g. Reads {R = R} (P a ts) ts (Err f) (Err g)) is
-          (reads_fault f (r.reads.blames f refl))
+      (reads_fault f (r.reads.blames f refl))
   goes_on_reads n a p q ts _ _ here r rest = let e = r.same in cc
 
   many_reads : ((a : A) (ts : List Token) → P a ts a ts) →

@@ -679,7 +679,7 @@ module _ (spans : List Span) (d : ℕ) where
   operands_fall k start a b [] us e = cc
   operands_fall k start a b (t ∷ ts) us e =
       let kept = (step_tree (operand_behind_reads spans spans d (deeper_reads spans spans d) k _ _
-          (operand_reads spans spans d k) start start
+      (operand_reads spans spans d k) start start
       t a.tree a.places a.places ts (operator k t) refl) e).1.1 in omega arith
 
   pub links_fall : Shrinks (link_step spans (terms_by spans (deeper spans d)))

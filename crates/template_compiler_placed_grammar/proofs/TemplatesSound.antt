@@ -466,8 +466,8 @@ filtered_given (chain_more {e = x} y m) e h = filtered_given m x refl
 parts_same : (e c : Expression) (args : Arguments) → call_parts e ≡ Some (c, args) → e ≡ call c args
 parts_same (call c' args') c args h =
     let l = ap (λ (o : Option (Expression × Arguments)). (unwrap_or {T = Expression × Arguments} o (c, args)).0) h in let r = ap
-        (λ (o : Option (Expression × Arguments)). (unwrap_or {T = Expression × Arguments} o (c, args)).1) h in ap (λ x. call x args') l ∙ ap
-        (λ y. call c y) r
+    (λ (o : Option (Expression × Arguments)). (unwrap_or {T = Expression × Arguments} o (c, args)).1) h in ap (λ x. call x args') l ∙ ap
+    (λ y. call c y) r
 parts_same _ c args h = cc
 
 -- statements, by the reading of bodies one level deeper
@@ -916,9 +916,11 @@ template_by : (ts : List Token) (r : Read Statements) → alone.Reads
     (λ all us. IsStatements 150 nothing_around no_statements ts all us) ts r →
     ((ss : Statements) → ended_by r ≡ Ok ss → IsTemplate ts ss) × ((f : TokenFault) → ended_by r ≡ Err f → Blamed f ts)
 template_by ts (Ok x) r =
-    let y = r.tree x.0 x.1 refl in
-    (λ ss h. whole_tree ts x.0 x.1 y.0 ss (are_distinct (blocks_among x.0)) refl h, λ f h. whole_blame ts x.0 x.1 y.1 f
-    (are_distinct (blocks_among x.0)) refl h)
+    let y = r.tree x.0 x.1 refl in (
+      λ ss h. whole_tree ts x.0 x.1 y.0 ss (are_distinct (blocks_among x.0)) refl h,
+      λ f h. whole_blame ts x.0 x.1 y.1 f
+          (are_distinct (blocks_among x.0)) refl h,
+    )
 template_by ts (Err g) r = (λ ss h. cc, λ f h. let is : g ≡ f = cc in r.blames f (ap (λ g. Err g) is))
 
 template_read : (ts : List Token) →
@@ -940,7 +942,7 @@ more_falls : {A R : Type 0} (item : A → List Token → A → List Token → Ty
 unfolding more_step
 more_falls item read items a b (symbol comma ∷ ts) us e =
     let l = (step_tree (step_under goes goes (items a.tree a.places a.places ts)
-        (λ b p q us i. step_goes {p = p} {q = q} i (same us))) e).1.1 in
+    (λ b p q us i. step_goes {p = p} {q = q} i (same us))) e).1.1 in
     omega arith
 more_falls item read items a b _ us e = cc
 
@@ -974,16 +976,16 @@ module _ (spans : List Span) where
   statements_fall d p ss all (variable_start ∷ ts) us e =
       let start = next_span spans (variable_start ∷ ts) in
       let l = (step_tree (printed_reads spans spans d
-          (bodies_read spans spans d) p start start ss.tree ss.places ss.places ts) e).1.1 in omega arith
+      (bodies_read spans spans d) p start start ss.tree ss.places ss.places ts) e).1.1 in omega arith
   statements_fall d p ss all (block_start ∷ identifier n ∷ ts) us e =
       let start = next_span spans (block_start ∷ identifier n ∷ ts) in
       let l = (step_tree (tagged_reads spans spans d
-          (bodies_read spans spans d) p start start ss.tree ss.places ss.places n ts) e).1.1 in omega arith
+      (bodies_read spans spans d) p start start ss.tree ss.places ss.places n ts) e).1.1 in omega arith
   statements_fall d p ss all _ us e = cc
 
   pub branches_fall : (d : ℕ) (p : Around) → Shrinks (branch_step spans (here spans d) p)
   unfolding branch_step
   branches_fall d p bs all (block_start ∷ t ∷ ts) us e =
       let l = (step_tree (branch_test_reads spans spans d
-          (bodies_read spans spans d) p bs.tree bs.places bs.places t ts) e).1.1 in omega arith
+      (bodies_read spans spans d) p bs.tree bs.places bs.places t ts) e).1.1 in omega arith
   branches_fall d p bs all _ us e = cc
