@@ -20,11 +20,11 @@ use template_values_errors::Error;
 
 impl<'source, E: Extension> Environment<'source, E> {
     /// The names of a context that can matter to a render of a template of this environment: `caller`, `loop`,
-    /// `self`, `super`, and the names that it needs, or a template that stands: those that it uses, those that one of its
-    /// blocks uses by itself, and those that it imports from others. What a user brought may ask for others
-    /// ([`Further::Lookup`](template_callables::Further::Lookup)): these are not among them. Reads the source of each once
-    /// more, in time linear in their length, and takes a look-up for each place of use, and once more for each block
-    /// around it.
+    /// `self`, `super`, and the names that it needs, or a registered template: those that it uses, those that one of its
+    /// blocks or recursive loops uses by itself, and those that it imports from others. What a user brought may ask for
+    /// others ([`Further`](template_callables::Further)): these are not among them. Reads the source of each once more, in
+    /// time linear in their length, and takes a look-up for each place of use, and once more for each block and each
+    /// recursive loop around it.
     ///
     /// # Errors
     ///

@@ -170,7 +170,7 @@ impl<'env, 'source, E: Extension> State<'env, 'source, E> {
     }
 
     /// The names that [`State::lookup`] finds: each frame's locals, `loop` where a frame's loop has its variable, the
-    /// text keys of a context that is a map, and the environment's globals. Takes n log n comparisons for n names in all
+    /// text keys of a context that is a map or a module, and the environment's globals. Takes n log n comparisons for n names in all
     /// frames, their contexts and the globals.
     ///
     /// # Errors
@@ -185,8 +185,7 @@ impl<'env, 'source, E: Extension> State<'env, 'source, E> {
     }
 
     /// What a filter comes to for these arguments, the first of which is what it filters; and what it asks the machine further: that
-    /// may run a macro, rounds of a loop or a block, which consume the fuel that remains. Costs what the filter costs, and what it
-    /// asks for.
+    /// may run a macro or a block, which consume the fuel that remains. Costs what the filter costs, and what it asks for.
     ///
     /// # Errors
     ///
