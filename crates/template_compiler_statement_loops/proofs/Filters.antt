@@ -18,4 +18,5 @@ none_left (chain_more {e = x} y m) e h k = none_left m x refl k
 pub filters_given : (spans : List Span) (d : ℕ) (first : Expr) (ts us : List Token) →
     filter_chain_at spans d (optional_node_in (Some first)) ts ≡ Ok (optional_node_in None, us) → ⊥
 filters_given spans d first ts us h =
-    none_left (tree_of (filter_chain_both spans spans d (given (expression_of first)) _ _ ts) h).0 (expression_of first) refl refl
+    let places = (optional_node_in (Some first)).places in
+    none_left (tree_of (filter_chain_both spans spans d (given (expression_of first)) places places ts) h).0 (expression_of first) refl refl
