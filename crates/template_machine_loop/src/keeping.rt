@@ -1,6 +1,7 @@
 //! Instructions that join texts, keep what is written, or set attributes, in a stretch with no fuel to pay them from.
 ghost use Rattle.std.specs.Prelude.{◌≡◌, ◌+◌, ◌^◌, ◌<◌, ℕ, IfErr, List, Option, None, Some, slice_get};
 ghost use Rattle.template_code.specs.Code.{Code, Operand, begin_capture, end_capture, operate, set_attr};
+ghost use Rattle.template_code.specs.Listing.{code_in};
 ghost use Rattle.template_code.specs.View.{is_kept};
 ghost use Rattle.template_machine_going.specs.Told.{SparesSink};
 ghost use Rattle.template_machine_meaning.specs.Surroundings.{Programs};
@@ -14,14 +15,16 @@ use crate::writing::onward;
 use std::alloc::Global;
 use template_code::{CaptureMode, Instructions};
 use template_machine_going::Stop;
+use template_machine_growth::grow;
 use template_machine_operands::Operands;
 use template_machine_perform::{begin_capture, end_capture, set_attr};
 use template_machine_state::State;
 use template_machine_steps::operate;
 use template_tree::BinOpKind;
-use template_values_errors::UndefinedBehavior;
+use template_values_errors::{Error, ErrorKind, UndefinedBehavior};
 
-// Joins the two values on top by `~`, and tells the next place.
+// Joins the two values on top by `~`, and tells the next place: that behind a whole statement, where it makes the text of an
+// attribute longer.
 //
 // # Errors
 //
@@ -33,15 +36,23 @@ pub(crate) fn join(
     code: &Instructions<'_>,
     place: u32,
     operands: &mut Operands,
-    state: &State<'_>,
+    state: &mut State<'_>,
+    scratch: &mut String,
 ) -> Result<u32, Stop>
     requires { place + 1 < 2 ^ 32 }
-    ensures advances { (program : Programs) (limit : ℕ) (code : List Code) (taken : Option (List ℕ)) →
-        slice_get code place ≡ Some (operate Concat) →
-        Advances (ruled program limit mode) code place (operands_in operands.old) state.now None taken result (operands_in operands.new) state.now None taken }
+    ensures advances { (program : Programs) (limit : ℕ) (taken : Option (List ℕ)) →
+        slice_get (code_in code.now) place ≡ Some (operate Concat) →
+        Advances (ruled program limit mode) (code_in code.now) place (operands_in operands.old) state.old None taken
+        result (operands_in operands.new) state.new None taken }
     ensures spares { IfErr result SparesSink }
 {
-    let joined = operate(alloc, mode, BinOpKind::Concat, operands, state);
+    let Some(next) = grow(alloc, mode, code, place, operands, state, scratch) else {
+        return Err(Stop::Want(Error::new(ErrorKind::OutOfMemory)));
+    };
+    if next != place {
+        return Ok(next);
+    }
+    let joined = operate(alloc, mode, BinOpKind::Concat, operands, &*state);
     onward(code, place, told_by(joined))
 }
 
