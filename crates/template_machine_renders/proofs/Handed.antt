@@ -1,17 +1,17 @@
 -- From the run of the code of a stream that was handed in to what the stream comes to.
-use Rattle.std.proofs.Common.{◌≡◌, ◌⊎◌, inl, inr, ℕ, suc, ◌+◌, ◌==◌, ◌≤◌, Bool, true, false, if◌then◌else◌, List, [], ◌∷◌, ◌++◌, length, map, Option, None, Some, Result, Ok, Err, IsErrAnd, refl, sym, ap, subst, ◌∙◌, arith}
+use Rattle.std.proofs.Common.{◌≡◌, ◌⊎◌, inl, inr, ℕ, zero, suc, ◌+◌, ◌==◌, ◌≤◌, Bool, true, false, if◌then◌else◌, List, [], ◌∷◌, length, map, Option, None, Some, Result, Ok, Err, IsErrAnd, refl, sym, ap, subst, ◌∙◌, arith}
 use Rattle.std.specs.Option.{option_map, option_and_then}
 use Rattle.std.proofs.KnownBytes.{Appends-nil}
 use Rattle.std.proofs.lemmas.Bool.Decides.{nat_tests}
 use Rattle.template_values_errors.specs.declared.ErrorKind.{ErrorKind}
-use Rattle.template_values_errors.specs.declared.ErrorKind.TheVariants.{InvalidOperation}
+use Rattle.template_values_errors.specs.declared.ErrorKind.TheVariants.{InvalidOperation, TemplateNotFound}
 use Rattle.template_values_errors.specs.Memory.{NoMemory}
 use Rattle.template_values_model.specs.Val.{Val}
 use Rattle.template_values_errors.specs.declared.modes.UndefinedBehavior.{UndefinedBehavior}
 use Rattle.template_callables.specs.Callables.{Callables}
 use Rattle.template_callables.specs.Joins.{Joins}
 use Rattle.template_process.specs.Approximants.{IsFinished}
-use Rattle.template_process.specs.Drive.{End, ends, faults, breaks, waits, mistaken, cuts, sticks, IsUncut}
+use Rattle.template_process.specs.Drive.{End, ends, faults, breaks, IsUncut}
 use Rattle.template_process.specs.Process.{Answer, Told, tells, fails, breaks_off, leaves, Process, over, step, asks, amiss, cut_short, stuck, Ask}
 use Rattle.template_process.specs.Trace.{Item, paid, Reply, Run, run, behind, ended, go_on}
 use Rattle.template_code.specs.Code.{Code, Operand, single}
@@ -26,29 +26,31 @@ use Rattle.template_code_shapes.specs.declared.StreamKind.TheVariants.{Template,
 use Rattle.template_code_shapes.proofs.Ending.{ends_by}
 use Rattle.template_machine_meaning.specs.Keeps.{KeepsFrames, KeepsWorld}
 use Rattle.template_machine_meaning.specs.Keys as keys
-use Rattle.template_machine_meaning.specs.Keys.{Part, whole, body_of, rounds_of, own, whole_of}
-use Rattle.template_machine_meaning.specs.Plans.{calls_block, caller_of, outermost, put_back}
-use Rattle.template_machine_meaning.specs.Surroundings.{Programs, answer}
+use Rattle.template_machine_meaning.specs.Keys.{Key, Part, whole, body_of, rounds_of, own, whole_of}
+use Rattle.template_machine_meaning.specs.Plans.{calls_block, caller_of, followed, outermost, put_back, ran, restarted}
+use Rattle.template_machine_meaning.specs.Surroundings.{Programs, answer, runners}
 use Rattle.template_machine_meaning.specs.World.{World, empty_frame, has_room}
-use Rattle.template_machine_meaning.proofs.RunsKept.{frames_stay, kept_back, own_stay}
+use Rattle.template_machine_meaning.proofs.RunsKept.{all_kept, frames_stay, kept_back, own_stay, world_on}
 use Rattle.template_machine_state.specs.Changes.{stream_begun}
-use Rattle.template_machine_going.specs.Laws.{WantsFrom}
-use Rattle.template_machine_going.specs.Outcomes.{Stops, faults as stops_faulting, runs_out, strays}
-use Rattle.template_machine_going.specs.Spots.{Spot, run_at}
+use Rattle.template_machine_calls.specs.declared.rules.Rules.{Rules}
+use Rattle.template_machine_going.specs.Outcomes.{Stops}
+use Rattle.template_machine_going.specs.Spots.{Spot}
 use Rattle.template_machine_going.specs.Stops.{Wants}
-use Rattle.template_machine_going.specs.Strays.{IsLost, Strays, StraysFrom}
+use Rattle.template_machine_going.specs.Strays.{IsLost, Strays}
 use Rattle.template_machine_going.specs.Told.{no_memory, stop_of}
 use Rattle.template_machine_going.specs.declared.stop.Stop.{Stop}
 use Rattle.template_machine_going.specs.declared.stop.Stop.TheVariants.{Fault, Want}
-use Rattle.template_machine_going.proofs.Paths.{behind-behind, paid_nothing}
-use Rattle.template_machine_going.proofs.Staying.{beginnings_stay, uncut_stays}
+use Rattle.template_machine_going.proofs.Paths.{paid_nothing}
+use Rattle.template_machine_going.proofs.Staying.{uncut_stays}
 use Rattle.template_machine_loop.specs.Performs.{spot}
 use Rattle.template_machine_codes.proofs.Alike.{FollowedBy, ProgramsFollow, finished_alike, keys_alike}
-use Rattle.template_machine_loop.specs.Programs.{Roots, Standing, body_in, code_at, kept_code, part_in, programs_of}
-use Rattle.template_machine_loop.specs.Runs.{Breaks, faulting, running_out, straying, EndsSo, Evaluates, KeyRuns}
-use Rattle.template_machine_loop.proofs.Streams.{behind_first, first_left, uncut_lost}
+use Rattle.template_machine_loop.specs.Programs.{Roots, Standing, body_in, code_at, kept_code, part_in, programs_of, programs_under}
+use Rattle.template_machine_loop.specs.Runs.{Breaks, faulting, running_out, straying, EndsOver, EndsSo, KeyRuns}
+use Rattle.template_machine_loop.proofs.Doing.{runner_there}
+use Rattle.template_machine_loop.proofs.Restarts.{Reaches, reaches_itself, breaks_there, ends_there, lost_there, over_there, restarts_there}
+use Rattle.template_machine_loop.proofs.Streams.{RunsCode, stream_stops}
 use Rattle.template_machine_loop.proofs.Wrapping.{either_on}
-use Rattle.template_machine_renders.specs.Handed.{ComesGiving, EndsGiving, Gives, GivesEnd, backed, begun_run, stream_run, valued, with_value}
+use Rattle.template_machine_renders.specs.Handed.{ComesGiving, LeavesAtEnd, at_most_one, backed, begun_run, handed, own_run, stream_run}
 use Rattle.template_machine_renders.specs.Renders.{RendersTo}
 use Rattle.template_machine_renders.proofs.Coming.{ComeTo, breaks_meant, ends_meant, stops_so}
 
@@ -121,146 +123,141 @@ run_leaves answers k amiss left w vs is = absurd (cc)
 run_leaves answers k cut_short left w vs is = absurd (cc)
 run_leaves answers k stuck left w vs is = absurd left
 
--- one value alone
-one_alone : (v : Val) (vs : List Val) → (v ∷ vs ≡ []) ⊎ (length (v ∷ vs) ≡ 1) → v ∷ vs ≡ v ∷ []
+-- so a template's stream leaves nothing, and an expression's one value at most
+abbrev FewLeft : StreamKind → List Val → Type 0
+FewLeft Template vs = vs ≡ []
+FewLeft Expression vs = (vs ≡ []) ⊎ (length vs ≡ 1)
+
+none_left : (vs : List Val) → (vs ≡ []) ⊎ (length vs ≡ 0) → vs ≡ []
+none_left [] left = refl
+none_left (v ∷ vs) (inl none) = none
+none_left (v ∷ vs) (inr none) = absurd (omega (arith, none))
+
+pub few_left : (s : Programs) (code : List Code) (w : World) (kind : StreamKind) → IsGood kind code → (vs : List Val) → LeavesAtEnd (own_run s code w) vs → FewLeft kind vs
+few_left s code w Template good vs left =
+    none_left vs (run_leaves (answer s left.0) 0 (exec code left.0 0 []) (ends_by Template code good left.0 0 start [] begins refl) w vs (left.1 left.0 (omega arith)))
+few_left s code w Expression good vs left =
+    run_leaves (answer s left.0) 1 (exec code left.0 0 []) (ends_by Expression code good left.0 0 start [] begins refl) w vs (left.1 left.0 (omega arith))
+
+-- the uppermost value, if there is one, is the only one
+one_alone : (v : Val) (vs : List Val) → (v ∷ vs ≡ []) ⊎ (length (v ∷ vs) ≡ 1) → vs ≡ []
 one_alone v [] one = refl
 one_alone v (u ∷ vs) (inl none) = absurd (cc)
 one_alone v (u ∷ vs) (inr one) = absurd (omega (arith, one))
 
--- what is lost leaves no value
-valued_lost : (e : End) → IsLost e → valued e ≡ e
-valued_lost (ends operands) lost = absurd lost
-valued_lost (faults kinds) lost = refl
-valued_lost breaks lost = refl
-valued_lost waits lost = refl
-valued_lost mistaken lost = refl
-valued_lost cuts lost = refl
-valued_lost sticks lost = refl
+value_alone : (kind : StreamKind) (v : Val) (vs : List Val) → FewLeft kind (v ∷ vs) → vs ≡ []
+value_alone Template v vs few = absurd (cc)
+value_alone Expression v vs few = one_alone v vs few
 
--- what was evaluated is told
-abbrev pub IsTold : Result Val Stop → Result (Option Val) Stop → Type 0
-IsTold (Ok v) (Ok value) = value ≡ Some v
-IsTold (Err stop) (Err told) = told ≡ stop
-IsTold _ _ = ⊥
+pub value_only : (kind : StreamKind) (v : Val) (vs us : List Val) → us ≡ v ∷ vs → FewLeft kind us → us ≡ v ∷ []
+value_only kind v vs us top few = top ∙ ap (λ (rest : List Val). v ∷ rest) (value_alone kind v vs (subst (FewLeft kind) top few))
 
--- an expression's code
-module _ (s : Programs) (code : List Code) (w : World) (left rest : Option ℕ) (taken written : Option (List ℕ)) where
+pub no_value : {X : Type 0} (v : Val) (vs us : List Val) → us ≡ v ∷ vs → (kind : StreamKind) → FewLeft kind us → kind ≡ Template → X
+no_value v vs us top kind few is = let none : us ≡ [] = subst (λ (k : StreamKind). FewLeft k us) is few in absurd (cc)
+
+-- the key of a stream that is handed in runs its code
+pub kept_there : (standing : List ℕ → Option Standing) (roots : Roots) (number : ℕ) (code : List Code) → roots.kept ≡ Some (number, code)
+    → code_at standing roots (own (keys.kept number)) ≡ Some code
+kept_there standing roots number code is =
+    let itself : (number == number) ≡ true = grind (arith, nat_tests) in
+    ap (option_and_then (kept_code number)) is ∙ ap (λ (b : Bool). if b then Some code else None) itself
+
+-- a key that has no process has no run
+missing : (s : Programs) (key : Key) → ((n : ℕ) → s.process n key ≡ None) → (n : ℕ) → runners s n key ≡ None
+missing s key none zero =
+    let f : Process → World → Run World = λ p w. ended breaks w in
+    ap (option_map f) (none 0)
+missing s key none (suc n) =
+    let f : Process → World → Run World = λ p w. followed (runners s n) key.part (run (answer s n) p w) in
+    ap (option_map f) (none n)
+
+module _ (standing : List ℕ → Option Standing) (joins : Joins) (callables : Callables) (roots : Roots) (rules : Rules) (code : List Code) (w : World) (left : Option ℕ)
+    (taken : Option (List ℕ)) where
+  abbrev s : Programs
+  s = programs_under standing joins callables roots rules
+
   abbrev first : Spot World
   first = spot 0 [] w left taken
 
-  abbrev from_first : ℕ → ℕ → Run World
-  from_first n j = run_at (answer s) code n j first
+  -- its own code comes to its end, with these operands
+  module _ (operands : List Operand) (after : World) (rest : Option ℕ) (written : Option (List ℕ)) (h : EndsOver (answer s) code first operands after rest written) where
+    own_ended : (n : ℕ) → h.least + h.bound ≤ n → own_run s code w n ≡ behind h.items (ended (ends (values_in operands)) after)
+    own_ended n le =
+        uncut_stays World (answer s) code n h.bound n first (omega (arith, le))
+        (subst (λ (q : Run World). IsUncut q.end) (sym (h.is n (omega (arith, le)))) tt)
+        ∙ h.is n (omega (arith, le))
 
-  abbrev own_run : ℕ → Run World
-  own_run n = from_first n n
+    pub leaves_values : LeavesAtEnd (own_run s code w) (values_in operands)
+    leaves_values = (h.least + h.bound, λ n le. ap (λ (r : Run World). r.end) (own_ended n le))
 
-  fixed : (j least : ℕ) (r : Run World) → IsUncut r.end → ((n : ℕ) → least ≤ n → from_first n j ≡ r) → (m : ℕ) → least + j ≤ m → own_run m ≡ r
-  fixed j least r uncut is m le =
-      uncut_stays World (answer s) code m j m first (omega (arith, le))
-      (subst (λ (q : Run World). IsUncut q.end) (sym (is m (omega (arith, le)))) uncut)
-      ∙ is m (omega (arith, le))
+  module _ (number : ℕ) (is : roots.kept ≡ Some (number, code)) where
+    runs_code : RunsCode s (handed number) code
+    runs_code = record { is = λ n. ap (option_and_then (part_in n whole)) (kept_there standing roots number code is); part = refl }
 
-  begun : (j least : ℕ) (items : List Item) (later : ℕ → Run World) → ((n : ℕ) → least ≤ n → from_first n j ≡ behind items (later n))
-      → (m : ℕ) → least + j ≤ m → own_run m ≡ behind items (behind_first items (own_run m))
-  begun j least items later is m le =
-      let more : (q : Run World) × (own_run m ≡ behind items q) =
-      beginnings_stay World (answer s) code m j m first items (later m) (omega (arith, le)) (is m (omega (arith, le))) in
-      first_left items (own_run m) more.0 more.1
+    itself : Reaches s (handed number) w left taken (handed number) w left taken
+    itself = reaches_itself s (handed number) w left taken
 
-  own_wants : WantsFrom (answer s) code first rest written → Wants own_run left rest taken written
-  own_wants h = record {
-    items = h.1.items;
-    least = h.1.least + h.0;
-    rest = λ n. behind_first h.1.items (own_run n);
-    remained = h.1.remained;
-    is = begun h.0 h.1.least h.1.items h.1.rest h.1.is;
-    pays = h.1.pays;
-    stays = h.1.stays;
-    text = h.1.text;
-  }
+    -- it stops before its end
+    pub followed_stops : {X : Type 0} (stop : Stop) (result : Result X Stop) (after : World) (rest : Option ℕ) (written : Option (List ℕ))
+        → Stops (answer s) code first (spot 0 [] after rest written) stop → IsErrAnd result (λ told. told ≡ stop)
+        → KeyRuns s (handed number) w left taken result after rest written
+    followed_stops stop (Ok x) after rest written h told = absurd told
+    followed_stops {X} stop (Err other) after rest written h told =
+        subst (λ (t : Stop). KeyRuns {X = X} s (handed number) w left taken (Err t) after rest written) (sym told)
+        (stream_stops s (handed number) code runs_code w left rest taken written stop after h)
 
-  own_strays : StraysFrom (answer s) code first → Strays own_run
-  own_strays h = record {
-    items = h.1.items;
-    least = h.1.least + h.0;
-    end = h.1.end;
-    world = h.1.world;
-    is = fixed h.0 h.1.least (behind h.1.items (ended h.1.end h.1.world)) (uncut_lost h.1.end h.1.lost) h.1.is;
-    lost = h.1.lost;
-  }
+    module _ (operands : List Operand) (after : World) (rest : Option ℕ) (written : Option (List ℕ)) (h : EndsOver (answer s) code first operands after rest written) where
+      -- it extends no template
+      pub followed_ends : {X : Type 0} (x : X) → after.parent ≡ None → KeyRuns s (handed number) w left taken (Ok x) after rest written
+      followed_ends x alone =
+          over_there s (handed number) w left taken (handed number) w left taken itself code runs_code (values_in operands) after rest written
+          h.items h.least h.bound h.is h.pays h.text alone
 
-  own_stops : (stop : Stop) (after : World) → Stops (answer s) code first (spot 0 [] after rest written) stop
-      → Breaks own_run stop after left rest taken written
-  own_stops (Fault kinds) after (stops_faulting h) = faulting (record {
-    items = h.1.items;
-    least = h.1.least + h.0;
-    is = fixed h.0 h.1.least (behind h.1.items (ended (faults kinds) after)) tt h.1.is;
-    pays = h.1.pays;
-    text = h.1.text;
-  })
-  own_stops (Fault kinds) after (runs_out h) =
-      let all : List Item = h.1.items ++ paid h.1.wraps ∷ [] in
-      running_out (record {
-        items = h.1.items;
-        least = h.1.least + h.0;
-        wraps = h.1.wraps;
-        rest = λ n. behind_first all (own_run n);
-        remained = h.1.remained;
-        is = λ n le.
-            begun h.0 h.1.least all h.1.rest (λ m lem. h.1.is m lem ∙ behind-behind h.1.items (paid h.1.wraps ∷ []) (h.1.rest m)) n le
-            ∙ sym (behind-behind h.1.items (paid h.1.wraps ∷ []) (behind_first all (own_run n)));
-        kinds_are = h.1.kinds_are;
-        pays = h.1.pays;
-        spent = h.1.spent;
-        nothing = h.1.nothing;
-        text = h.1.text;
-      })
-  own_stops (Fault kinds) after (strays why h) = straying why (own_strays h)
-  own_stops (Want kinds) after h = (h.0, either_on own_wants own_strays h.1)
+      -- one that does not stand
+      pub followed_lost : (X : Type 0) (name : List ℕ) (kinds : List ErrorKind) (begun : World) → after.parent ≡ Some name → standing name ≡ None
+          → kinds ≡ TemplateNotFound ∷ [] → begun ≡ restarted name after → KeyRuns {X = X} s (handed number) w left taken (Err (Fault kinds)) begun rest written
+      followed_lost X name kinds begun extends none are same =
+          subst (λ (ks : List ErrorKind). KeyRuns {X = X} s (handed number) w left taken (Err (Fault ks)) begun rest written) (sym are)
+          (subst (λ (v : World). KeyRuns {X = X} s (handed number) w left taken (Err (Fault (TemplateNotFound ∷ []))) v rest written) (sym same)
+          (lost_there s (handed number) w left taken (handed number) w left taken itself code runs_code (values_in operands) after rest written
+          h.items h.least h.bound h.is h.pays h.text name extends
+          (missing s (whole_of (own (keys.standing name))) (λ n. ap (λ (o : Option Standing). option_and_then (part_in n whole) (option_map (λ (t : Standing). t.code) o)) none))))
 
-  -- its value is one alone, as verified code leaves it
-  one_left : IsGood Expression code → (v : Val) (vs : List Val) (n : ℕ) (items : List Item) (after : World) → own_run n ≡ behind items (ended (ends (v ∷ vs)) after)
-      → v ∷ vs ≡ v ∷ []
-  one_left good v vs n items after is =
-      one_alone v vs (run_leaves (answer s n) 1 (exec code n 0 []) (ends_by Expression code good n 0 start [] begins refl) w (v ∷ vs) (ap (λ (r : Run World). r.end) is))
+      -- or one that does, and runs in its place
+      module _ (name : List ℕ) (t : Standing) (begun : World) (extends : after.parent ≡ Some name) (there : standing name ≡ Some t) (same : begun ≡ restarted name after) where
+        abbrev parent : Key
+        parent = whole_of (own (keys.standing name))
 
-  pub expression_comes : IsGood Expression code → (number : ℕ) (result : Result Val Stop) (after : World) → Evaluates s code w left taken result after rest written
-      → (told : Result (Option Val) Stop) → IsTold result told
-      → ComesGiving Expression (begun_run Expression s code number w) left taken told after rest written
-  expression_comes good number (Ok v) after (below, h) (Ok value) is =
-      let fixed_at = fixed h.bound h.least (behind h.items (ended (ends (v ∷ values_in below)) after)) tt h.is in
-      record {
-        ends = record {
-          items = h.items;
-          least = h.least + h.bound;
-          operands = v ∷ values_in below;
-          is = λ n le. ap with_value (fixed_at n le);
-          pays = h.pays;
-          text = h.text;
-        };
-        gives = subst (λ (o : Option Val). Gives Expression o (v ∷ values_in below)) (sym is)
-            (one_left good v (values_in below) (h.least + h.bound) h.items after (fixed_at (h.least + h.bound) (omega arith)));
-      }
-  expression_comes good number (Ok v) after h (Err stop) is = absurd is
-  expression_comes good number (Err stop) after h (Ok value) is = absurd is
-  expression_comes good number (Err stop) after (inl h) (Err told) is =
-      subst (λ (t : Stop). Breaks (begun_run Expression s code number w) t after left rest taken written) (sym is)
-      (changed_breaks with_value (λ v. v) (λ items r. refl) (λ kinds v. refl) (λ e v lost. ap (λ (x : End). ended x v) (valued_lost e lost)) own_run left rest taken written stop after (own_stops stop after h))
-  expression_comes good number (Err stop) after (inr (why, h)) (Err told) is =
-      subst (λ (t : Stop). Breaks (begun_run Expression s code number w) t after left rest taken written) (sym (is ∙ why))
-      (faulting (record {
-        items = h.items;
-        least = h.least + h.bound;
-        is = λ n le. ap with_value (fixed h.bound h.least (behind h.items (ended (ends []) after)) tt h.is n le);
-        pays = h.pays;
-        text = h.text;
-      }))
+        pub parent_there : code_at standing roots (own (keys.standing name)) ≡ Some t.code
+        parent_there = ap (option_map (λ (u : Standing). u.code)) there
 
--- a template's code
-pub template_comes : {X : Type 0} (s : Programs) (code : List Code) (number : ℕ) (w : World) (left rest : Option ℕ) (taken written : Option (List ℕ)) (x : X) (after : World)
-    → KeyRuns s (whole_of (own (keys.kept number))) w left taken (Ok x) after rest written
-    → ComesGiving Template (begun_run Template s code number w) left taken (Ok None) after rest written
-template_comes s code number w left rest taken written x after h = record { ends = h; gives = refl }
+        reaches : Reaches s (handed number) w left taken parent begun rest written
+        reaches =
+            subst (λ (v : World). Reaches s (handed number) w left taken parent v rest written) (sym same)
+            (restarts_there s (handed number) w left taken (handed number) w left taken itself code runs_code (values_in operands) after rest written
+            h.items h.least h.bound h.is h.pays h.text name extends
+            (λ n. runner_there s parent (λ m. exec t.code m 0 []) (λ m. ap (option_and_then (part_in m whole)) parent_there) n))
+
+        pub followed_on : {X Y : Type 0} (x : X) (y : Y) (last : World) (later : Option ℕ) (more : Option (List ℕ))
+            → KeyRuns s parent begun rest written (Ok x) last later more → KeyRuns s (handed number) w left taken (Ok y) last later more
+        followed_on x y last later more k = ends_there s (handed number) w left taken parent begun rest written reaches last later more k
+
+        pub followed_breaks : (X Y : Type 0) (stop : Stop) (last : World) (later : Option ℕ) (more : Option (List ℕ))
+            → KeyRuns {X = X} s parent begun rest written (Err stop) last later more → KeyRuns {X = Y} s (handed number) w left taken (Err stop) last later more
+        followed_breaks X Y stop last later more k = breaks_there s (handed number) w left taken parent begun rest written reaches stop last later more k
+
+    -- it is told with the value that its own code leaves
+    pub begun_comes : {X : Type 0} (x : X) (operands : List Val) (value : Option Val) (last : World) (rest : Option ℕ) (written : Option (List ℕ))
+        → KeyRuns s (handed number) w left taken (Ok x) last rest written → LeavesAtEnd (own_run s code w) operands → operands ≡ at_most_one value
+        → ComesGiving (own_run s code w) (begun_run s number w) left taken (Ok value) last rest written
+    begun_comes x operands value last rest written k left_so are = (k, subst (LeavesAtEnd (own_run s code w)) are left_so)
+
+    pub begun_breaks : (X : Type 0) (stop : Stop) (result : Result (Option Val) Stop) (last : World) (rest : Option ℕ) (written : Option (List ℕ))
+        → KeyRuns {X = X} s (handed number) w left taken (Err stop) last rest written → IsErrAnd result (λ told. told ≡ stop)
+        → ComesGiving (own_run s code w) (begun_run s number w) left taken result last rest written
+    begun_breaks X stop (Ok value) last rest written k told = absurd told
+    begun_breaks X stop (Err other) last rest written k told =
+        subst (λ (t : Stop). ComesGiving (own_run s code w) (begun_run s number w) left taken (Err t) last rest written) (sym told) k
 
 -- a stream that has begun, and behind which what was open before is put back
 abbrev ends_backed : (w : World) (runs : ℕ → Run World) (after : World) (left rest : Option ℕ) (taken written : Option (List ℕ)) → EndsSo runs after left rest taken written
@@ -274,54 +271,56 @@ ends_backed w runs after left rest taken written h = record {
   text = h.text;
 }
 
-comes_backed : (kind : StreamKind) (w : World) (runs : ℕ → Run World) (left rest : Option ℕ) (taken written : Option (List ℕ)) (result : Result (Option Val) Stop) (after : World)
-    → ComesGiving kind runs left taken result after rest written
-    → ComesGiving kind (λ n. backed w (runs n)) left taken result (put_back (caller_of w) after) rest written
-comes_backed kind w runs left rest taken written (Ok value) after h =
-    record { ends = ends_backed w runs after left rest taken written h.ends; gives = h.gives }
-comes_backed kind w runs left rest taken written (Err stop) after h =
+comes_backed : (w : World) (alone runs : ℕ → Run World) (left rest : Option ℕ) (taken written : Option (List ℕ)) (result : Result (Option Val) Stop) (after : World)
+    → ComesGiving alone runs left taken result after rest written
+    → ComesGiving alone (λ n. backed w (runs n)) left taken result (put_back (caller_of w) after) rest written
+comes_backed w alone runs left rest taken written (Ok value) after h = (ends_backed w runs after left rest taken written h.0, h.1)
+comes_backed w alone runs left rest taken written (Err stop) after h =
     changed_breaks (backed w) (put_back (caller_of w)) (λ items r. refl) (λ kinds v. refl) (λ e v lost. refl) runs left rest taken written stop after h
 
-module _ (kind : StreamKind) (s : Programs) (code : List Code) (number : ℕ) (w : World) (left : Option ℕ) (taken : Option (List ℕ)) where
+module _ (s : Programs) (code : List Code) (number : ℕ) (w : World) (left : Option ℕ) (taken : Option (List ℕ)) where
+  abbrev own_begun : ℕ → Run World
+  own_begun = own_run s code (stream_begun number w)
+
   -- where there is room for it
   pub stream_comes : has_room s.around.limit 1 w ≡ true → (begun : World) → begun ≡ stream_begun number w → (rest : Option ℕ) (written : Option (List ℕ))
       (result : Result (Option Val) Stop) (after back : World) → back ≡ put_back (caller_of w) after
-      → ComesGiving kind (begun_run kind s code number begun) left taken result after rest written
-      → ComesGiving kind (stream_run kind s code number w) left taken result back rest written
+      → ComesGiving (own_run s code begun) (begun_run s number begun) left taken result after rest written
+      → ComesGiving own_begun (stream_run s number w) left taken result back rest written
   stream_comes room begun is rest written result after back same h =
-      let there = comes_backed kind w (begun_run kind s code number (stream_begun number w)) left rest taken written result after
-      (subst (λ (v : World). ComesGiving kind (begun_run kind s code number v) left taken result after rest written) is h) in
-      subst (λ (v : World). ComesGiving kind (stream_run kind s code number w) left taken result v rest written) (sym same)
+      let there = comes_backed w own_begun (begun_run s number (stream_begun number w)) left rest taken written result after
+      (subst (λ (v : World). ComesGiving (own_run s code v) (begun_run s number v) left taken result after rest written) is h) in
+      subst (λ (v : World). ComesGiving own_begun (stream_run s number w) left taken result v rest written) (sym same)
       (subst
-      (λ (b : Bool). ComesGiving kind (λ n. if b then backed w (begun_run kind s code number (stream_begun number w) n) else ended (faults (InvalidOperation ∷ [])) w)
+      (λ (b : Bool). ComesGiving own_begun (λ n. if b then backed w (begun_run s number (stream_begun number w) n) else ended (faults (InvalidOperation ∷ [])) w)
       left taken result (put_back (caller_of w) after) rest written) (sym room) there)
 
   -- where there is none
   pub stream_refused : has_room s.around.limit 1 w ≡ false → (kinds : List ErrorKind) → kinds ≡ InvalidOperation ∷ []
-      → ComesGiving kind (stream_run kind s code number w) left taken (Err (Fault kinds)) w left taken
+      → ComesGiving own_begun (stream_run s number w) left taken (Err (Fault kinds)) w left taken
   stream_refused full kinds are =
-      subst (λ (ks : List ErrorKind). ComesGiving kind (stream_run kind s code number w) left taken (Err (Fault ks)) w left taken) (sym are)
+      subst (λ (ks : List ErrorKind). ComesGiving own_begun (stream_run s number w) left taken (Err (Fault ks)) w left taken) (sym are)
       (faulting (record {
         items = [];
         least = 0;
         is = λ n le.
-            ap (λ (b : Bool). if b then backed w (begun_run kind s code number (stream_begun number w) n) else ended (faults (InvalidOperation ∷ [])) w) full;
+            ap (λ (b : Bool). if b then backed w (begun_run s number (stream_begun number w) n) else ended (faults (InvalidOperation ∷ [])) w) full;
         pays = paid_nothing left;
         text = Appends-nil taken;
       }))
 
   -- or no memory for it
   pub stream_lacks : (kinds : List ErrorKind) (result : Result (Option Val) Stop) (after : World) → IsErrAnd result (λ told. told ≡ stop_of kinds) → NoMemory kinds
-      → ComesGiving kind (stream_run kind s code number w) left taken result after left taken
+      → ComesGiving own_begun (stream_run s number w) left taken result after left taken
   stream_lacks kinds (Ok value) after is why = absurd is
   stream_lacks kinds (Err told) after is why =
       let wants : told ≡ no_memory = is ∙ ap stop_of why in
-      subst (λ (t : Stop). ComesGiving kind (stream_run kind s code number w) left taken (Err t) after left taken) (sym wants) (
+      subst (λ (t : Stop). ComesGiving own_begun (stream_run s number w) left taken (Err t) after left taken) (sym wants) (
         inl refl,
         inl (record {
           items = [];
           least = 0;
-          rest = stream_run kind s code number w;
+          rest = stream_run s number w;
           remained = left;
           is = λ n le. refl;
           pays = paid_nothing left;
@@ -330,12 +329,10 @@ module _ (kind : StreamKind) (s : Programs) (code : List Code) (number : ℕ) (w
         }),
       )
 
--- the code of the stream stands at the home of its number
-pub kept_there : (standing : List ℕ → Option Standing) (roots : Roots) (number : ℕ) (code : List Code) → roots.kept ≡ Some (number, code)
-    → code_at standing roots (own (keys.kept number)) ≡ Some code
-kept_there standing roots number code is =
-    let itself : (number == number) ≡ true = grind (arith, nat_tests) in
-    ap (option_and_then (kept_code number)) is ∙ ap (λ (b : Bool). if b then Some code else None) itself
+-- what goes on in the template that is extended keeps what every run keeps
+pub restart_keeps : (w v u x : World) (name : List ℕ) → KeepsWorld w v → u ≡ restarted name v → KeepsWorld u x → KeepsWorld w x
+restart_keeps w v u x name first same later =
+    world_on w v x first (world_on v u x (subst (KeepsWorld v) (sym same) (all_kept v (restarted name v) refl refl)) later)
 
 -- what a run within begins so leaves, with what was open before put back, keeps what every run keeps, and the frames
 module _ (w begun after back : World) (number : ℕ) (is : begun ≡ stream_begun number w) (kept : KeepsWorld begun after) (same : back ≡ put_back (caller_of w) after) where
@@ -382,16 +379,6 @@ stream_follows : (n : ℕ) (part : Part) (o : Option (List Code)) → FollowedBy
 stream_follows n part None = λ j. refl
 stream_follows n part (Some code) = part_follows n part code
 
--- a run without its value is finished where that is
-valued_finished : (e : End) → IsFinished (valued e) → IsFinished e
-valued_finished (ends operands) finished = tt
-valued_finished (faults kinds) finished = tt
-valued_finished breaks finished = finished
-valued_finished waits finished = finished
-valued_finished mistaken finished = finished
-valued_finished cuts finished = finished
-valued_finished sticks finished = finished
-
 module _ (standing : List ℕ → Option Standing) (joins : Joins) (callables : Callables) (roots : Roots) (name : List ℕ) (limit : ℕ) (mode : UndefinedBehavior) where
   abbrev ruled : Programs
   ruled = programs_of standing joins callables roots name limit mode
@@ -399,41 +386,46 @@ module _ (standing : List ℕ → Option Standing) (joins : Joins) (callables : 
   follows_itself : ProgramsFollow ruled ruled
   follows_itself = record { around = refl; follow = λ n key. stream_follows n key.part (code_at standing roots key.stream) }
 
-  -- what a stream comes to where it is finished it comes to under every bound that is great enough
-  begun_stays : (kind : StreamKind) (code : List Code) (number : ℕ) (w : World) (n : ℕ) → IsFinished (begun_run kind ruled code number w n).end
-      → ComeTo (begun_run kind ruled code number w) (begun_run kind ruled code number w n)
-  begun_stays Template code number w n finished = keys_alike ruled ruled follows_itself (whole_of (own (keys.kept number))) w n finished
-  begun_stays Expression code number w n finished =
-      let same = finished_alike ruled ruled follows_itself n (exec code n 0 []) w (valued_finished (run (answer ruled n) (exec code n 0 []) w).end finished) in
-      (same.0 + n, λ m le. ap with_value (same.1 m (omega (arith, le)) (exec code m 0 []) (exec_more code n m (omega (arith, le)) 0 [])))
+  -- what a key comes to where it is finished it comes to under every bound that is great enough, and so does a stream
+  pub key_stays : (key : Key) (w : World) (n : ℕ) → IsFinished (ran (runners ruled n key) w).end → ComeTo (λ m. ran (runners ruled m key) w) (ran (runners ruled n key) w)
+  key_stays key w n finished = keys_alike ruled ruled follows_itself key w n finished
 
-  roomy_stays : (kind : StreamKind) (code : List Code) (number : ℕ) (w : World) (n : ℕ) (b : Bool)
-      → IsFinished (if b then backed w (begun_run kind ruled code number (stream_begun number w) n) else ended (faults (InvalidOperation ∷ [])) w).end
-      → ComeTo (λ m. if b then backed w (begun_run kind ruled code number (stream_begun number w) m) else ended (faults (InvalidOperation ∷ [])) w)
-      (if b then backed w (begun_run kind ruled code number (stream_begun number w) n) else ended (faults (InvalidOperation ∷ [])) w)
-  roomy_stays kind code number w n true finished =
-      let same = begun_stays kind code number (stream_begun number w) n finished in
+  roomy_stays : (number : ℕ) (w : World) (n : ℕ) (b : Bool)
+      → IsFinished (if b then backed w (begun_run ruled number (stream_begun number w) n) else ended (faults (InvalidOperation ∷ [])) w).end
+      → ComeTo (λ m. if b then backed w (begun_run ruled number (stream_begun number w) m) else ended (faults (InvalidOperation ∷ [])) w)
+      (if b then backed w (begun_run ruled number (stream_begun number w) n) else ended (faults (InvalidOperation ∷ [])) w)
+  roomy_stays number w n true finished =
+      let same = key_stays (handed number) (stream_begun number w) n finished in
       (same.0, λ m le. ap (backed w) (same.1 m le))
-  roomy_stays kind code number w n false finished = (0, λ m le. refl)
+  roomy_stays number w n false finished = (0, λ m le. refl)
 
-  module _ (kind : StreamKind) (code : List Code) (number : ℕ) (w after : World) (fuel left : Option ℕ) (before taken : Option (List ℕ)) (n : ℕ)
-      (finished : IsFinished (stream_run kind ruled code number w n).end) where
-    come : ComeTo (stream_run kind ruled code number w) (stream_run kind ruled code number w n)
-    come = roomy_stays kind code number w n (has_room limit 1 w) finished
+  come_there : (number : ℕ) (w : World) (n : ℕ) → IsFinished (stream_run ruled number w n).end → ComeTo (stream_run ruled number w) (stream_run ruled number w n)
+  come_there number w n finished = roomy_stays number w n (has_room limit 1 w) finished
+
+  pub stream_stays : (number : ℕ) (w : World) (n m : ℕ) → IsFinished (stream_run ruled number w n).end → IsFinished (stream_run ruled number w m).end
+      → stream_run ruled number w n ≡ stream_run ruled number w m
+  stream_stays number w n m finished ended =
+      let one = come_there number w n finished in
+      let other = come_there number w m ended in
+      sym (one.1 (one.0 + other.0) (omega arith)) ∙ other.1 (one.0 + other.0) (omega arith)
+
+  module _ (number : ℕ) (w after : World) (fuel left : Option ℕ) (before taken : Option (List ℕ)) (n : ℕ) (finished : IsFinished (stream_run ruled number w n).end) where
+    come : ComeTo (stream_run ruled number w) (stream_run ruled number w n)
+    come = come_there number w n finished
 
     -- a call that ran it answers as it ends, with its text, what it leaves of the fuel, and its world
-    pub streams_render : (result : Result (Option Val) Stop) → ComesGiving kind (stream_run kind ruled code number w) fuel before result after left taken
-        → RendersTo fuel (stream_run kind ruled code number w n) result after left before taken
-    streams_render (Ok value) h = ends_meant (stream_run kind ruled code number w) (stream_run kind ruled code number w n) after fuel left before taken come h.ends
-    streams_render (Err stop) h =
-        stops_so (Option Val) (stream_run kind ruled code number w n) after fuel left before taken stop finished
-        (breaks_meant (stream_run kind ruled code number w) (stream_run kind ruled code number w n) stop after fuel left before taken come h)
+    pub streams_render : (alone : ℕ → Run World) (result : Result (Option Val) Stop) → ComesGiving alone (stream_run ruled number w) fuel before result after left taken
+        → RendersTo fuel (stream_run ruled number w n) result after left before taken
+    streams_render alone (Ok value) h = ends_meant (stream_run ruled number w) (stream_run ruled number w n) after fuel left before taken come h.0
+    streams_render alone (Err stop) h =
+        stops_so (Option Val) (stream_run ruled number w n) after fuel left before taken stop finished
+        (breaks_meant (stream_run ruled number w) (stream_run ruled number w n) stop after fuel left before taken come h)
 
-    -- and gives the value that it leaves
-    pub streams_give : (value : Option Val) → EndsGiving kind (stream_run kind ruled code number w) value after fuel left before taken
-        → GivesEnd kind value (stream_run kind ruled code number w n).end
-    streams_give value h =
-        let m = come.0 + h.ends.least in
-        let is : (stream_run kind ruled code number w n).end ≡ ends h.ends.operands =
-        ap (λ (r : Run World). r.end) (sym (come.1 m (omega arith)) ∙ h.ends.is m (omega arith)) in
-        subst (GivesEnd kind value) (sym is) h.gives
+  -- and gives the value that its own code leaves
+  pub streams_give : (code : List Code) (w : World) (vs : List Val) (n : ℕ) → IsFinished (own_run ruled code w n).end → LeavesAtEnd (own_run ruled code w) vs
+      → (own_run ruled code w n).end ≡ ends vs
+  streams_give code w vs n finished left =
+      let same = finished_alike ruled ruled follows_itself n (exec code n 0 []) w finished in
+      let m = same.0 + left.0 + n in
+      ap (λ (r : Run World). r.end) (sym (same.1 m (omega arith) (exec code m 0 []) (exec_more code n m (omega arith) 0 [])))
+      ∙ left.1 m (omega arith)

@@ -1,14 +1,14 @@
-use Rattle.std.proofs.Common.{List, sym, ap, subst, ◌∙◌}
+use Rattle.std.proofs.Common.{List, Some, sym, ap, subst, ◌∙◌}
 use Rattle.template_code.specs.Code.{Code}
 use Rattle.template_code.specs.Listing.{code_in}
-use Rattle.template_code_checked.specs.Checked.{kind_in, stream_in}
+use Rattle.template_code_checked.specs.Checked.{stream_in}
 use Rattle.template_machine_meaning.specs.Plans.{Caller, put_back}
 use Rattle.template_machine_meaning.specs.Keeps.{KeepsWorld}
 use Rattle.template_machine_meaning.specs.World.{World}
 use Rattle.template_machine_meaning.proofs.RunsKept.{world_stays}
 use Rattle.template_machine_loop.specs.Programs.{programs_under, roots_of}
 use Rattle.template_machine_loop.proofs.Itself.{put_back_itself}
-use Rattle.template_machine_renders.specs.Handed.{ComesGiving, begun_run, handing}
+use Rattle.template_machine_renders.specs.Handed.{ComesGiving, begun_run, handing, own_run}
 use Rattle.template_machine_renders.proofs.Handed.{stream_comes, stream_frames, stream_keeps, stream_lacks, stream_refused}
 use Rattle.template_machine_renders.proofs.streams.run_stream.Goals as goal
 
@@ -17,7 +17,7 @@ pub returns-then-not-has_room-clause-runs : goal.returns-then-not-has_room-claus
 returns-then-not-has_room-clause-runs g c =
     let code = code_in (stream_in c.args.stream.now) in
     let s = programs_under (g.T.Templates.standing c.args.program.templates.now) (g.T.Templates.joins c.args.program.templates.now) (g.T.Callbacks.callables c.args.program.templates.now) (handing c.args.number code (roots_of c.args.program)) c.args.program.rules in
-    stream_refused (kind_in c.args.stream.now) s code c.args.number c.args.state.now c.args.left.now (g.S.Sink.taken c.args.sink.now)
+    stream_refused s code c.args.number c.args.state.now c.args.left.now (g.S.Sink.taken c.args.sink.now)
     (sym c.has_room.ensures ∙ c.if-not-has_room.true) c.new.result c.new.ensures
 
 pub returns-then-not-has_room-clause-back : goal.returns-then-not-has_room-clause-back
@@ -31,7 +31,7 @@ pub returns-in_err-caller-clause-runs : goal.returns-in_err-caller-clause-runs
 returns-in_err-caller-clause-runs g c =
     let code = code_in (stream_in c.args.stream.now) in
     let s = programs_under (g.T.Templates.standing c.args.program.templates.now) (g.T.Templates.joins c.args.program.templates.now) (g.T.Callbacks.callables c.args.program.templates.now) (handing c.args.number code (roots_of c.args.program)) c.args.program.rules in
-    stream_lacks (kind_in c.args.stream.now) s code c.args.number c.args.state.now c.args.left.now (g.S.Sink.taken c.args.sink.now)
+    stream_lacks s code c.args.number c.args.state.now c.args.left.now (g.S.Sink.taken c.args.sink.now)
     _ c.from_residual.result c.enter_stream.new.self c.from_residual.ensures.1 c.in_err-caller.ensures.refused
 
 pub returns-in_err-caller-clause-back : goal.returns-in_err-caller-clause-back
@@ -49,14 +49,16 @@ pub returns-clause-runs : goal.returns-clause-runs
 returns-clause-runs g c =
     let code = code_in (stream_in c.args.stream.now) in
     let s = programs_under (g.T.Templates.standing c.args.program.templates.now) (g.T.Templates.joins c.args.program.templates.now) (g.T.Callbacks.callables c.args.program.templates.now) (handing c.args.number code (roots_of c.args.program)) c.args.program.rules in
-    stream_comes (kind_in c.args.stream.now) s code c.args.number c.args.state.now c.args.left.now (g.S.Sink.taken c.args.sink.now)
+    stream_comes s code c.args.number c.args.state.now c.args.left.now (g.S.Sink.taken c.args.sink.now)
     (sym c.has_room.ensures ∙ c.if-not-has_room.false) c.enter_stream.new.self c.in_ok-caller.ensures.within _ _ c.run_begun-ran.result c.run_begun-ran.new.state c.leave_block.new.self
     (c.leave_block.ensures ∙ ap (λ (k : Caller). put_back k c.run_begun-ran.new.state) c.in_ok-caller.ensures.kept)
     (subst
-    (λ (k : List Code). ComesGiving (kind_in c.args.stream.now)
-    (begun_run (kind_in c.args.stream.now) (programs_under (g.T.Templates.standing c.args.program.templates.now) (g.T.Templates.joins c.args.program.templates.now) (g.T.Callbacks.callables c.args.program.templates.now) (handing c.args.number k (roots_of c.args.program)) c.args.program.rules) code c.args.number c.enter_stream.new.self)
+    (λ (k : List Code). ComesGiving
+    (own_run (programs_under (g.T.Templates.standing c.args.program.templates.now) (g.T.Templates.joins c.args.program.templates.now) (g.T.Callbacks.callables c.args.program.templates.now) (handing c.args.number k (roots_of c.args.program)) c.args.program.rules) code c.enter_stream.new.self)
+    (begun_run (programs_under (g.T.Templates.standing c.args.program.templates.now) (g.T.Templates.joins c.args.program.templates.now) (g.T.Callbacks.callables c.args.program.templates.now) (handing c.args.number k (roots_of c.args.program)) c.args.program.rules) c.args.number c.enter_stream.new.self)
     c.args.left.now (g.S.Sink.taken c.args.sink.now) c.run_begun-ran.result c.run_begun-ran.new.state c.run_begun-ran.new.left (g.S.Sink.taken c.run_begun-ran.new.sink))
-    (ap code_in c.instructions.ensures.same) c.run_begun-ran.ensures.runs)
+    (ap code_in c.instructions.ensures.same)
+    (c.run_begun-ran.ensures.runs c.args.number (ap (λ (k : List Code). Some (c.args.number, k)) (ap code_in c.instructions.ensures.same))))
 
 pub returns-clause-keeps : goal.returns-clause-keeps
 returns-clause-keeps g c =
