@@ -1,2 +1,2 @@
 mod Blocks
-mod Good
+pub mod Good

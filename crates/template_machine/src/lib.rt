@@ -119,6 +119,7 @@ pub use template_environment::namespace;
 pub use template_environment::none_ask_names;
 pub use template_environment::plain_renders;
 pub use template_environment::undeclared_names_matter;
+pub use template_environment_streams::every_handed_stream_ends;
 pub use template_machine_blocks::BlockStack;
 pub use template_machine_frames::Closures;
 pub use template_machine_frames::Context;
