@@ -7,7 +7,7 @@ use std::alloc::Global;
 use template_callables::Extension;
 use template_environment::{State, Template, escape_formatter, namespace};
 use template_machine_operations::{dict, range};
-use template_machine_output::WriteWrapper;
+use template_machine_surroundings::WriteWrapper;
 use template_rows::unreadable;
 use template_values_core::Value;
 use template_values_errors::{Error, ErrorKind};
