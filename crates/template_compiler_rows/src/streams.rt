@@ -5,7 +5,7 @@ use crate::words::instruction;
 use serde_json::Value as Json;
 use std::alloc::Global;
 use template_code::{Instructions, get_referenced_names};
-use template_code_checked::verify;
+use template_code_shapes::verify;
 use template_values_errors::Error;
 
 /// What the steps are a stream of, or why they are refused, and how many of them come back.

@@ -1,7 +1,7 @@
 //! The run of a stream that was handed in.
 ghost use Rattle.std.specs.Prelude.{◌≡◌, ◌≤◌, length, Some};
 ghost use Rattle.template_code.specs.Listing.{code_in};
-ghost use Rattle.template_code_checked.specs.Checked.{kind_in, stream_in};
+ghost use Rattle.template_code_shapes.specs.Checked.{kind_in, stream_in};
 ghost use Rattle.template_machine_going.specs.Told.{CountsFailures};
 ghost use Rattle.template_machine_meaning.specs.Keeps.{KeepsWorld};
 ghost use Rattle.template_machine_loop.specs.Plans.{PutsBack};
@@ -10,8 +10,7 @@ ghost use Rattle.template_machine_renders.specs.Handed.{ComesGiving, begun_run, 
 
 use crate::running::run_expression;
 use std::alloc::Global;
-use template_code_checked::Checked;
-use template_code_shapes::StreamKind;
+use template_code_shapes::{Checked, StreamKind};
 use template_machine_going::Stop;
 use template_machine_loop::{Kept, Program, Templates, run_whole};
 use template_machine_surroundings::Sink;

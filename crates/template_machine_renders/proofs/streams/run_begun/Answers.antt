@@ -1,7 +1,7 @@
 use Rattle.std.proofs.Common.{List, None, Some, Ok, Err, refl, sym, ap, subst, ◌∙◌}
 use Rattle.template_code.specs.Code.{Code}
 use Rattle.template_code.specs.Listing.{code_in}
-use Rattle.template_code_checked.specs.Checked.{kind_in, stream_in}
+use Rattle.template_code_shapes.specs.Checked.{kind_in, stream_in}
 use Rattle.template_code_shapes.specs.Streams.{IsGood}
 use Rattle.template_code_shapes.specs.declared.StreamKind.{StreamKind}
 use Rattle.template_machine_meaning.specs.Keys as keys
