@@ -3,7 +3,7 @@ use crate::report::Report;
 use crate::words::instruction;
 use serde_json::Value as Json;
 use std::alloc::Global;
-use template_machine_fuel::FuelTracker;
+use template_machine_going::FuelTracker;
 
 /// Whether each of the instructions is let run, then what remains of the fuel and what was consumed; each with a `;` behind
 /// it.
