@@ -13,8 +13,8 @@ use std::alloc::Global;
 use template_code_shapes::{Checked, StreamKind};
 use template_machine_going::Stop;
 use template_machine_loop::{Kept, Program, Templates, run_whole};
-use template_machine_surroundings::Sink;
 use template_machine_state::State;
+use template_machine_surroundings::Sink;
 use template_values_core::Value;
 use template_values_errors::{Error, ErrorKind};
 
