@@ -201,9 +201,20 @@ pub fn push_quoted(
     ensures { Writes markup (string_bytes out.old) (Ok (codes "\"" ++ (flat_map (escaped_byte quoting) text.now ++ codes "\"")))
         result (string_bytes out.new) }
 {
-    push(out, markup, "\"")?;
+    push_quote(out, markup)?;
     push_escaped(out, markup, quoting, text)?;
-    push(out, markup, "\"")
+    push_quote(out, markup)
+}
+
+// It is pushed twice for each text: where no reference stands for it, as one byte.
+#[inline(always)]
+fn push_quote(out: &mut String, markup: Markup) -> Result<(), Error>
+    ensures { Writes markup (string_bytes out.old) (Ok (codes "\"")) result (string_bytes out.new) }
+{
+    match markup {
+        Markup::Plain => Ok(out.push('"')?),
+        Markup::Html => push_html(out, "\""),
+    }
 }
 
 fn replacement(byte: &u8) -> &str
