@@ -54,7 +54,7 @@ pub enum Content<'a> {
 
 impl Value {
     /// The kind and the content of this value, borrowed from it.
-    #[inline]
+    #[inline(always)]
     pub fn content(&self) -> Content<'_>
         ensures { self.now ≡ value_of result }
     {
