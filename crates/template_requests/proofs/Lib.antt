@@ -1,0 +1,7 @@
+mod Floatless
+mod Lacking
+mod NoWord
+mod Numbered
+mod Numbers
+mod Telling
+mod Texts
