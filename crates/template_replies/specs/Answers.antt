@@ -1,0 +1,12 @@
+-- The answer to a request, which writes into an empty text, in the first state ids.
+use Rattle.std.specs.Prelude.{ℕ, List, [], Some}
+use Rattle.template_program_parts.specs.declared.outcome.Outcome.{Outcome}
+use Rattle.template_program_run.specs.Answers.{AnswersWith}
+use Rattle.template_program_run.specs.Given.{Given}
+use Rattle.template_program_run.specs.Served.{Served}
+use Rattle.template_program_run.specs.declared.request.Request.{Request}
+
+-- The request is answered with the outcome, and writes the text. A text tells no failures.
+pub record IsAnswer (served : Served) (request : Request) (additions : List (List ℕ × List ℕ)) (given : Given)
+    (outcome : Outcome) (text : List ℕ) : Type 0 where
+  pub answers : AnswersWith served request additions given 0 outcome (Some []) (Some text) 0 0
