@@ -1,0 +1,4 @@
+mod Escapes
+mod Handles
+mod Matching
+mod Sessions

@@ -1,0 +1,4 @@
+pub mod Escapes
+pub mod Sessions
+pub mod Openings
+pub mod Handles

@@ -1,0 +1,34 @@
+//! What is brought to the environments of sessions, by its types.
+use template_builtins::{Builtin, PythonMethods};
+use template_callables::{Extension, NoFormatter, NoJoin};
+use template_machine_surroundings::AutoEscapeRule;
+use template_values_errors::AutoEscape;
+
+/// The builtins, and a rule of escapes.
+pub struct Served;
+
+impl Extension for Served {
+    type Callable = Builtin;
+
+    type Method = PythonMethods;
+
+    type Formatter = NoFormatter;
+
+    type Join = NoJoin;
+
+    type Rule = OneEscape;
+}
+
+/// The rule that gives each template one escape, whatever its name.
+#[derive(Drop)]
+pub struct OneEscape {
+    pub(crate) escape: AutoEscape,
+}
+
+impl AutoEscapeRule for OneEscape {
+    ghost answer = { λ rule name. rule.escape };
+
+    fn rule(&self, _name: &str) -> AutoEscape {
+        self.escape
+    }
+}

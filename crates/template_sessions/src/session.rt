@@ -1,0 +1,137 @@
+//! A session: an environment that stays, with the state ids of its renders.
+ghost use Rattle.std.specs.Prelude.{◌≡◌, Ok, Err, Some, IfErr, IfOk, None, option_map, unwrap_or};
+ghost use Rattle.template_compiler_syntax.specs.Syntax.{default_syntax};
+ghost use Rattle.template_environment_settings.specs.Compiled.{standing_of};
+ghost use Rattle.template_environment_settings.specs.Reading.{brought_of, registry_of};
+ghost use Rattle.template_environment_settings.specs.Views.{compiled_in, environment_of as place_of, name_of, source_of};
+ghost use Rattle.template_machine_surroundings.specs.Rule.{IsEscapeOf};
+ghost use Rattle.template_program_parts.specs.Context.{text_pairs};
+ghost use Rattle.template_program_run.specs.Additions.{IsRefusedAddition};
+ghost use Rattle.template_program_run.specs.Answers.{Rendered};
+ghost use Rattle.template_program_run.specs.Brought.{program_answers};
+ghost use Rattle.template_program_run.specs.Given.{given_in};
+ghost use Rattle.template_program_run.specs.Ids.{behind_one};
+ghost use Rattle.template_replies.specs.Replies.{served_by};
+ghost use Rattle.template_requests.specs.Syntaxes.{syntax_of as syntax_for};
+ghost use Rattle.template_sessions.specs.Sessions.{IsKept, IsOpened, RendersIn};
+
+use crate::additions::environment_of;
+use crate::extension::Served;
+use std::alloc::Global;
+use template_compiler_syntax::SyntaxConfig;
+use template_environment_settings::{Environment, Template, every_render_ends};
+use template_machine_output::Sink;
+use template_machine_surroundings::StateIds;
+use template_program_contexts::context_with;
+use template_program_parts::{Command, Outcome};
+use template_program_run::ContextParts;
+use template_replies::{options_of, request_of};
+use template_requests::Opening;
+use template_values_contexts::Floats;
+use template_values_core::Value;
+use template_values_errors::Error;
+
+/// Templates that are compiled once, to be rendered often.
+pub struct Session {
+    pub(crate) environment: Environment<'static, Served>,
+    pub(crate) ids: StateIds,
+    pub(crate) floats: Floats,
+}
+
+impl Drop for Session {
+    fn drop(self) {
+        let Session {
+            environment: _,
+            ids: _,
+            floats: _,
+        } = self;
+    }
+}
+
+impl Session {
+    /// A session with the templates, read under the syntax that the settings set. Linear in the sources, besides what the
+    /// operators of constant trees cost.
+    ///
+    /// # Errors
+    ///
+    /// That of the first template that is refused; `OutOfMemory`.
+    pub fn open(
+        alloc: Global,
+        opening: Opening<'_>,
+        syntax: Option<&SyntaxConfig>,
+    ) -> Result<Session, Error>
+        requires { unwrap_or (option_map (λ given. given.now) syntax) default_syntax ≡ syntax_for opening.settings.syntax }
+        ensures opened { IfOk result (IsOpened opening.entry) }
+        ensures refused { IfErr result (IsRefusedAddition (served_by opening.entry.settings)
+            (text_pairs opening.entry.templates.items) 0) }
+    {
+        let Opening {
+            templates,
+            settings,
+        } = opening;
+        let request = request_of(alloc, Command::Render, String::new(alloc), settings);
+        let options = options_of(settings, syntax);
+        let mut ids = StateIds::new(0);
+        let environment = environment_of(alloc, templates.as_slice(), &request, options, &mut ids)?;
+        Ok(Session {
+            environment,
+            ids,
+            floats: settings.floats,
+        })
+    }
+
+    /// Renders a template of the session over a context, and writes the text into a sink as it comes. Takes a state id.
+    ///
+    /// # Errors
+    ///
+    /// [`Outcome::Context`] where the context is refused, then [`Outcome::Template`] where no template of the name stands;
+    /// [`Outcome::Render`] where the render ends with a fault. Until the last nothing is written.
+    pub fn render<S: Sink>(
+        &mut self,
+        alloc: Global,
+        name: &str,
+        context: ContextParts<'_>,
+        sink: &mut S,
+    ) -> Outcome
+        ensures rendered { RendersIn self.old name.now (given_in context.entry) result
+            (S.taken sink.old) (S.taken sink.new) (S.failures sink.old) (S.failures sink.new) }
+        ensures kept { IsKept self.old self.new }
+    {
+        let context = match context_with(
+            alloc,
+            context.documents,
+            &[],
+            context.values,
+            context.floats,
+        ) {
+            Ok(context) => context,
+            Err(error) => return Outcome::Context(error),
+        };
+        let template = match self.environment.get_template(name) {
+            Ok(template) => template,
+            Err(error) => return Outcome::Template(error),
+        };
+        render_over(&template, context, &mut self.ids, sink)
+    }
+}
+
+// Renders a template over a context.
+fn render_over<S: Sink>(
+    template: &Template<'_, 'static, Served>,
+    context: Value,
+    ids: &mut StateIds,
+    sink: &mut S,
+) -> Outcome
+    ensures rendered { Rendered (brought_of program_answers (place_of template.now)) (registry_of (place_of template.now))
+        (standing_of (compiled_in template.now.compiled)) context ids.old result
+        (S.taken sink.old) (S.taken sink.new) (S.failures sink.old) (S.failures sink.new) }
+    ensures rule { IsEscapeOf (source_of template.now).escapes (name_of template.now) (compiled_in template.now.compiled).escape }
+    ensures counted { ids.new ≡ behind_one ids.old }
+{
+    let _escape = template.initial_auto_escape();
+    every_render_ends(template);
+    match template.render_captured_to(ids, context, sink) {
+        Ok(_captured) => Outcome::Done,
+        Err(error) => Outcome::Render(error),
+    }
+}
