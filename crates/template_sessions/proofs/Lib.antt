@@ -1,4 +1,3 @@
-mod Escapes
 mod Handles
 mod Matching
 mod Sessions

@@ -1,4 +1,3 @@
-pub mod Escapes
 pub mod Sessions
 pub mod Openings
 pub mod Handles

@@ -2,13 +2,11 @@
 #![tactic(auto)]
 
 mod additions;
-mod extension;
 mod handle;
 mod opening;
 mod rendering;
 mod session;
 
-pub use extension::Served;
 pub use handle::Handle;
 pub use opening::open;
 pub use rendering::reply_in;

@@ -16,24 +16,22 @@ ghost use Rattle.template_requests.specs.Syntaxes.{syntax_of as syntax_for};
 ghost use Rattle.template_sessions.specs.Sessions.{IsKept, IsOpened, RendersIn};
 
 use crate::additions::environment_of;
-use crate::extension::Served;
 use std::alloc::Global;
 use template_compiler_syntax::SyntaxConfig;
-use template_environment_settings::{Environment, Template, every_render_ends};
+use template_environment_settings::Environment;
 use template_machine_output::Sink;
 use template_machine_surroundings::StateIds;
 use template_program_contexts::context_with;
 use template_program_parts::{Command, Outcome};
-use template_program_run::ContextParts;
+use template_program_run::{ContextParts, Program, render};
 use template_replies::{options_of, request_of};
 use template_requests::Opening;
 use template_values_contexts::Floats;
-use template_values_core::Value;
 use template_values_errors::Error;
 
 /// Templates that are compiled once, to be rendered often.
 pub struct Session {
-    pub(crate) environment: Environment<'static, Served>,
+    pub(crate) environment: Environment<'static, Program>,
     pub(crate) ids: StateIds,
     pub(crate) floats: Floats,
 }
@@ -111,27 +109,6 @@ impl Session {
             Ok(template) => template,
             Err(error) => return Outcome::Template(error),
         };
-        render_over(&template, context, &mut self.ids, sink)
-    }
-}
-
-// Renders a template over a context.
-fn render_over<S: Sink>(
-    template: &Template<'_, 'static, Served>,
-    context: Value,
-    ids: &mut StateIds,
-    sink: &mut S,
-) -> Outcome
-    ensures rendered { Rendered (brought_of program_answers (place_of template.now)) (registry_of (place_of template.now))
-        (standing_of (compiled_in template.now.compiled)) context ids.old result
-        (S.taken sink.old) (S.taken sink.new) (S.failures sink.old) (S.failures sink.new) }
-    ensures rule { IsEscapeOf (source_of template.now).escapes (name_of template.now) (compiled_in template.now.compiled).escape }
-    ensures counted { ids.new ≡ behind_one ids.old }
-{
-    let _escape = template.initial_auto_escape();
-    every_render_ends(template);
-    match template.render_captured_to(ids, context, sink) {
-        Ok(_captured) => Outcome::Done,
-        Err(error) => Outcome::Render(error),
+        render(&template, context, &mut self.ids, sink)
     }
 }

@@ -8,13 +8,12 @@ use Rattle.template_environment_settings.specs.Extras.{Extras, brought_by}
 use Rattle.template_environment_settings.specs.Reading.{registry_of, rule_for}
 use Rattle.template_environment_settings.specs.Standing.{Settings, source_at}
 use Rattle.template_program_run.specs.Brought.{program_answers}
-use Rattle.template_program_run.specs.Environments.{IsSetFor}
-use Rattle.template_sessions.specs.Escapes.{callback_under}
+use Rattle.template_program_run.specs.Environments.{IsSetFor, callback_under}
 use Rattle.template_program_run.specs.History.{source_under}
 use Rattle.template_program_run.specs.Served.{served_under, syntax_under}
-use Rattle.template_sessions.specs.declared.extension.OneEscape.{OneEscape}
+use Rattle.template_program_run.specs.declared.extension.OneEscape.{OneEscape}
 use Rattle.template_program_run.specs.declared.options.Options.{Options}
-use Rattle.template_sessions.proofs.Escapes.{rule_read}
+use Rattle.template_program_run.proofs.Bringing.{rule_read}
 use Rattle.template_program_run.proofs.Histories.{accepted-next, refuses-at, source-next}
 use Rattle.template_sessions.proofs.additions.environment_of.Goals as goal
 

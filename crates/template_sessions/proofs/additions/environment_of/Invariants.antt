@@ -4,8 +4,7 @@ use Rattle.template_environment_settings.specs.Standing.{settings_of, source_at}
 use Rattle.template_program_parts.specs.Context.{text_pairs}
 use Rattle.template_program_run.specs.Additions.{AllAreAccepted}
 use Rattle.template_program_run.specs.Brought.{brought_if, program_answers}
-use Rattle.template_program_run.specs.Environments.{IsSetFor}
-use Rattle.template_sessions.specs.Escapes.{callback_under}
+use Rattle.template_program_run.specs.Environments.{IsSetFor, callback_under}
 use Rattle.template_program_run.specs.History.{source_standing}
 use Rattle.template_program_run.specs.Served.{served_under, syntax_under}
 use Rattle.template_sessions.proofs.additions.environment_of.Given as goal

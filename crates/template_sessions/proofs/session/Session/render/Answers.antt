@@ -24,9 +24,9 @@ returns-clause-rendered g c =
     let t = c.in-Ok-get_template in
     let s = c.args.self.now in
     let rendered = subst (λ place. Rendered (brought_of program_answers place) (registry_of place) (standing_of (compiled_in t.template.compiled))
-    c.in-Ok.context s.ids c.render_over.result (g.S.Sink.taken c.args.sink.now) (g.S.Sink.taken c.render_over.new.sink)
-    (g.S.Sink.failures c.args.sink.now) (g.S.Sink.failures c.render_over.new.sink)) t.ensures.here c.render_over.ensures.rendered in
-    renders_found s c.args.name.now (given_in c.args.context) c.in-Ok.context c.render_over.result _ _ _ _
+    c.in-Ok.context s.ids c.render.result (g.S.Sink.taken c.args.sink.now) (g.S.Sink.taken c.render.new.sink)
+    (g.S.Sink.failures c.args.sink.now) (g.S.Sink.failures c.render.new.sink)) t.ensures.here c.render.ensures.rendered in
+    renders_found s c.args.name.now (given_in c.args.context) c.in-Ok.context c.render.result _ _ _ _
     (c.in-Ok.ensures.faultless, c.in-Ok.ensures.context) (compiled_in t.template.compiled) t.ensures.named t.ensures.found
-    (subst (λ name. IsEscapeOf (source_of t.template).escapes name (compiled_in t.template.compiled).escape) t.ensures.named c.render_over.ensures.rule)
+    (subst (λ name. IsEscapeOf (source_of t.template).escapes name (compiled_in t.template.compiled).escape) t.ensures.named c.render.ensures.rule)
     rendered
