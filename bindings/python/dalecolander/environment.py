@@ -2,7 +2,7 @@
 import threading
 from typing import Any, Dict, List, Mapping, Optional
 
-from .library import Session, names_of
+from .library import Session, names_of, text_of
 from .values import json_of
 
 # The name of a template that is made of a text.
@@ -60,13 +60,13 @@ class Environment:
 
     def context_names(self, name: str) -> List[str]:
         """The names of a context that can matter to the template. It compiles the templates anew."""
-        return names_of(json_of({**self.settings, "templates": self.templates, "main": name}).encode())
+        return names_of(json_of({**self.settings, "templates": self.templates, "main": name}))
 
     def _session(self) -> Session:
         """The session of this thread."""
         session = getattr(self._sessions, "session", None)
         if session is None:
-            session = self._sessions.session = Session(json_of({**self.settings, "templates": self.templates}).encode())
+            session = self._sessions.session = Session(json_of({**self.settings, "templates": self.templates}))
         return session
 
 
@@ -76,7 +76,7 @@ class Template:
     def __init__(self, environment: Environment, name: str) -> None:
         self.environment = environment
         self.name = name
-        self._name = name.encode()
+        self._name = text_of(name.encode())
 
     def render(self, *context: Mapping[str, Any], **names: Any) -> str:
         """The text of the template over a context: mappings, of which later ones count, and names over these.
@@ -84,12 +84,12 @@ class Template:
         Raises a `TemplateError`: of the class of its outermost kind, with its places.
         """
         if len(context) == 1 and not names:
-            return self.render_json(json_of(context[0]).encode())
+            return self.render_json(json_of(context[0]))
         said: Dict[str, Any] = {}
         for mapping in context:
             said.update(mapping)
         said.update(names)
-        return self.render_json(json_of(said).encode())
+        return self.render_json(json_of(said))
 
     def render_json(self, context: bytes) -> str:
         """The same over a context that is written as JSON already."""

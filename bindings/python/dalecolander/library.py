@@ -3,7 +3,8 @@ import ctypes
 import json
 import os
 import threading
-from typing import Dict, List, Optional
+from threading import get_ident
+from typing import Dict, List, Optional, Tuple
 
 from .errors import error_of
 
@@ -36,58 +37,63 @@ def _load() -> ctypes.CDLL:
 
 
 _library = _load()
-_BYTES = (ctypes.c_char_p, ctypes.c_size_t)
-_PLACE = (ctypes.c_void_p, ctypes.c_size_t, ctypes.c_void_p)
 
 
-def _declared(name: str, *arguments, result=ctypes.c_uint8):
+def _declared(name: str, result=ctypes.c_uint8):
+    """A call of the library. Its arguments are handed over as they are, which takes half the time of having each converted: so they
+    are objects of `ctypes`, or `bytes`."""
     call = getattr(_library, name)
-    call.argtypes = list(arguments)
     call.restype = result
     return call
 
 
-_names = _declared("dalecolander_names", *_BYTES, *_PLACE)
-_open = _declared("dalecolander_open", *_BYTES, ctypes.c_void_p, *_PLACE)
-_render_in = _declared("dalecolander_render_in", ctypes.c_void_p, *_BYTES, *_BYTES, *_PLACE)
-_close = _declared("dalecolander_close", ctypes.c_void_p, result=None)
+_names = _declared("dalecolander_names")
+_open = _declared("dalecolander_open")
+_render_in = _declared("dalecolander_render_in")
+_close = _declared("dalecolander_close", result=None)
 
 
 class _Place:
-    """A place for replies. It is made longer where one does not fit, and the call is then made again."""
+    """A place for a reply, with its length. It is made anew where a reply does not fit, and the call is then made again."""
 
-    def __init__(self) -> None:
-        self.written = ctypes.c_size_t()
-        self.at_written = ctypes.addressof(self.written)
-        self._set(ROOM)
-
-    def _set(self, room: int) -> None:
+    def __init__(self, room: int = ROOM) -> None:
         self.room = room
-        self.buffer = ctypes.create_string_buffer(room)
-        self.at = ctypes.addressof(self.buffer)
-        self.view = memoryview(self.buffer)
-
-    def reply(self, call, *arguments) -> str:
-        status = call(*arguments, self.at, self.room, self.at_written)
-        written = self.written.value
-        if written > self.room:
-            self._set(2 * written)
-            status = call(*arguments, self.at, self.room, self.at_written)
-            written = self.written.value
-        text = str(self.view[:written], "utf-8")
-        if status:
-            raise error_of(status, json.loads(text) if text else {})
-        return text
+        self.buffer = bytearray(room)
+        self.written = ctypes.c_size_t()
+        at = ctypes.byref((ctypes.c_char * room).from_buffer(self.buffer))
+        self.arguments = (at, ctypes.c_size_t(room), ctypes.byref(self.written))
 
 
 class _Thread(threading.local):
-    """What belongs to one thread."""
+    """What belongs to one thread: places that no call is using, so that a call from a signal handler takes another one."""
 
     def __init__(self) -> None:
-        self.place = _Place()
+        self.places: List[_Place] = []
 
 
 _here = _Thread()
+
+
+def text_of(text: bytes) -> Tuple[bytes, ctypes.c_size_t]:
+    """A text as two arguments of a call."""
+    return bytes(text), ctypes.c_size_t(len(text))
+
+
+def _reply(places: List[_Place], call, *arguments) -> str:
+    """The reply of a call, or the error that it tells."""
+    place = places.pop() if places else _Place()
+    status = call(*arguments, *place.arguments)
+    written = place.written.value
+    if written > place.room:
+        place = _Place(2 * written)
+        status = call(*arguments, *place.arguments)
+        written = place.written.value
+    text = place.buffer[:written].decode()
+    places.append(place)
+    if status:
+        raise error_of(status, json.loads(text) if text else {})
+    return text
+
 
 # Sessions that were given up elsewhere, for the thread that opened them.
 _left: Dict[int, List[ctypes.c_void_p]] = {}
@@ -98,25 +104,25 @@ class Session:
 
     def __init__(self, request: bytes) -> None:
         self._handle: Optional[ctypes.c_void_p] = None
-        self._thread = threading.get_ident()
-        for handle in _left.pop(self._thread, ()):
-            _close(ctypes.addressof(handle))
+        self._thread = get_ident()
+        for left in _left.pop(self._thread, ()):
+            _close(ctypes.byref(left))
         handle = ctypes.c_void_p()
-        self._place = _here.place
-        self._at = ctypes.addressof(handle)
-        self._place.reply(_open, request, len(request), self._at)
+        self._at = ctypes.byref(handle)
+        self._places = _here.places
+        _reply(self._places, _open, *text_of(request), self._at)
         self._handle = handle
 
-    def render(self, name: bytes, context: bytes) -> str:
-        """The text of the template of a name over a context, which is JSON."""
-        if threading.get_ident() != self._thread:
+    def render(self, name: Tuple[bytes, ctypes.c_size_t], context: bytes) -> str:
+        """The text of the template of a name, by its arguments, over a context, which is JSON."""
+        if get_ident() != self._thread:
             raise RuntimeError("a session stays on the thread that opened it")
-        return self._place.reply(_render_in, self._at, name, len(name), context, len(context))
+        return _reply(self._places, _render_in, self._at, *name, bytes(context), ctypes.c_size_t(len(context)))
 
     def __del__(self) -> None:
         if self._handle is None:
             return
-        if threading.get_ident() == self._thread:
+        if get_ident() == self._thread:
             _close(self._at)
         else:
             _left.setdefault(self._thread, []).append(self._handle)
@@ -124,4 +130,4 @@ class Session:
 
 def names_of(request: bytes) -> List[str]:
     """The names of a context that can matter to the main template of a request."""
-    return json.loads(_here.place.reply(_names, request, len(request)))
+    return json.loads(_reply(_here.places, _names, *text_of(request)))

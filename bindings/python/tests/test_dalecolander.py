@@ -3,6 +3,7 @@ import threading
 import unittest
 
 from dalecolander import ContextRefused, Environment, Place, RenderFailed, RequestRefused, TemplateError, TemplateRefused
+from dalecolander.library import text_of
 
 
 class Renders(unittest.TestCase):
@@ -114,7 +115,7 @@ class Sessions(unittest.TestCase):
 
         def render():
             try:
-                session.render(b"t", b"")
+                session.render(text_of(b"t"), b"")
             except RuntimeError as error:
                 raised.append(str(error))
 

@@ -3,6 +3,7 @@ use Rattle.std.proofs.Common.{◌≡◌, ℕ, List, Option, None, Some, length, 
 use Rattle.template_sessions.specs.Openings.{Opens, RefusesRequest}
 use Rattle.template_sessions.specs.Sessions.{IsKept, RepliesIn}
 use Rattle.template_sessions.specs.declared.session.Session.{Session}
+use Rattle.template_sessions.proofs.Refusals.{request_failed}
 use Rattle.template_c.specs.Exports.{OpensAt, RendersAt, laid}
 
 -- a session is opened
@@ -17,7 +18,8 @@ pub refused_at : (request before after reply : List ℕ) (written status told : 
     → OpensAt request held before after written told
 refused_at request before after reply written status told held is refuses same over long =
     subst (λ (h : Option Session). OpensAt request h before after written told) (sym is)
-    (reply, subst (λ (s : ℕ). RefusesRequest request s reply) (sym same) refuses, over, long)
+    (let told-so = subst (λ (s : ℕ). RefusesRequest request s reply) (sym same) refuses in
+    (reply, told-so, request_failed request told reply told-so, over, long))
 
 -- a reply in a session is laid
 pub rendered_at : (name context before after reply : List ℕ) (written status told : ℕ) (held holds : Option Session) (session still : Session)

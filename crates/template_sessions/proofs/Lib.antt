@@ -1,3 +1,4 @@
 mod Handles
 mod Matching
+pub mod Refusals
 mod Sessions

@@ -9,3 +9,4 @@ pub returns : goal.returns
 returns c =
     answer_so (served_under c.args.options) c.args.request.now (text_pairs c.args.templates.now) (given_in c.args.given) c.run_with-outcome.result
     (string_bytes c.run_with-outcome.new.sink) _ c.new.ensures _ c.new-text.ensures.bytes c.run_with-outcome.ensures.answers
+    c.run_with-outcome.ensures.plain

@@ -11,7 +11,7 @@ returns-clause-opened c =
     let request = c.request_of-request in
     opened_so c.args.opening (record { environment = e.environment; ids = c.environment_of.new.ids; floats = c.args.opening.settings.floats })
     (served_under c.options_of-options.result) c.options_of-options.ensures (text_pairs c.as_slice.result.now) (ap text_pairs c.as_slice.ensures.value)
-    c.new-ids.result c.new-ids.ensures e.ensures.accepted request.result request.ensures.asked e.ensures.made e.ensures.brought refl
+    c.new-ids.result c.new-ids.ensures e.ensures.accepted request.result request.ensures.asked e.ensures.made e.ensures.brought refl e.ensures.counted
 
 pub returns-in_err-environment-clause-refused : goal.returns-in_err-environment-clause-refused
 returns-in_err-environment-clause-refused c =

@@ -29,4 +29,4 @@ returns-clause-rendered g c =
     renders_found s c.args.name.now (given_in c.args.context) c.in-Ok.context c.render.result _ _ _ _
     (c.in-Ok.ensures.faultless, c.in-Ok.ensures.context) (compiled_in t.template.compiled) t.ensures.named t.ensures.found
     (subst (λ name. IsEscapeOf (source_of t.template).escapes name (compiled_in t.template.compiled).escape) t.ensures.named c.render.ensures.rule)
-    rendered
+    rendered c.render.ensures.plain
