@@ -1,6 +1,5 @@
 //! The opening of a session.
 ghost use Rattle.std.specs.Prelude.{◌≡◌, IfErr, IfOk, option_map, string_bytes, unwrap_or};
-ghost use Rattle.json.specs.Tree.{HasNumbers};
 ghost use Rattle.json.specs.Value.{value_view};
 ghost use Rattle.template_compiler_syntax.specs.Syntax.{default_syntax};
 ghost use Rattle.template_requests.specs.Syntaxes.{syntax_of as syntax_for};

@@ -1,5 +1,5 @@
 //! The renders of a session.
-ghost use Rattle.std.specs.Prelude.{◌≡◌, Some, None, option_to_list, string_bytes};
+ghost use Rattle.std.specs.Prelude.{option_to_list, string_bytes};
 ghost use Rattle.template_program_run.specs.Given.{given_in};
 ghost use Rattle.template_sessions.specs.Sessions.{AreBytes, IsKept, RepliesIn, RepliesNamed, RendersInto};
 

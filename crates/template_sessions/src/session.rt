@@ -1,16 +1,9 @@
 //! A session: an environment that stays, with the state ids of its renders.
-ghost use Rattle.std.specs.Prelude.{◌≡◌, Ok, Err, Some, IfErr, IfOk, None, option_map, unwrap_or};
+ghost use Rattle.std.specs.Prelude.{◌≡◌, IfErr, IfOk, option_map, unwrap_or};
 ghost use Rattle.template_compiler_syntax.specs.Syntax.{default_syntax};
-ghost use Rattle.template_environment_settings.specs.Compiled.{standing_of};
-ghost use Rattle.template_environment_settings.specs.Reading.{brought_of, registry_of};
-ghost use Rattle.template_environment_settings.specs.Views.{compiled_in, environment_of as place_of, name_of, source_of};
-ghost use Rattle.template_machine_surroundings.specs.Rule.{IsEscapeOf};
 ghost use Rattle.template_program_parts.specs.Context.{text_pairs};
 ghost use Rattle.template_program_run.specs.Additions.{IsRefusedAddition};
-ghost use Rattle.template_program_run.specs.Answers.{Rendered};
-ghost use Rattle.template_program_run.specs.Brought.{program_answers};
 ghost use Rattle.template_program_run.specs.Given.{given_in};
-ghost use Rattle.template_program_run.specs.Ids.{behind_one};
 ghost use Rattle.template_replies.specs.Replies.{served_by};
 ghost use Rattle.template_requests.specs.Syntaxes.{syntax_of as syntax_for};
 ghost use Rattle.template_sessions.specs.Sessions.{IsKept, IsOpened, RendersIn};
