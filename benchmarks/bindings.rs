@@ -1,6 +1,6 @@
 // Renders in one process by the library and by Tera: bindings-beside FILE.., each one workload as JSON, with `text` and `context`. Tells
 // for each the microseconds of a render by a session, with the reading of the context, of the same by a `Value` of this package, and of
-// one by Tera over a context that is parsed and made anew, and over one that stands: the best of five, by the processor's time.
+// one by Tera over a context that is parsed and made anew, and over one that stands, by the processor's time.
 use dalecolander::Environment;
 use std::hint::black_box;
 use tera::{Context, Tera};
@@ -22,18 +22,23 @@ fn taken() -> f64 {
     time.seconds as f64 + time.nanoseconds as f64 / 1e9
 }
 
-// The best of five, in microseconds a call.
+// The least of short samples, in microseconds a call, since other work on the machine lengthens most of them.
 fn best(mut call: impl FnMut()) -> f64 {
     let mut times = |count: u64| {
         let start = taken();
         (0..count).for_each(|_| call());
         taken() - start
     };
-    let mut count = 1;
-    while times(count) < 0.05 {
-        count *= 2;
+    let count = (1e-3 / times(1).max(1e-7)).max(1.0) as u64;
+    let end = taken() + 2.0;
+    let mut least = f64::INFINITY;
+    for sample in 0..500 {
+        if sample >= 5 && taken() > end {
+            break;
+        }
+        least = least.min(times(count));
     }
-    (0..5).map(|_| times(count)).fold(f64::INFINITY, f64::min) / count as f64 * 1e6
+    least / count as f64 * 1e6
 }
 
 fn main() {
