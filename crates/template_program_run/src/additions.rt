@@ -50,8 +50,13 @@ pub(crate) fn environment_of<'source>(
     Ok(environment)
 }
 
-// An environment without templates, set to what the request asks for, with what the options bring and say.
-fn set_up<'source>(
+/// An environment without templates, set to what the request asks for, with what the options bring and say: who adds templates to
+/// it has them read as those of the request would be. Takes a state id.
+///
+/// # Errors
+///
+/// `InvalidOperation` where no state id is left, and `OutOfMemory`.
+pub fn set_up<'source>(
     alloc: Global,
     request: &Request,
     options: Options<'_>,

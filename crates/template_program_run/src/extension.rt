@@ -5,7 +5,7 @@ use template_machine_surroundings::AutoEscapeRule;
 use template_values_errors::AutoEscape;
 
 /// The builtins, and a rule of escapes.
-pub(crate) struct Program;
+pub struct Program;
 
 impl Extension for Program {
     type Callable = Builtin;
@@ -21,7 +21,7 @@ impl Extension for Program {
 
 /// The rule that gives each template one escape, whatever its name.
 #[derive(Drop)]
-pub(crate) struct OneEscape {
+pub struct OneEscape {
     pub(crate) escape: AutoEscape,
 }
 

@@ -27,10 +27,12 @@ mod syntax;
 mod telling;
 mod values;
 
+pub use additions::set_up;
 pub use evaluating::{Expression, evaluate_with};
+pub use extension::{OneEscape, Program};
 pub use options::Options;
 pub use parts::ContextParts;
 pub use request::Request;
-pub use running::{run, run_with};
+pub use running::{render, run, run_with};
 pub use starting::{refuse_arguments, start};
 pub use template_program_parts::{Command, Outcome, status_of};

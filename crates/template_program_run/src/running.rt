@@ -159,8 +159,14 @@ pub(crate) fn leave(context: &Value, leaves: bool) {
     }
 }
 
-// Renders the main template.
-fn render<S: Sink>(
+/// Renders a template that stands in an environment as those of requests are set up, over a context, and writes into a sink.
+/// Takes a state id.
+///
+/// # Errors
+///
+/// [`Outcome::Render`] where the render ends with a fault, no state id is left, or memory or the sink fails; with no id left
+/// nothing is written.
+pub fn render<S: Sink>(
     template: &Template<'_, '_, Program>,
     context: Value,
     ids: &mut StateIds,
