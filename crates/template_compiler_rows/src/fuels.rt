@@ -1,9 +1,9 @@
 //! What a fuel lets run of instructions that are listed one by one.
 use crate::report::Report;
-use crate::words::instruction;
 use serde_json::Value as Json;
 use std::alloc::Global;
 use template_machine_fuel::FuelTracker;
+use template_rows_streams::instruction;
 
 /// Whether each of the instructions is let run, then what remains of the fuel and what was consumed; each with a `;` behind
 /// it.

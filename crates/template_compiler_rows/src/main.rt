@@ -82,7 +82,6 @@ mod syntax;
 mod tokens;
 mod trees;
 mod unit_names;
-mod words;
 
 use crate::calls::answers_of_stream;
 use crate::checked::checked_expression;

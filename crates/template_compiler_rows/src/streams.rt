@@ -1,17 +1,22 @@
 //! Streams of instructions that are listed one by one, what the check of streams says of them, and which names they refer to.
-use crate::listed::added;
 use crate::report::Report;
-use crate::words::instruction;
 use serde_json::Value as Json;
 use std::alloc::Global;
 use template_code::Instructions;
 use template_code_checked::verify;
 use template_code_references::get_referenced_names;
-use template_values_errors::Error;
+use template_rows_streams::stream_of;
 
 /// What the steps are a stream of, or why they are refused, and how many of them come back.
 pub(crate) fn verified(alloc: Global, steps: &[Json], out: &mut Report) {
-    match &verify(alloc, stream_of(alloc, steps, out)) {
+    match stream_of(alloc, steps) {
+        Ok(code) => tell_verified(alloc, code, out),
+        Err(error) => out.refuse(error.kind()),
+    }
+}
+
+fn tell_verified(alloc: Global, code: Instructions<'_>, out: &mut Report) {
+    match &verify(alloc, code) {
         Ok(checked) => {
             out.tell("", &checked.kind());
             out.tell(" ", &checked.instructions().len())
@@ -25,26 +30,17 @@ pub(crate) fn verified(alloc: Global, steps: &[Json], out: &mut Report) {
 
 /// The names that the steps up to each place refer to, and up to one past the last.
 pub(crate) fn referenced(alloc: Global, steps: &[Json], out: &mut Report) {
-    let code = stream_of(alloc, steps, out);
+    match &stream_of(alloc, steps) {
+        Ok(code) => tell_referenced(alloc, code, out),
+        Err(error) => out.refuse(error.kind()),
+    }
+}
+
+fn tell_referenced(alloc: Global, code: &Instructions<'_>, out: &mut Report) {
     for index in 0..code.len() as u32 {
-        about_names(alloc, &code, index, out)
+        about_names(alloc, code, index, out)
     }
-    about_names(alloc, &code, u32::MAX, out)
-}
-
-fn stream_of(alloc: Global, steps: &[Json], out: &mut Report) -> Instructions<'static> {
-    let mut code = Instructions::new(alloc, "t.txt", "");
-    for step in steps {
-        out.done(add(alloc, &mut code, step))
-    }
-    code
-}
-
-fn add(alloc: Global, code: &mut Instructions<'static>, step: &Json) -> Result<(), Error> {
-    match instruction(alloc, step) {
-        Ok(instruction) => added(code.add(instruction)),
-        Err(error) => Err(error),
-    }
+    about_names(alloc, code, u32::MAX, out)
 }
 
 fn about_names(alloc: Global, code: &Instructions<'_>, index: u32, out: &mut Report) {

@@ -46,13 +46,13 @@ after_cut : (b : Bool) (r q : Run World) → q.after ≡ r.after → (if b then 
 after_cut true r q same = refl
 after_cut false r q same = same
 
-after_under : (fuel : Option ℕ) (r : Run World) → (under fuel r).after ≡ r.after
+pub after_under : (fuel : Option ℕ) (r : Run World) → (under fuel r).after ≡ r.after
 after_under None r = refl
 after_under (Some n) r =
     after_cut (nat_le (price_of r.items) (n - 1)) r (record r { items = items_before (n - 1) r.items; end = faults (wraps_at (n - 1) r.items ++ OutOfFuel ∷ []) }) refl
 
 -- a stop where no sink failed leaves the world of the run
-stop_ends_in : (X : Type 0) (fuel : Option ℕ) (r : Run World) (after : World) (taken written : Option (List ℕ)) (stop : Stop) → SparesSink stop
+pub stop_ends_in : (X : Type 0) (fuel : Option ℕ) (r : Run World) (after : World) (taken written : Option (List ℕ)) (stop : Stop) → SparesSink stop
     → runs.Renders {X = X} (Err stop) taken written (under fuel r) → runs.LeavesWorld fuel r stop after → EndsIn {X = X} fuel (Err (kinds_in stop)) r after
 stop_ends_in X fuel r after taken written (Fault kinds) spares stopped left_so = inr left_so
 stop_ends_in X fuel r after taken written (Want kinds) spares (inl want, text) left_so = inl want

@@ -53,7 +53,7 @@ by_test true c there rest later some = refl
 by_test false c there rest later some = later some
 
 -- what is found by its name is among them
-found_listed : (name : List ℕ) (cs : List Compiled) → IsSome (option_map standing_of (find (λ (c : Compiled). bytes_eq name c.name) cs))
+pub found_listed : (name : List ℕ) (cs : List Compiled) → IsSome (option_map standing_of (find (λ (c : Compiled). bytes_eq name c.name) cs))
     → is_among name (names_of cs) ≡ true
 found_listed name [] some = absurd (not_some some)
 found_listed name (c ∷ cs) some =

@@ -15,3 +15,4 @@ pub mod Evaluating
 pub mod Escaped
 pub mod Asking
 pub mod Brought
+pub mod Streaming

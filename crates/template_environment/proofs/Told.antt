@@ -51,7 +51,7 @@ use Rattle.template_compiled.specs.Compiled.{standing_of}
 use Rattle.template_environment.specs.Extras.{UserAnswers}
 use Rattle.template_environment.specs.Reading.{callables_of, registry_of, setting_in}
 use Rattle.template_environment.specs.Renderings.{IsNoMore, LeavesFuel}
-use Rattle.template_environment.specs.States.{DoesThere, GivesTold, IsMissing, KeepsRest, KeepsState, LeavesWorld, around_in, codes_in, environment_in, found_in, fuel_left_in, fuel_set_in, id_in, own_name_in, programs_in, template_in, worded_in, world_in}
+use Rattle.template_environment.specs.States.{DoesThere, GivesTold, IsMissing, KeepsRest, KeepsState, LeavesWorld, around_in, codes_in, environment_in, found_in, fuel_left_in, fuel_set_in, id_in, own_name_in, programs_in, streams_in, template_in, worded_in, world_in}
 use Rattle.template_environment.specs.declared.registry.Registry.{Registry}
 use Rattle.template_environment.specs.declared.state.State.{State}
 
@@ -426,7 +426,7 @@ module _ {E C M F J R : Type 0} (says : UserAnswers C M F J) (s : State E C M F 
 
 -- a call that went on from another world was in the same state
 pub rest_from : {E C M F J R : Type 0} (s t : State E C M F J R) (w : World) → KeepsState (record s { machine = w }) t → KeepsState s t
-rest_from s t w h = record { environment = h.environment; template = h.template; id = h.id; fuel = h.fuel }
+rest_from s t w h = record { environment = h.environment; template = h.template; id = h.id; fuel = h.fuel; streams = h.streams }
 
 -- a call that failed leaves what it came to, but for its world
 module _ {E C M F J R : Type 0} (s t u : State E C M F J R) (kept : KeepsRest t u) where
@@ -436,6 +436,7 @@ module _ {E C M F J R : Type 0} (s t u : State E C M F J R) (kept : KeepsRest t 
     template = ap template_in kept ∙ h.template;
     id = ap id_in kept ∙ h.id;
     fuel = ap fuel_set_in kept ∙ h.fuel;
+    streams = ap streams_in kept ∙ h.streams;
   }
 
   pub failed_left : {X : Type 0} (fuel : Option ℕ) (r : Reply World) (result : Result X (List ErrorKind))

@@ -1,5 +1,5 @@
 -- What stands in an environment, and what it means.
-use Rattle.std.specs.Prelude.{ℕ, false, List, [], Option, None, codes}
+use Rattle.std.specs.Prelude.{ℕ, false, List, [], map, Option, None, codes}
 use Rattle.std.specs.Option.{option_map}
 use Rattle.template_values_errors.specs.declared.modes.UndefinedBehavior.{UndefinedBehavior}
 use Rattle.template_values_errors.specs.declared.modes.UndefinedBehavior.TheVariants.{Lenient}
@@ -12,6 +12,7 @@ use Rattle.template_machine_renders.specs.Programs as units
 use Rattle.template_compiled.specs.Compiled.{Compiled, code_for, standing_of}
 use Rattle.template_compiled.specs.Sources.{Source, tree_in}
 pub use Rattle.template_compiled.specs.Standing.{compiled_at}
+use Rattle.template_compiled.specs.Standing.{all_in}
 use Rattle.template_compiled.specs.Streams.{streams_of}
 use Rattle.template_environment.specs.Extras.{Brought}
 use Rattle.template_environment.specs.declared.registry.Registry.{Registry}
@@ -19,6 +20,10 @@ use Rattle.template_environment.specs.declared.registry.Registry.{Registry}
 -- the source that stands under a name
 abbrev pub source_at : Registry → List ℕ → Option Source
 source_at e name = option_map (λ c. c.source) (compiled_at e.templates name)
+
+-- the names of all that stand, in order
+abbrev pub names_in : Registry → List (List ℕ)
+names_in e = map (λ (c : Compiled). c.name) (all_in e.templates)
 
 -- the value that stands under a name, under the frames of each run
 abbrev pub global_at : Registry → List ℕ → Option Val

@@ -9,9 +9,14 @@ use Rattle.template_values_model.specs.Val.{Val, undefined}
 use Rattle.template_callables.specs.Callables.{no_callables}
 use Rattle.template_callables.specs.Joins.{keeps_name}
 use Rattle.template_values_errors.specs.Memory.{NoMemory}
+use Rattle.template_process.specs.Approximants.{IsFinished}
+use Rattle.template_process.specs.Drive.{ends}
 use Rattle.template_process.specs.Fuel.{under}
 use Rattle.template_process.specs.Process.{Answer, tells, fails, value}
 use Rattle.template_process.specs.Trace.{Reply, Run}
+use Rattle.template_code.specs.Listing.{code_in}
+use Rattle.template_code_checked.specs.Checked as checked
+use Rattle.template_code_checked.specs.declared.checked.Checked.{Checked}
 use Rattle.template_machine_meaning.specs.Calls.{call_plan}
 use Rattle.template_machine_meaning.specs.Captures.{captured}
 use Rattle.template_machine_meaning.specs.Functions.{Invoked, found_called, invokes}
@@ -24,16 +29,19 @@ use Rattle.template_machine_meaning.specs.Replies.{told}
 use Rattle.template_machine_meaning.specs.Surroundings.{Programs, text_reply, written_reply}
 use Rattle.template_machine_meaning.specs.Turnings.{to_text}
 use Rattle.template_machine_meaning.specs.World.{Globals, World, first_world, keeps, looked_up}
+use Rattle.template_machine_state.specs.Changes.{stream_begun}
 use Rattle.template_machine_calls.specs.Formatted.{outside}
 use Rattle.template_machine_codes.specs.Codes.{codes_of}
+use Rattle.template_machine_renders.specs.Handed.{at_most_one, handing, own_run, stream_run}
 use Rattle.template_machine_renders.specs.Laws.{block_run}
 use Rattle.template_machine_renders.specs.Plans.{DoesPlan, replies_of, run_of}
+use Rattle.template_machine_renders.specs.Programs as units
 use Rattle.template_machine_renders.specs.Renders.{FaultsAs, IsOver, IsShort}
 use Rattle.template_compiled.specs.Compiled.{Compiled, standing_of}
-use Rattle.template_environment.specs.Extras.{UserAnswers}
-use Rattle.template_environment.specs.Reading.{setting_in}
+use Rattle.template_environment.specs.Extras.{UserAnswers, joins_by}
+use Rattle.template_environment.specs.Reading.{callables_of, extras_of, registry_of, setting_in}
 use Rattle.template_environment.specs.Renderings.{IsNoMore, left_of, set_of}
-use Rattle.template_environment.specs.Standing.{source_at}
+use Rattle.template_environment.specs.Standing.{source_at, unit_of, units_of}
 use Rattle.template_environment.specs.declared.environment.Environment.{Environment}
 use Rattle.template_environment.specs.declared.registry.Registry.{Registry}
 use Rattle.template_environment.specs.declared.state.State.{State}
@@ -92,16 +100,21 @@ module _ {E C M F J R : Type 0} where
   abbrev pub id_in : State E C M F J R → ℕ
   id_in s = s.id
 
+  -- how many streams were handed in
+  abbrev pub streams_in : State E C M F J R → ℕ
+  streams_in s = s.streams
+
   -- but for their worlds they are the same
   abbrev pub KeepsRest : State E C M F J R → State E C M F J R → Type 0
   KeepsRest old new = new ≡ record old { machine = world_in new }
 
-  -- they are states of one template, with one number, and the same fuel was set
+  -- they are states of one template, with one number; the same fuel was set, and as many streams were handed in
   pub record KeepsState (old new : State E C M F J R) : Type 0 where
     pub environment : environment_in new ≡ environment_in old
     pub template : template_in new ≡ template_in old
     pub id : id_in new ≡ id_in old
     pub fuel : fuel_set_in new ≡ fuel_set_in old
+    pub streams : streams_in new ≡ streams_in old
 
   -- what runs in it: the template and those that stand, by its name, with what its environment was given and keeps to; the first
   -- says what is answered where that asks what a user brought
@@ -140,6 +153,21 @@ module _ {E C M F J R : Type 0} where
   abbrev pub block_in : UserAnswers C M F J → State E C M F J R → List ℕ → ℕ → Run World
   block_in says s block n = block_run (programs_in says s) (world_in s) block n
 
+  -- the programs of code that run in it, with a stream that is handed in next
+  abbrev pub handing_in : UserAnswers C M F J → State E C M F J R → Checked → Programs
+  handing_in says s c =
+      let e : Environment E C M F J R = environment_in s in
+      units.programs_of (units_of (registry_of e)) (joins_by says.joins (extras_of e).join) (callables_of says e)
+      (handing (streams_in s) (code_in (checked.stream_in c)) (units.alone (option_map unit_of (template_in s)))) (own_name_in s)
+      (registry_of e).recursion_limit (registry_of e).undefined_behavior
+
+  -- what a stream comes to that is handed in next, under a bound; and what its own instructions come to
+  abbrev pub stream_in : UserAnswers C M F J → State E C M F J R → Checked → ℕ → Run World
+  stream_in says s c n = stream_run (handing_in says s c) (streams_in s) (world_in s) n
+
+  abbrev pub own_in : UserAnswers C M F J → State E C M F J R → Checked → ℕ → Run World
+  own_in says s c n = own_run (handing_in says s c) (code_in (checked.stream_in c)) (stream_begun (streams_in s) (world_in s)) n
+
   -- what printing a value comes to in it, where no capture is open
   abbrev pub format_in : UserAnswers C M F J → State E C M F J R → Val → Reply World
   format_in says s v = written_reply (around_in says s) (outside (world_in s)) v
@@ -163,6 +191,10 @@ LeavesWorld fuel w (Err kinds) r after = NoMemory kinds ⊎ (IsShort fuel (run_o
 abbrev pub EndsIn : {X : Type 0} → Option ℕ → Result X (List ErrorKind) → Run World → World → Type 0
 EndsIn fuel (Ok _) r after = after ≡ r.after
 EndsIn fuel (Err kinds) r after = NoMemory kinds ⊎ (IsShort fuel r ⊎ (after ≡ r.after))
+
+-- the value that is given is what instructions leave at their end, if they leave one
+abbrev pub GivesLeft : (ℕ → Run World) → Option Val → Type 0
+GivesLeft own given = (n : ℕ) → IsFinished (own n).end → (own n).end ≡ ends (at_most_one given)
 
 -- The call gives the text that is printed, or it answers with the fault that refuses it. Or a growth was refused.
 abbrev pub GivesPrinted : World → Result (String Global) (List ErrorKind) → Reply World → Type 0

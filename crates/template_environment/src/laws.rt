@@ -1,8 +1,9 @@
 //! Laws of the templates and expressions of an environment, each as the contract of a function that does nothing.
-ghost use Rattle.std.specs.Prelude.{◌≡◌, ℕ, List, Some, false};
+ghost use Rattle.std.specs.Prelude.{◌≡◌, ℕ, List, IsSome, Some, false, true};
 ghost use Rattle.template_values_model.specs.Val.{Val};
 ghost use Rattle.template_process.specs.Approximants.{IsFinished};
 ghost use Rattle.template_walk.specs.Runnable.{IsRunnable, IsRunnableTemplate};
+ghost use Rattle.template_machine_meaning.specs.Blocks.{is_among};
 ghost use Rattle.template_machine_meaning.specs.Functions.{Invoked};
 ghost use Rattle.template_names.specs.Names.{IsTold};
 ghost use Rattle.template_machine_meaning.specs.Isolation.{AskNoNames, IsContextName};
@@ -16,7 +17,7 @@ ghost use Rattle.template_environment.specs.Extras.{no_answers, user_answers};
 ghost use Rattle.template_environment.specs.Isolated.{IsIsolated, tree_of};
 ghost use Rattle.template_environment.specs.Plain.{text_run};
 ghost use Rattle.template_environment.specs.Reading.{callables_of, registry_of, setting_in};
-ghost use Rattle.template_environment.specs.Standing.{source_at};
+ghost use Rattle.template_environment.specs.Standing.{names_in, source_at};
 ghost use Rattle.template_environment.specs.States.{block_in, call_in, macro_in};
 ghost use Rattle.template_environment.specs.Views.{globals_of, head_in, render_of, source_of};
 
@@ -69,6 +70,13 @@ pub fn every_call_ends<E: Extension>(state: &State<'_, '_, E>)
         (n : ℕ) × IsFinished (run_of (macro_in (user_answers E.Callable.answer E.Method.answer E.Formatter.answer E.Join.answer) state.now name args n)).end }
 {
     let _standing = state.environment.registry.templates.values();
+}
+
+/// A law: the names of all templates that stand in an environment list them.
+pub fn names_list_all<E: Extension>(environment: &Environment<'_, E>)
+    ensures { (name : List ℕ) → IsSome (source_at (registry_of environment.now) name) → is_among name (names_in (registry_of environment.now)) ≡ true }
+{
+    let _standing = environment.registry.templates.values();
 }
 
 /// A law: a template in whose source no marker starts renders to its text, at the price of one step, and to nothing where

@@ -22,7 +22,8 @@ pub use escaping::escape_formatter;
 pub use expression::Expression;
 pub use laws::{
     every_block_ends, every_call_ends, every_expression_runs, every_render_ends,
-    every_template_runs, isolated_renders, none_ask_names, plain_renders, undeclared_names_matter,
+    every_template_runs, isolated_renders, names_list_all, none_ask_names, plain_renders,
+    undeclared_names_matter,
 };
 pub use namespaces::namespace;
 pub use registry::Registry;

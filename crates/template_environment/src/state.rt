@@ -1,5 +1,5 @@
 //! States of templates, as callers see them.
-ghost use Rattle.std.specs.Prelude.{◌≡◌, ◌≢◌, ◌+◌, ◌∷◌, ◌⊎◌, [], ℕ, List, IfOk, IfErr, OnOk, OnErr, Some, Ok, Err, is_some, option_copied, option_map, string_bytes};
+ghost use Rattle.std.specs.Prelude.{◌≡◌, ◌≢◌, ◌+◌, ◌∷◌, ◌⊎◌, [], ℕ, List, IfOk, IfErr, OnOk, OnErr, None, Some, Ok, Err, is_some, option_copied, option_map, string_bytes};
 ghost use Rattle.std.specs.BTreeSet.{contains_text};
 ghost use Rattle.template_values_errors.specs.Memory.{NoMemory};
 ghost use Rattle.template_values_named.specs.Named.{local_at};
@@ -17,6 +17,8 @@ ghost use Rattle.template_machine_calls.specs.Left.{entry_plan, reached_by};
 ghost use Rattle.template_machine_going.specs.Told.{SparesSink};
 ghost use Rattle.template_machine_renders.specs.Plans.{PutsBack, run_of};
 ghost use Rattle.template_machine_state.specs.Names.{is_exported};
+ghost use Rattle.template_code_checked.specs.Checked.{kind_in};
+ghost use Rattle.template_code_shapes.specs.declared.StreamKind.{StreamKind};
 ghost use Rattle.template_environment.specs.Extras.{user_answers};
 ghost use Rattle.template_environment.specs.Reading.{registry_of};
 ghost use Rattle.template_environment.specs.Renderings.{AnswersFailure, GivesText, IsNoMore, LeavesFuel, Renders, left_of, set_of};
@@ -28,13 +30,14 @@ use crate::starting::{begun, own_name, program};
 use crate::template::Template;
 use std::collections::BTreeSet;
 use template_callables::{Extension, NoExtension};
+use template_code_checked::Checked;
 use template_compiled::CompiledTemplate;
 use template_machine_calls::{
     Entry, Reached, call_filter, call_found, call_test, format_value, turn_all,
 };
 use template_machine_going::Stop;
 use template_machine_output::{NullWriter, Sink};
-use template_machine_renders::{Templates, run_block, run_entry};
+use template_machine_renders::{Templates, run_block, run_entry, run_stream};
 use template_machine_state::{Caller, State as MachineState};
 use template_machine_surroundings::StateIds;
 use template_values_core::{Entry as MapEntry, Value};
@@ -52,6 +55,8 @@ pub struct State<'env, 'source, E: Extension = NoExtension> {
     pub(crate) machine: MachineState<'env>,
     // What was consumed of the fuel, and what remains of it.
     pub(crate) fuel: Option<Levels>,
+    // How many streams were handed in.
+    pub(crate) streams: usize,
 }
 
 impl<'env, 'source, E: Extension> Drop for State<'env, 'source, E> {
@@ -62,13 +67,14 @@ impl<'env, 'source, E: Extension> Drop for State<'env, 'source, E> {
             template: _,
             machine: _,
             fuel: _,
+            streams: _,
         } = self;
     }
 }
 
 impl<'env, 'source, E: Extension> State<'env, 'source, E> {
     ghost use Rattle.template_environment.specs.Standing.{settings_of, source_at};
-    ghost use Rattle.template_environment.specs.States.{DoesThere, EndsIn, GivesPrinted, GivesTold, IsMissing, KeepsRest, KeepsState, LeavesWorld, around_in, block_in, call_in, environment_in, format_in, frameless, fuel_left_in, fuel_set_in, head_of_template, id_in, joined_in, macro_in, name_in, template_in, worded_in, world_in};
+    ghost use Rattle.template_environment.specs.States.{DoesThere, EndsIn, GivesLeft, GivesPrinted, GivesTold, IsMissing, KeepsRest, KeepsState, LeavesWorld, around_in, block_in, call_in, environment_in, format_in, frameless, fuel_left_in, fuel_set_in, head_of_template, id_in, joined_in, macro_in, name_in, own_in, stream_in, streams_in, template_in, worded_in, world_in};
     ghost use Rattle.template_environment.specs.Views.{environment_of, name_of, source_of};
 
     // A state without frames, of a template if one is given, with its escape and blocks, that has consumed no fuel.
@@ -96,6 +102,7 @@ impl<'env, 'source, E: Extension> State<'env, 'source, E> {
             template,
             machine: machine.without_frames(),
             fuel: unspent(environment.fuel()),
+            streams: 0,
         })
     }
 
@@ -557,6 +564,81 @@ impl<'env, 'source, E: Extension> State<'env, 'source, E> {
         self.fuel = spend(self.fuel, left);
         match done {
             Ok(()) => Ok(()),
+            Err(stop) => Err(stop.into_error()),
+        }
+    }
+
+    /// Runs a stream that no compiler wrote as a template's, in a frame of its own, with the templates that it extends: the text goes
+    /// into a sink, in one or more pieces, and the value is given that its own instructions leave. An expression's leave one, a
+    /// template's none. The fuel that remains is consumed on. Linear in the instructions that it runs and in its text, besides what
+    /// operators and calls cost. What the stream makes, macros and loops that may be called again, can be run while it runs alone: a
+    /// later call of one is refused by [`ErrorKind::InvalidOperation`].
+    ///
+    /// # Errors
+    ///
+    /// [`ErrorKind::InvalidOperation`] where no level is left; the fault that the run ends with, as [`ErrorKind::OutOfFuel`]: the text
+    /// before it is then in the sink. [`ErrorKind::OutOfMemory`] where a growth was refused, and [`ErrorKind::WriteFailure`] where the
+    /// sink failed; it has then taken a beginning of the text. Where a callable states either as its fault, the sink has not failed.
+    /// Frames, captures, the escape and the block that runs are then as before; temps, and what the stream loaded, stay; of a fuel that
+    /// ran out nothing is left.
+    pub fn run_checked<S: Sink>(
+        &mut self,
+        stream: &'env Checked<'source>,
+        sink: &mut S,
+    ) -> Result<Option<Value>, Error>
+        // Under each bound where the stream's run is finished, its text is the one that goes into the sink.
+        ensures renders { let ran = stream_in (user_answers E.Callable.answer E.Method.answer E.Formatter.answer E.Join.answer) self.old stream.now in
+            (n : ℕ) → IsFinished (ran n).end →
+            Renders result (S.taken sink.old) (S.taken sink.new) (S.failures sink.old) (S.failures sink.new) (under (fuel_left_in self.old) (ran n)) }
+
+        // The value is the one that its own instructions leave, if they leave one: those of a template's stream leave none.
+        ensures gives { IfOk result (GivesLeft (own_in (user_answers E.Callable.answer E.Method.answer E.Formatter.answer E.Join.answer) self.old stream.now)) }
+        ensures template { IfOk result (λ given. kind_in stream.now ≡ StreamKind.Template → given ≡ None) }
+
+        // Where the sink does not fail, the fuel and the world that are left are what the run leaves.
+        ensures remains { let ran = stream_in (user_answers E.Callable.answer E.Method.answer E.Formatter.answer E.Join.answer) self.old stream.now in
+            S.failures sink.new ≡ S.failures sink.old →
+            (n : ℕ) → IsFinished (ran n).end → LeavesFuel (fuel_left_in self.old) (ran n) result (fuel_left_in self.new) }
+        ensures world { let ran = stream_in (user_answers E.Callable.answer E.Method.answer E.Formatter.answer E.Join.answer) self.old stream.now in
+            S.failures sink.new ≡ S.failures sink.old →
+            (n : ℕ) → IsFinished (ran n).end → EndsIn (fuel_left_in self.old) result (ran n) (world_in self.new) }
+
+        // Whatever its end, the frames are as before, and so is what every run keeps: the state's number, what the environment gives, the
+        // block that runs, the names of what was loaded, with others before them at most, and the bodies that blocks run, with others behind
+        // them at most.
+        ensures frames { (world_in self.new).frames ≡ (world_in self.old).frames }
+        ensures keeps { KeepsWorld (world_in self.old) (world_in self.new) }
+
+        // What else was open is so again.
+        ensures put_back { PutsBack (world_in self.old) (world_in self.new) }
+        ensures failures { AnswersFailure result (S.failures sink.old) (S.failures sink.new) }
+
+        // The next stream that is handed in has another number.
+        ensures counted { streams_in self.old ≢ usize.MAX → streams_in self.new ≡ streams_in self.old + 1 }
+        ensures rest { KeepsState self.old (record self.new { streams = streams_in self.old }) }
+    {
+        let number = self.streams;
+        let Some(next) = number.checked_add(1) else {
+            return Err(Error::new(ErrorKind::OutOfMemory));
+        };
+        self.streams = next;
+        let environment = self.environment;
+        let alloc = environment.allocator();
+        let mut left = remaining(self.fuel);
+        let mut scratch = String::new(alloc);
+        let done = run_stream(
+            alloc,
+            program(environment, self.template),
+            number,
+            stream,
+            &mut self.machine,
+            &mut left,
+            &mut scratch,
+            sink,
+        );
+        self.fuel = spend(self.fuel, left);
+        match done {
+            Ok(given) => Ok(given),
             Err(stop) => Err(stop.into_error()),
         }
     }

@@ -310,6 +310,7 @@ fn run<'env, 'source, E: Extension, S: Sink>(
             template: Some(compiled),
             machine,
             fuel: spend(unspent(fuel), left),
+            streams: 0,
         }),
         Err(stop) => Err(stop.into_error()),
     }

@@ -3,5 +3,6 @@ pub mod Meanings
 pub mod Coming
 pub mod Blocks
 pub mod Calls
+pub mod Handed
 mod Rootless
 mod Uppermost

@@ -1,4 +1,5 @@
 pub mod Renders
+pub mod Handed
 pub mod Laws
 pub use Rattle.template_machine_loop.specs.Outcomes
 pub use Rattle.template_machine_loop.specs.Plans

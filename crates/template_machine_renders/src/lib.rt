@@ -4,9 +4,11 @@
 ghost use Rattle.template_machine_renders.specs.Laws.{BlocksRender, EndsRender, ExpressionsEvaluate, StopsRender};
 
 mod running;
+mod streams;
 
 pub use running::{run_expression, run_template};
-pub use template_machine_loop::{Compiled, Program, Rules, Templates, run_block, run_entry};
+pub use streams::run_stream;
+pub use template_machine_loop::{Compiled, Kept, Program, Rules, Templates, run_block, run_entry};
 
 /// A run of a template's code that came to its end, with the templates that it extends, is the template's render: its text, its
 /// price and its world.

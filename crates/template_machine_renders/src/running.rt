@@ -2,6 +2,7 @@
 ghost use Rattle.std.specs.Prelude.{◌≤◌, length, Option, None};
 ghost use Rattle.template_code.specs.Listing.{code_in};
 ghost use Rattle.template_machine_going.specs.Told.{CountsFailures};
+ghost use Rattle.template_machine_meaning.specs.Keeps.{KeepsWorld};
 ghost use Rattle.template_machine_meaning.specs.Meaning.{top};
 ghost use Rattle.template_machine_loop.specs.Programs.{programs_under, roots_of};
 ghost use Rattle.template_machine_loop.specs.Runs.{Evaluates, KeyRuns};
@@ -64,6 +65,7 @@ pub fn run_expression<'env, T: Templates, S: Sink>(
     ensures evaluates { Evaluates (programs_under (T.standing program.entry.templates.now) (T.joins program.entry.templates.now)
         (T.callables program.entry.templates.now) (roots_of program.entry) program.entry.rules) (code_in code.now)
         state.old left.old (S.taken sink.old) result state.new left.new (S.taken sink.new) }
+    ensures keeps { KeepsWorld state.old state.new }
     ensures failures { CountsFailures result (S.failures sink.old) (S.failures sink.new) }
 {
     let mut operands = run_to_end(alloc, program, code, state, left, scratch, sink)?;

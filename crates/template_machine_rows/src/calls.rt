@@ -1,5 +1,6 @@
 //! What is asked for behind the steps.
 use crate::case::{Call, Case, Source, Subject};
+use crate::handed::checked_all;
 use crate::invoked::call_all;
 use crate::renders::{tell_captured, tell_render};
 use crate::report::Report;
@@ -27,7 +28,13 @@ pub(crate) fn ask<'line, E: Extension>(
         }
         Call::Calls => {
             drop(context);
-            call_all(environment.empty_state(ids), &case.calls, out)
+            let streams = checked_all(out.alloc(), case.streams, out);
+            call_all(
+                environment.empty_state(ids),
+                &case.calls,
+                streams.as_slice(),
+                out,
+            )
         }
         _ => ask_subject(environment, ids, case, context, out),
     }
@@ -143,7 +150,15 @@ fn tell_of_template<'line, E: Extension>(
 ) {
     match case.setting.call {
         Call::States => tell_states(environment, template, ids, out),
-        Call::TemplateCalls => call_all(template.new_state(ids), &case.calls, out),
+        Call::TemplateCalls => {
+            let streams = checked_all(out.alloc(), case.streams, out);
+            call_all(
+                template.new_state(ids),
+                &case.calls,
+                streams.as_slice(),
+                out,
+            )
+        }
         Call::UsedNames => tell_used_names(template, out),
         Call::ContextNames => out.names(&environment.context_names(template)),
         Call::Escape => out.tell("", &template.initial_auto_escape()),

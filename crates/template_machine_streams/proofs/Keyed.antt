@@ -15,7 +15,8 @@ use Rattle.template_code.specs.Steps.{exec}
 use Rattle.template_code_shapes.specs.declared.outline.Opened.{Opened}
 use Rattle.template_code_shapes.specs.Shapes as shapes
 use Rattle.template_code_shapes.specs.Shapes.{single_form, form_of, Shape, start}
-use Rattle.template_code_shapes.specs.Streams.{Reached, begins}
+use Rattle.template_code_shapes.specs.Streams.{Reached, IsGood, begins, end_of}
+use Rattle.template_code_shapes.specs.declared.StreamKind.{StreamKind}
 use Rattle.template_machine_meaning.specs.World.{Loop, Frame, Capture, Globals, World, first_world, loop_frame, depth_of}
 use Rattle.template_machine_meaning.specs.Captures.{around_innermost}
 use Rattle.template_machine_meaning.specs.Keys.{rendered, standing, Stream, own, Part, whole, body_of, rounds_of, Key, whole_of, Head, Around}
@@ -27,13 +28,13 @@ use Rattle.template_machine_meaning.proofs.Keeping.{Keeps, Ran, loops_of, met, u
 use Rattle.template_machine_meaning.proofs.Entering.{Finds, KeyEnds, Starts, Rounded}
 use Rattle.template_machine_meaning.proofs.Ends.{found_parent}
 use Rattle.template_machine_streams.specs.Streams.{Codes, body_run, part_run, programs_of, IsVerified, IsBodyReached, AreRoundsReached, in_rounds, IsLoopReached, IsPartReached}
-use Rattle.template_machine_streams.specs.Laws.{AreAllVerified, MayRun, EveryStreamEnds, EveryFirstRunEnds}
+use Rattle.template_machine_streams.specs.Laws.{AreAllVerified, MayRun, EveryStreamEnds, Leaves, EveryStreamLeaves, EveryFirstRunEnds}
 use Rattle.template_machine_streams.proofs.Coming.{Bounded, Finishes, Fails, Comes}
 use Rattle.template_machine_streams.proofs.Fitting.{Away, nothing_away, Opens, none_open, round_open, never_closed, Fits, IsBase}
 use Rattle.template_machine_streams.proofs.Sound.{Sound, sound_of, sound_left}
 use Rattle.template_machine_streams.proofs.Settling.{KeyFaults, KeyComes}
 use Rattle.template_machine_streams.proofs.Within.{LeavesSo, AllReach}
-use Rattle.template_machine_streams.proofs.Running.{runs_from}
+use Rattle.template_machine_streams.proofs.Running.{LeftAtEnd, runs_from}
 
 -- behind what was left by a run whose template extends another
 one_less : (captures : List Capture) (n : ℕ) → length captures ≡ suc n → length (around_innermost captures) ≡ n
@@ -114,7 +115,7 @@ module _ (names : List (List ℕ)) (codes : Codes) (verified : AreAllVerified co
   nothing_found key none zero = ap (option_map {U = World → Run World} (λ (p : Process) (w : World). ended breaks w)) (none 0)
   nothing_found key none (suc n) = ap (option_map {U = World → Run World} (λ (p : Process) (w : World). followed (runners s n) key.part (run (answer s n) p w))) (none n)
 
-  no_code : (key : Key) → codes key.stream ≡ None → (n : ℕ) → s.process n key ≡ None
+  no_code : (key : Key) → codes.code key.stream ≡ None → (n : ℕ) → s.process n key ≡ None
   no_code key e n = ap (λ (o : Option (List Code)). option_and_then (part_run n key.part) o) e
 
   -- what a key's process comes to, and what follows in a template that is extended
@@ -131,15 +132,16 @@ module _ (names : List (List ℕ)) (codes : Codes) (verified : AreAllVerified co
 
   -- a part that nothing follows
   module _ (stream : Stream) (part : Part) (alone : (runs : Key → Option (World → Run World)) (r : Run World) → followed runs part r ≡ r) (P : Bounded)
-      (process : Runs (record { stream = stream; part = part }) P) (w : World) (keeps : Bool → World → Type 0) (so : (v : World) → keeps false v → Sound codes v) where
+      (process : Runs (record { stream = stream; part = part }) P) (w : World) (keeps : Option (List Val) → World → Type 0) (so : (v : World) → keeps None v → Sound codes v)
+      (kept : World → Type 0) (kept_so : (vs : List Val) (v : World) → keeps (Some vs) v → kept v) where
     abbrev this_key : Key
     this_key = record { stream = stream; part = part }
 
     found_so : (n : ℕ) (q : Run World) → run (answer s n) (P n) w ≡ q → Finds (runners s (suc n) this_key) w q
     found_so n q is = finds_at this_key n w (P n) q (process n) (ap (followed (runners s n) part) is ∙ alone (runners s n) q)
 
-    part_stops : Comes s w keeps P → Stopped this_key w (keeps true)
-    part_stops (inl p) = inl (record { items = p.items; least = suc p.least; operands = p.operands; after = p.after; kept = p.kept; is = at_bound })
+    part_stops : Comes s w keeps P → Stopped this_key w kept
+    part_stops (inl p) = inl (record { items = p.items; least = suc p.least; operands = p.operands; after = p.after; kept = kept_so p.operands p.after p.kept; is = at_bound })
       where
         at_bound : (n : ℕ) → suc p.least ≤ n → Finds (runners s n this_key) w (behind p.items (ended (ends p.operands) p.after))
         at_bound zero le = absurd (omega arith)
@@ -151,9 +153,12 @@ module _ (names : List (List ℕ)) (codes : Codes) (verified : AreAllVerified co
         at_bound (suc n) le = found_so n (behind p.items (ended (faults p.kinds) p.after)) (p.is n n (omega arith) (omega arith))
 
   -- what they keep, in worlds that have what is reached alone
-  abbrev KeepsSo : World → Bool → World → Type 0
-  KeepsSo w true v = Keeps names w v × Sound codes v
-  KeepsSo w false v = Sound codes v
+  abbrev KeptSo : World → World → Type 0
+  KeptSo w v = Keeps names w v × Sound codes v
+
+  abbrev KeepsSo : World → Option (List Val) → World → Type 0
+  KeepsSo w (Some vs) v = KeptSo w v
+  KeepsSo w None v = Sound codes v
 
   abbrev RanSo : World → World → Type 0
   RanSo w v = Ran names w v × Sound codes v
@@ -162,7 +167,7 @@ module _ (names : List (List ℕ)) (codes : Codes) (verified : AreAllVerified co
   parent_key name = whole_of (own (standing name))
 
   -- a stream from its start, and the template that it extends
-  module _ (stream : Stream) (code : List Code) (is : codes stream ≡ Some code) (w : World) (alone : w.parent ≡ None) where
+  module _ (stream : Stream) (code : List Code) (is : codes.code stream ≡ Some code) (w : World) (alone : w.parent ≡ None) where
     abbrev from_start : Bounded
     from_start m = exec code m 0 []
 
@@ -246,21 +251,21 @@ module _ (names : List (List ℕ)) (codes : Codes) (verified : AreAllVerified co
                 (goes_on n (omega arith) q (found_parent (runners s n (parent_key name)) begun q (k.is n (omega arith))))
 
   -- a stream comes to what its code does, if it has any
-  comes_by : (stream : Stream) (w : World) → ((code : List Code) → codes stream ≡ Some code → Stopped (whole_of stream) w (RanSo w))
-      → (o : Option (List Code)) → codes stream ≡ o → KeyComes codes s (whole_of stream) w (RanSo w)
+  comes_by : (stream : Stream) (w : World) → ((code : List Code) → codes.code stream ≡ Some code → Stopped (whole_of stream) w (RanSo w))
+      → (o : Option (List Code)) → codes.code stream ≡ o → KeyComes codes s (whole_of stream) w (RanSo w)
   comes_by stream w stopped None is = inl (nothing_found (whole_of stream) (no_code (whole_of stream) is))
   comes_by stream w stopped (Some code) is = inr (stopped code is)
 
   module _ (depth : ℕ) (deeper : AllReach names codes s depth) where
     -- the code of a stream from a world on, over operands of a shape with nothing open
     runs_own : (code : List Code) → IsVerified code → (place : ℕ) (shape : Shape) (vs : List Val) → shape.frames ≡ [] → shape.escapes ≡ 0 → shape.captures ≡ 0
-        → Reached code place (record shape { operands = map form_of (map single vs) ++ [] }) → (w : World) → codes w.here ≡ Some code → Sound codes w → IsFramed w → depth ≤ depth_of w
+        → Reached code place (record shape { operands = map form_of (map single vs) ++ [] }) → (w : World) → codes.code w.here ≡ Some code → Sound codes w → IsFramed w → depth ≤ depth_of w
         → Comes s w (KeepsSo w) (λ m. exec code m place (map single vs))
     runs_own code v place shape vs no_frames no_escapes no_captures r w is sound framed deep =
         let zero_fits : Fits names codes nothing_away w [] shape.escapes shape.captures w =
         subst (λ n. Fits names codes nothing_away w [] shape.escapes n w) (sym no_captures) (subst (λ n. Fits names codes nothing_away w [] n 0 w) (sym no_escapes) (fits_itself names codes w sound)) in
-        runs_from names codes s depth deeper lists v.kind code v.good nothing_away w is (own_base w framed) (omega (arith, deep)) (KeepsSo w) (λ z sound. sound)
-        (λ z none fits. (fits_keeps names codes w z fits, fits.sound)) (λ l z rounds fits. absurd (cc)) [] 0 place shape (map single vs) w r
+        runs_from names codes s depth deeper lists v.kind code v.good shape.in_macro nothing_away w is (verified w.here code is).0 (own_base w framed) (omega (arith, deep)) (KeepsSo w) (λ z sound. sound)
+        (λ us z none few fits. (fits_keeps names codes w z fits, fits.sound)) (λ l z rounds fits. absurd (cc)) [] 0 place shape (map single vs) w r refl
         (subst (λ (fs : List Opened). Opens nothing_away [] fs) (sym no_frames) (none_open refl)) zero_fits (λ push e. omega arith) tt (omega arith)
 
     -- what a parent comes to, where so many names were not loaded yet
@@ -268,7 +273,7 @@ module _ (names : List (List ℕ)) (codes : Codes) (verified : AreAllVerified co
     ParentComes u = (name : List ℕ) (v : World) → v.here ≡ own (standing name) → Sound codes v → IsFramed v → v.parent ≡ None → depth ≤ depth_of v → unloaded names v.loaded < u
         → KeyComes codes s (parent_key name) v (RanSo v)
 
-    module _ (u : ℕ) (next : ParentComes u) (stream : Stream) (code : List Code) (is : codes stream ≡ Some code) (w : World) (framed : IsFramed w)
+    module _ (u : ℕ) (next : ParentComes u) (stream : Stream) (code : List Code) (is : codes.code stream ≡ Some code) (w : World) (framed : IsFramed w)
         (alone : w.parent ≡ None) (deep : depth ≤ depth_of w) (few : unloaded names w.loaded < suc u) where
       parent_stops : (p : Finishes s w (KeepsSo w) (from_start stream code is w alone)) (parent : Option (List ℕ)) → p.after.parent ≡ parent → Stopped (whole_of stream) w (RanSo w)
       parent_stops p None none = ends_alone stream code is w alone p none
@@ -285,55 +290,58 @@ module _ (names : List (List ℕ)) (codes : Codes) (verified : AreAllVerified co
       code_stops (inl p) = parent_stops p p.after.parent refl
 
     -- by how many names were not loaded yet
-    whole_stops : (u : ℕ) (stream : Stream) (code : List Code) → codes stream ≡ Some code → (w : World) → w.here ≡ stream → Sound codes w → IsFramed w → w.parent ≡ None → depth ≤ depth_of w
+    whole_stops : (u : ℕ) (stream : Stream) (code : List Code) → codes.code stream ≡ Some code → (w : World) → w.here ≡ stream → Sound codes w → IsFramed w → w.parent ≡ None → depth ≤ depth_of w
         → unloaded names w.loaded < u → Stopped (whole_of stream) w (RanSo w)
     whole_stops zero stream code is w here sound framed alone deep few = absurd (omega (arith, few))
     whole_stops (suc u) stream code is w here sound framed alone deep few =
         let next : ParentComes u = λ name v h k f a e l.
-        comes_by (own (standing name)) v (λ code there. whole_stops u (own (standing name)) code there v h k f a e l) (codes (own (standing name))) refl in
+        comes_by (own (standing name)) v (λ code there. whole_stops u (own (standing name)) code there v h k f a e l) (codes.code (own (standing name))) refl in
         code_stops u next stream code is w framed alone deep few
-        (runs_own code (verified stream code is) 0 start [] refl refl refl begins w (ap codes here ∙ is) sound framed deep)
+        (runs_own code (verified stream code is).1 0 start [] refl refl refl begins w (ap codes.code here ∙ is) sound framed deep)
 
     whole_comes : (stream : Stream) (w : World) → w.here ≡ stream → Sound codes w → IsFramed w → w.parent ≡ None → depth ≤ depth_of w → KeyComes codes s (whole_of stream) w (RanSo w)
     whole_comes stream w here sound framed alone deep =
-        comes_by stream w (λ code is. whole_stops (suc (unloaded names w.loaded)) stream code is w here sound framed alone deep (omega arith)) (codes stream) refl
+        comes_by stream w (λ code is. whole_stops (suc (unloaded names w.loaded)) stream code is w here sound framed alone deep (omega arith)) (codes.code stream) refl
 
     -- the body of a macro
     module _ (stream : Stream) (number : ℕ) (vs : List Val) (reached : IsBodyReached codes stream number) (w : World) (here : w.here ≡ stream) (sound : Sound codes w) (framed : IsFramed w) (deep : depth ≤ depth_of w) where
       abbrev body_key : Key
       body_key = record { stream = stream; part = body_of number vs }
 
-      module _ (code : List Code) (is : codes stream ≡ Some code) where
+      module _ (code : List Code) (is : codes.code stream ≡ Some code) where
         at_macro : (o : Option MacroPlace) → macro_at code number ≡ o → (n : ℕ) → s.process n body_key ≡ option_and_then (body_run n vs code) o
         at_macro o found n =
             ap (λ (c : Option (List Code)). option_and_then (part_run n (body_of number vs)) c) is ∙ ap (λ (m : Option MacroPlace). option_and_then (body_run n vs code) m) found
 
-        counted_comes : (m : MacroPlace) → macro_at code number ≡ Some m → (same : Bool) → (m.count == length vs) ≡ same → KeyComes codes s body_key w (KeepsSo w true)
+        counted_comes : (m : MacroPlace) → macro_at code number ≡ Some m → (same : Bool) → (m.count == length vs) ≡ same → KeyComes codes s body_key w (KeptSo w)
         counted_comes m found false e =
             inl (nothing_found body_key (λ n. at_macro (Some m) found n ∙ ap (λ b. if b then Some (exec code n m.offset (map single vs)) else None) e))
         counted_comes m found true e =
-            let v : IsVerified code = verified stream code is in
+            let v : IsVerified code = (verified stream code is).1 in
             let many : m.count ≡ length vs = eqb-true m.count (length vs) e in
-            let body : Reached code m.offset (shapes.body_of m.count) = reached code is m found in
+            let body : Reached code m.offset (shapes.body_of m.count) = reached.1 code is m found in
             let forms : map form_of (map single vs) ++ [] ≡ replicate m.count single_form = forms_of_singles vs ∙ ap (λ k. replicate k single_form) (sym many) in
             inr (part_stops stream (body_of number vs) (λ runs r. refl) (λ k. exec code k m.offset (map single vs))
-            (λ n. at_macro (Some m) found n ∙ ap (λ b. if b then Some (exec code n m.offset (map single vs)) else None) e) w (KeepsSo w) (λ z sound. sound)
+            (λ n. at_macro (Some m) found n ∙ ap (λ b. if b then Some (exec code n m.offset (map single vs)) else None) e) w (KeepsSo w) (λ z sound. sound) (KeptSo w) (λ us v k. k)
             (runs_own code v m.offset (shapes.body_of m.count) vs refl refl refl
-            (subst (λ (fs : List shapes.Form). Reached code m.offset (record (shapes.body_of m.count) { operands = fs })) (sym forms) body) w (ap codes here ∙ is) sound framed deep))
+            (subst (λ (fs : List shapes.Form). Reached code m.offset (record (shapes.body_of m.count) { operands = fs })) (sym forms) body) w (ap codes.code here ∙ is) sound framed deep))
 
-        macro_comes : (o : Option MacroPlace) → macro_at code number ≡ o → KeyComes codes s body_key w (KeepsSo w true)
+        macro_comes : (o : Option MacroPlace) → macro_at code number ≡ o → KeyComes codes s body_key w (KeptSo w)
         macro_comes None found = inl (nothing_found body_key (λ n. at_macro None found n))
         macro_comes (Some m) found = counted_comes m found (m.count == length vs) refl
 
-      body_comes : (o : Option (List Code)) → codes stream ≡ o → KeyComes codes s body_key w (KeepsSo w true)
+      body_comes : (o : Option (List Code)) → codes.code stream ≡ o → KeyComes codes s body_key w (KeptSo w)
       body_comes None none = inl (nothing_found body_key (no_code body_key none))
       body_comes (Some code) is = macro_comes code is (macro_at code number) refl
 
     -- the rounds of a loop that is called
     module _ (stream : Stream) (number : ℕ) (reached : AreRoundsReached codes stream number) (w : World) (here : w.here ≡ stream) (sound : Sound codes w) (g : MayGoRound w) (deep : depth ≤ depth_of w) where
-      abbrev RoundedSo : Bool → World → Type 0
-      RoundedSo true v = Rounded names w v × Sound codes v
-      RoundedSo false v = Sound codes v
+      abbrev RoundedEnd : World → Type 0
+      RoundedEnd v = Rounded names w v × Sound codes v
+
+      abbrev RoundedSo : Option (List Val) → World → Type 0
+      RoundedSo (Some vs) v = RoundedEnd v
+      RoundedSo None v = Sound codes v
 
       abbrev rounds_key : Key
       rounds_key = record { stream = stream; part = rounds_of number }
@@ -382,38 +390,58 @@ module _ (names : List (List ℕ)) (codes : Codes) (verified : AreAllVerified co
             record { loops = fits.frames; outer = fits.outer; floor = fits.floor; saved = saved; captures = captures; meets = fits.meets; loads = fits.loads; added = fits.added } in
             (l, subst (λ (fs : List Frame). Keeps names (record w { frames = loop_frame l ∷ fs }) z) (sym (ap (λ (fs : List Frame). drop 1 fs) g.is)) kept)
 
-      module _ (code : List Code) (is : codes stream ≡ Some code) where
+      module _ (code : List Code) (is : codes.code stream ≡ Some code) where
         at_rounds : (o : Option ℕ) → rounds_at code number ≡ o → (n : ℕ) → s.process n rounds_key ≡ option_map (λ place. exec code n place []) o
         at_rounds o found n =
             ap (λ (c : Option (List Code)). option_and_then (part_run n (rounds_of number)) c) is ∙ ap (λ (p : Option ℕ). option_map (λ place. exec code n place []) p) found
 
         rounds_run : (place push : ℕ) (below : Shape) → Reached code place (in_rounds push below) → Comes s w RoundedSo (λ m. exec code m place [])
         rounds_run place push below there =
-            let v : IsVerified code = verified stream code is in
+            let v : IsVerified code = (verified stream code is).1 in
             let low : length below.operands ≤ length below.operands = omega arith in
             let no_escapes : below.escapes ≤ below.escapes = omega arith in
             let no_captures : below.captures ≤ below.captures = omega arith in
-            runs_from names codes s depth deeper lists v.kind code v.good (left_away below) beneath (ap codes here ∙ is) (rounds_base below) (omega (arith, deep, same_frames)) RoundedSo (λ z sound. sound)
-            (λ z none fits. let no : true ≡ false = ap (λ (a : Away). a.rounds) none in absurd (cc)) (λ l z rounds fits. (rounds_keep below l z fits, fits.sound)) (Some g.loop ∷ []) 0 place (in_rounds push below) [] w there
+            runs_from names codes s depth deeper lists v.kind code v.good below.in_macro (left_away below) beneath (ap codes.code here ∙ is) (verified w.here code (ap codes.code here ∙ is)).0 (rounds_base below) (omega (arith, deep, same_frames)) RoundedSo (λ z sound. sound)
+            (λ us z none few fits. let no : true ≡ false = ap (λ (a : Away). a.rounds) none in absurd (cc)) (λ l z rounds fits. (rounds_keep below l z fits, fits.sound)) (Some g.loop ∷ []) 0 place (in_rounds push below) [] w there refl
             (round_open refl g.called (record { operands = low; escapes = no_escapes; captures = no_captures }) refl refl) (rounds_fit below) (λ push e. omega arith)
             (λ q later t os z same at. absurd (never_closed (left_away below) t.frames refl at.opens)) (omega arith)
 
-        rounds_come_at : (o : Option ℕ) → rounds_at code number ≡ o → KeyComes codes s rounds_key w (RoundedSo true)
+        rounds_come_at : (o : Option ℕ) → rounds_at code number ≡ o → KeyComes codes s rounds_key w RoundedEnd
         rounds_come_at None found = inl (nothing_found rounds_key (λ n. at_rounds None found n))
         rounds_come_at (Some place) found =
-            let x = reached code is place found in
-            inr (part_stops stream (rounds_of number) (λ runs r. refl) (λ k. exec code k place []) (λ n. at_rounds (Some place) found n) w RoundedSo (λ z sound. sound) (rounds_run place x.0 x.1 x.2))
+            let x = reached.1 code is place found in
+            inr (part_stops stream (rounds_of number) (λ runs r. refl) (λ k. exec code k place []) (λ n. at_rounds (Some place) found n) w RoundedSo (λ z sound. sound) RoundedEnd (λ us v k. k) (rounds_run place x.0 x.1 x.2))
 
-      rounds_come : (o : Option (List Code)) → codes stream ≡ o → KeyComes codes s rounds_key w (RoundedSo true)
+      rounds_come : (o : Option (List Code)) → codes.code stream ≡ o → KeyComes codes s rounds_key w RoundedEnd
       rounds_come None none = inl (nothing_found rounds_key (no_code rounds_key none))
       rounds_come (Some code) is = rounds_come_at code is (rounds_at code number) refl
+
+  -- what the instructions of a stream leave at their end
+  abbrev OwnSo : StreamKind → Option (List Val) → World → Type 0
+  OwnSo kind (Some vs) v = LeftAtEnd kind false vs
+  OwnSo kind None v = Unit {0}
+
+  left_by_kind : (kind : StreamKind) (vs : List Val) → LeftAtEnd kind false vs → length vs ≡ length (end_of kind).operands
+  left_by_kind kind vs (inl e) = e
+  left_by_kind kind vs (inr within) = absurd (cc)
+
+  own_comes : (depth : ℕ) → AllReach names codes s depth → (kind : StreamKind) (code : List Code) → IsGood kind code → (w : World) → codes.code w.here ≡ Some code → Sound codes w → IsFramed w → depth ≤ depth_of w
+      → Comes s w (OwnSo kind) (λ m. exec code m 0 [])
+  own_comes depth deeper kind code good w is sound framed deep =
+      runs_from names codes s depth deeper lists kind code good false nothing_away w is (verified w.here code is).0 (own_base w framed) (omega (arith, deep)) (OwnSo kind) (λ z sound. tt)
+      (λ us z none few fits. few) (λ l z rounds fits. absurd (cc)) [] 0 0 start [] w begins refl (none_open refl) (fits_itself names codes w sound) (λ push e. omega arith) tt (omega arith)
+
+  own_leaves : (kind : StreamKind) (code : List Code) (w : World) → Comes s w (OwnSo kind) (λ m. exec code m 0 []) → (n : ℕ) × Leaves kind (run (answer s n) (exec code n 0 []) w).end
+  own_leaves kind code w (inl p) =
+      (p.least, subst (λ (r : Run World). Leaves kind r.end) (sym (p.is p.least p.least (omega arith) (omega arith))) (left_by_kind kind p.operands p.kept))
+  own_leaves kind code w (inr p) = (p.least, subst (λ (r : Run World). Leaves kind r.end) (sym (p.is p.least p.least (omega arith) (omega arith))) tt)
 
   -- every part of a stream
   part_comes : (depth : ℕ) → AllReach names codes s depth → (stream : Stream) (part : Part) (w : World) → Starts part w → IsPartReached codes stream part → Sound codes w → w.here ≡ stream → depth ≤ depth_of w
       → KeyComes codes s (record { stream = stream; part = part }) w (LeavesSo names codes (record { stream = stream; part = part }) w)
   part_comes depth deeper stream whole w starts reached sound here deep = whole_comes depth deeper stream w here sound starts.0 starts.1 deep
-  part_comes depth deeper stream (body_of number vs) w starts reached sound here deep = body_comes depth deeper stream number vs reached w here sound starts.0 deep (codes stream) refl
-  part_comes depth deeper stream (rounds_of number) w starts reached sound here deep = rounds_come depth deeper stream number reached w here sound starts deep (codes stream) refl
+  part_comes depth deeper stream (body_of number vs) w starts reached sound here deep = body_comes depth deeper stream number vs reached w here sound starts.0 deep (codes.code stream) refl
+  part_comes depth deeper stream (rounds_of number) w starts reached sound here deep = rounds_come depth deeper stream number reached w here sound starts deep (codes.code stream) refl
 
   deep_at : (part : Part) (w : World) → Starts part w → w.floor + w.outer ≤ depth_of w
   deep_at whole w starts = omega (arith, starts.0.floor)
@@ -472,6 +500,13 @@ module _ (names : List (List ℕ)) (codes : Codes) (verified : AreAllVerified co
       comes_end key w (LeavesSo names codes key w) (λ v k. k.1) some
       (part_comes (w.floor + w.outer) (all_come (suc around.limit) (w.floor + w.outer) (omega arith)) key.stream key.part w starts may.reached (sound_of codes w may.sound) may.here (deep_at key.part w starts))
 
+  stream_leaves : (stream : Stream) (kind : StreamKind) (code : List Code) → codes.code stream ≡ Some code → IsGood kind code → (w : World) → MayRun codes (whole_of stream) w
+      → (n : ℕ) × Leaves kind (run (answer s n) (exec code n 0 []) w).end
+  stream_leaves stream kind code is good w may =
+      let starts : Starts whole w = starts_at whole w may.start in
+      own_leaves kind code w
+      (own_comes (w.floor + w.outer) (all_come (suc around.limit) (w.floor + w.outer) (omega arith)) kind code good w (ap codes.code may.here ∙ is) (sound_of codes w may.sound) starts.0 (deep_at whole w starts))
+
 stands : (around : Around) (name : List ℕ) (h : Head) → around.head (standing name) ≡ Some h → IsSome (around.head (standing name))
 stands around name h e = subst (λ (o : Option Head). IsSome o) (sym e) refl
 
@@ -479,6 +514,10 @@ pub every_stream_ends : EveryStreamEnds
 every_stream_ends codes verified around names lists key some w may =
     let x = key_ends names codes verified around (λ name h e. lists name (stands around name h e)) key w may some in
     (x.0, x.1, sound_left codes (ran (runners (programs_of codes around) x.0 key) w).after x.2)
+
+pub every_stream_leaves : EveryStreamLeaves
+every_stream_leaves codes verified around names lists stream kind code is good w may =
+    stream_leaves names codes verified around (λ name h e. lists name (stands around name h e)) stream kind code is good w may
 
 -- in a state of its own nothing was made yet
 module _ (codes : Codes) (id : ℕ) (globals : Globals) (head : Head) (context : Val) where
@@ -506,5 +545,5 @@ some_process (Some code) some = refl
 
 pub every_first_run_ends : EveryFirstRunEnds
 every_first_run_ends codes verified around names lists some id globals head context =
-    let x = every_stream_ends codes verified around names lists (whole_of (own rendered)) (some_process (codes (own rendered)) some) (first_world id globals head context) (first_may codes id globals head context) in
+    let x = every_stream_ends codes verified around names lists (whole_of (own rendered)) (some_process (codes.code (own rendered)) some) (first_world id globals head context) (first_may codes id globals head context) in
     (x.0, x.1)

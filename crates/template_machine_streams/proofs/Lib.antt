@@ -1,4 +1,4 @@
-mod Sound
+pub mod Sound
 mod Settling
 mod Calling
 mod Coming

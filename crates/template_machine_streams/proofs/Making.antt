@@ -85,8 +85,8 @@ loaded_is count code (suc place) n e = by_code (slice_get code place) refl e
     by_code (Some _) there h = absurd (cc)
     by_code None there h = absurd (cc)
 
-module _ (kind : StreamKind) (code : List Code) (good : IsGood kind code) (codes : Codes) (stream : Stream) (is_code : codes stream ≡ Some code) where
-  same_code : (other : List Code) → codes stream ≡ Some other → other ≡ code
+module _ (kind : StreamKind) (code : List Code) (good : IsGood kind code) (codes : Codes) (stream : Stream) (is_code : codes.code stream ≡ Some code) (is_known : codes.known stream ≡ true) where
+  same_code : (other : List Code) → codes.code stream ≡ Some other → other ≡ code
   same_code other e = some_is other code (sym e ∙ is_code)
 
   entered : (place offset : ℕ) (name : List ℕ) (flags : ℕ) (s : Shape) → Reached code place s → slice_get code place ≡ Some (build_macro name offset flags)
@@ -114,9 +114,12 @@ module _ (kind : StreamKind) (code : List Code) (good : IsGood kind code) (codes
         subst (λ (p : MacroPlace). Reached code p.offset (body_of p.count)) is begins_reached
 
     pub macro_reached : IsBodyReached codes stream (counts_before code place).macros
-    macro_reached other e m found =
-        subst (λ (c : List Code). Reached c m.offset (body_of m.count)) (sym (same_code other e))
-        (at_place m (subst (λ (c : List Code). macro_at c (counts_before code place).macros ≡ Some m) (same_code other e) found))
+    macro_reached = (
+      is_known,
+      λ other e m found.
+          subst (λ (c : List Code). Reached c m.offset (body_of m.count)) (sym (same_code other e))
+          (at_place m (subst (λ (c : List Code). macro_at c (counts_before code place).macros ≡ Some m) (same_code other e) found)),
+    )
 
   -- a loop that is opened where code is reached
   module _ (place flags : ℕ) (s : Shape) (r : Reached code place s) (there : slice_get code place ≡ Some (push_loop flags)) (recursive : is_recursive flags ≡ true) where
@@ -134,8 +137,9 @@ module _ (kind : StreamKind) (code : List Code) (good : IsGood kind code) (codes
         let one : 0 < 1 = omega arith in
         subst (λ b. 0 < (cond {A = Counts} b (record { macros = 0; rounds = 1 }) (record { macros = 0; rounds = 0 })).rounds) (sym recursive) one
 
-    pub loop_reached : AreRoundsReached codes stream (counts_before code place).rounds
-    loop_reached other e to found =
+    rounds_there_reached : (other : List Code) → codes.code stream ≡ Some other → (to : ℕ) → rounds_at other (counts_before code place).rounds ≡ Some to
+        → (push : ℕ) × (below : Shape) × Reached other to (in_rounds push below)
+    rounds_there_reached other e to found =
         let found_here : rounds_at code (counts_before code place).rounds ≡ Some to = subst (λ (c : List Code). rounds_at c (counts_before code place).rounds ≡ Some to) (same_code other e) found in
         let is : suc (0 + place) ≡ to = some_is (suc (0 + place)) to (sym (rounds_there 0 code place (push_loop flags) there counted_one) ∙ found_here) in
         let to_is : suc place ≡ to = omega (arith, is) in (
@@ -143,3 +147,6 @@ module _ (kind : StreamKind) (code : List Code) (good : IsGood kind code) (codes
           behind_push.0,
           subst (λ (c : List Code). Reached c to (in_rounds place behind_push.0)) (sym (same_code other e)) (subst (λ (n : ℕ). Reached code n (in_rounds place behind_push.0)) to_is behind_push.1),
         )
+
+    pub loop_reached : AreRoundsReached codes stream (counts_before code place).rounds
+    loop_reached = (is_known, rounds_there_reached)

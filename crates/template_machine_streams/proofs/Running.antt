@@ -10,7 +10,7 @@ use Rattle.template_values_errors.specs.declared.modes.AutoEscape.{AutoEscape}
 use Rattle.template_values_model.specs.Val.{Val}
 use Rattle.template_process.specs.Process as events
 use Rattle.template_process.specs.Process.{Looping}
-use Rattle.template_code.specs.Code.{Operand, single, Code, build_macro, push_with, pop_frame, push_loop, iterate, push_did_not_iterate, pop_loop_frame, push_auto_escape, pop_auto_escape, begin_capture, end_capture, return}
+use Rattle.template_code.specs.Code.{Operand, single, counted, counting, closure, Code, build_macro, push_with, pop_frame, push_loop, iterate, push_did_not_iterate, pop_loop_frame, push_auto_escape, pop_auto_escape, begin_capture, end_capture, return}
 use Rattle.template_code.specs.Counting as counts
 use Rattle.template_code.specs.Counting.{counts_before, is_recursive}
 use Rattle.template_code.specs.Prices.{price_of, steps}
@@ -120,23 +120,38 @@ rounds_given : (w : World) (b : Bool) (number : ℕ) (r : Rounds) → rounds_her
 rounds_given w true number r e = let is : record { stream = w.here; number = number } ≡ r = some_is (record { stream = w.here; number = number }) r e in (refl, is)
 rounds_given w false number r e = absurd (cc)
 
--- a run that has come to a place
-pub record At (names : List (List ℕ)) (codes : Codes) (code : List Code) (away : Away) (base : World) (loops : List (Option Loop)) (place : ℕ) (shape : Shape) (operands : List Operand) (w : World) : Type 0 where
+-- what is left at the end of a stream, where that is not the end of a macro's body
+abbrev pub LeftAtEnd : StreamKind → Bool → List Val → Type 0
+LeftAtEnd kind in_body vs = (length vs ≡ length (end_of kind).operands) ⊎ (in_body ≡ true)
+
+values_left : (kind : StreamKind) (os : List Operand) → map form_of os ++ [] ≡ (end_of kind).operands → length (values_in os) ≡ length (end_of kind).operands
+values_left Template [] e = refl
+values_left Template (o ∷ os) e = absurd (cc)
+values_left Expression [] e = absurd (cc)
+values_left Expression (single v ∷ []) e = refl
+values_left Expression (single v ∷ o ∷ os) e = absurd (cc)
+values_left Expression (counted vs ∷ os) e = absurd (cc)
+values_left Expression (counting vs v ∷ os) e = absurd (cc)
+values_left Expression (closure number ∷ os) e = absurd (cc)
+
+-- a run that has come to a place, inside of a macro's body or not
+pub record At (names : List (List ℕ)) (codes : Codes) (code : List Code) (away : Away) (base : World) (in_body : Bool) (loops : List (Option Loop)) (place : ℕ) (shape : Shape) (operands : List Operand) (w : World) : Type 0 where
   pub reached : Reached code place (over away.forms shape operands)
+  pub macro : shape.in_macro ≡ in_body
   pub opens : Opens away loops shape.frames
   pub fits : Fits names codes away base loops shape.escapes shape.captures w
 
 module _ (names : List (List ℕ)) (codes : Codes) (s : Programs) (depth : ℕ) (deeper : AllReach names codes s depth)
     (lists : (name : List ℕ) (h : Head) → s.around.head (standing name) ≡ Some h → is_among name names ≡ true)
-    (kind : StreamKind) (code : List Code) (good : IsGood kind code)
-    (away : Away) (base : World) (is_code : codes base.here ≡ Some code) (is_base : IsBase away base) (deep : depth ≤ least_of away + depth_of base) (keeps : Bool → World → Type 0) (so : (w : World) → Sound codes w → keeps false w)
-    (ends_so : (w : World) → away ≡ nothing_away → Fits names codes away base [] 0 0 w → keeps true w)
-    (rounds_so : (l : Loop) (w : World) → away.rounds ≡ true → Fits names codes away base (Some l ∷ []) away.escapes away.captures w → keeps true w) where
+    (kind : StreamKind) (code : List Code) (good : IsGood kind code) (in_body : Bool)
+    (away : Away) (base : World) (is_code : codes.code base.here ≡ Some code) (is_known : codes.known base.here ≡ true) (is_base : IsBase away base) (deep : depth ≤ least_of away + depth_of base) (keeps : Option (List Val) → World → Type 0) (so : (w : World) → Sound codes w → keeps None w)
+    (ends_so : (vs : List Val) (w : World) → away ≡ nothing_away → LeftAtEnd kind in_body vs → Fits names codes away base [] 0 0 w → keeps (Some vs) w)
+    (rounds_so : (l : Loop) (w : World) → away.rounds ≡ true → Fits names codes away base (Some l ∷ []) away.escapes away.captures w → keeps (Some []) w) where
   abbrev Runs : ℕ → List Operand → World → Type 0
   Runs to operands v = Comes s v keeps (λ m. exec code m to operands)
 
   abbrev Here : List (Option Loop) → ℕ → Shape → List Operand → World → Type 0
-  Here loops place shape operands w = At names codes code away base loops place shape operands w
+  Here loops place shape operands w = At names codes code away base in_body loops place shape operands w
 
   -- an instruction at a place
   acts : (to : ℕ) (c : Code) → slice_get code to ≡ Some c → (operands : List Operand) (v : World)
@@ -192,12 +207,14 @@ module _ (names : List (List ℕ)) (codes : Codes) (s : Programs) (depth : ℕ) 
         (item_asked s v keeps (so v at.fits.sound) l (rest ++ loops_of base.frames) at.fits.frames own (λ u m. exec code m (suc to) (single u ∷ operands)) (λ m. exec code m beyond operands)
         (λ u some. more u (next_world s v keeps (so v at.fits.sound) l (rest ++ loops_of base.frames) at.fits.frames own) some (record {
           reached = falls_to at.reached there is refl;
+          macro = at.macro;
           opens = again;
           fits = fits_framed names codes away base (Some l ∷ rest) (Some (asked_once l) ∷ rest) shape.escapes shape.captures v
               (next_world s v keeps (so v at.fits.sound) l (rest ++ loops_of base.frames) at.fits.frames own).frames (next_loops s v keeps (so v at.fits.sound) l (rest ++ loops_of base.frames) at.fits.frames own) (λ h. h) at.fits;
         }))
         (last (last_world s v keeps (so v at.fits.sound) l (rest ++ loops_of base.frames) at.fits.frames own) (record {
           reached = jumps_to at.reached there is refl;
+          macro = at.macro;
           opens = again;
           fits = fits_framed names codes away base (Some l ∷ rest) (Some (asked_once l) ∷ rest) shape.escapes shape.captures v
               (last_world s v keeps (so v at.fits.sound) l (rest ++ loops_of base.frames) at.fits.frames own).frames (last_loops s v keeps (so v at.fits.sound) l (rest ++ loops_of base.frames) at.fits.frames own) (λ h. h) at.fits;
@@ -228,7 +245,7 @@ module _ (names : List (List ℕ)) (codes : Codes) (s : Programs) (depth : ℕ) 
     abbrev sees : List Operand → Shape
     sees os = over away.forms shape os
 
-    stays : keeps false w
+    stays : keeps None w
     stays = so w at.fits.sound
 
     -- further on
@@ -239,15 +256,15 @@ module _ (names : List (List ℕ)) (codes : Codes) (s : Programs) (depth : ℕ) 
         f ls frames low more lowest few close to (omega (arith, lower, later)) (omega (arith, enough, later)) t os v fr here
 
     -- the run is over
-    kept_over : shape.frames ≡ [] → shape.escapes ≡ 0 → shape.captures ≡ 0 → keeps true w
-    kept_over none no_escapes no_captures =
+    kept_over : shape.frames ≡ [] → shape.escapes ≡ 0 → shape.captures ≡ 0 → (away ≡ nothing_away → LeftAtEnd kind in_body (values_in operands)) → keeps (Some (values_in operands)) w
+    kept_over none no_escapes no_captures few =
         let all = closed_all away loops shape.frames at.opens none in
         let fits : Fits names codes away base [] shape.escapes shape.captures w = fits_loops names codes away base loops [] shape.escapes shape.captures w all.0 at.fits in
-        ends_so w all.1 (subst (λ n. Fits names codes away base [] 0 n w) no_captures (subst (λ n. Fits names codes away base [] n shape.captures w) no_escapes fits))
+        ends_so (values_in operands) w all.1 (few all.1) (subst (λ n. Fits names codes away base [] 0 n w) no_captures (subst (λ n. Fits names codes away base [] n shape.captures w) no_escapes fits))
 
-    over_here : shape.frames ≡ [] → shape.escapes ≡ 0 → shape.captures ≡ 0 → Comes s w keeps (λ m. events.over (values_in operands))
-    over_here none no_escapes no_captures =
-        comes_over s w keeps (λ m. events.over (values_in operands)) (values_in operands) (kept_over none no_escapes no_captures) (λ n m. refl)
+    over_here : shape.frames ≡ [] → shape.escapes ≡ 0 → shape.captures ≡ 0 → (away ≡ nothing_away → LeftAtEnd kind in_body (values_in operands)) → Comes s w keeps (λ m. events.over (values_in operands))
+    over_here none no_escapes no_captures few =
+        comes_over s w keeps (λ m. events.over (values_in operands)) (values_in operands) (kept_over none no_escapes no_captures few) (λ n m. refl)
 
     module _ (inside : place < length code) where
       ahead : (to : ℕ) → place < to → (t : Shape) (os : List Operand) (v : World) → t.frames ≡ frames → Here loops to t os v → Runs to os v
@@ -299,7 +316,7 @@ module _ (names : List (List ℕ)) (codes : Codes) (s : Programs) (depth : ℕ) 
 
       -- what keeps the world
       kept_here : (to : ℕ) (os : List Operand) → Reached code to (sees os) → (v : World) → Held names codes w v → Here loops to shape os v
-      kept_here to os r v kept = record { reached = r; opens = at.opens; fits = fits_on names codes away base loops shape.escapes shape.captures w v at.fits kept }
+      kept_here to os r v kept = record { reached = r; macro = at.macro; opens = at.opens; fits = fits_on names codes away base loops shape.escapes shape.captures w v at.fits kept }
 
       framed : IsFramed w
       framed = framed_at names codes away base loops shape.frames shape.escapes shape.captures w is_base at.opens at.fits
@@ -320,7 +337,7 @@ module _ (names : List (List ℕ)) (codes : Codes) (s : Programs) (depth : ℕ) 
       makes_reached : (name : List ℕ) (offset flags : ℕ) → slice_get code place ≡ Some (build_macro name offset flags) → IsBodyReached codes w.here (counts_before code place).macros
       makes_reached name offset flags there =
           subst (λ (stream : Stream). IsBodyReached codes stream (counts_before code place).macros) (sym at.fits.here)
-          (macro_reached kind code good codes base.here is_code place name offset flags (sees operands) at.reached there)
+          (macro_reached kind code good codes base.here is_code is_known place name offset flags (sees operands) at.reached there)
 
       opens_reached : (flags : ℕ) → slice_get code place ≡ Some (push_loop flags)
           → (o : Option Rounds) → o ≡ rounds_here w (counts.looping flags (counts_before code place)).rounds → ForSome o (λ (r : Rounds). AreRoundsReached codes r.stream r.number)
@@ -328,7 +345,7 @@ module _ (names : List (List ℕ)) (codes : Codes) (s : Programs) (depth : ℕ) 
           let x = rounds_given w (is_recursive flags) (counts_before code place).rounds r (sym is ∙ e) in
           subst (λ (q : Rounds). AreRoundsReached codes q.stream q.number) x.1
           (subst (λ (stream : Stream). AreRoundsReached codes stream (counts_before code place).rounds) (sym at.fits.here)
-          (loop_reached kind code good codes base.here is_code place flags (sees operands) at.reached there x.0))
+          (loop_reached kind code good codes base.here is_code is_known place flags (sees operands) at.reached there x.0))
 
       plainly : (x : Code) → IsPlain x → slice_get code place ≡ Some x → Acts x
       plainly x p there =
@@ -369,6 +386,7 @@ module _ (names : List (List ℕ)) (codes : Codes) (s : Programs) (depth : ℕ) 
           with_pushed s w keeps stays (λ m. exec code m (suc place) operands)
           (λ more. within_frame None with_frame (record w { frames = empty_frame ∷ w.frames }) (shapes.opened with_frame shape) operands refl (λ push e. absurd (cc)) more (record {
             reached = falls_to at.reached there refl refl;
+            macro = at.macro;
             opens = with_open at.opens;
             fits = fits_framed names codes away base loops (None ∷ loops) shape.escapes shape.captures w (empty_frame ∷ w.frames) (ap (λ (ls : List (Option Loop)). None ∷ ls) at.fits.frames) (λ h. (tt, h)) at.fits;
           }))
@@ -386,6 +404,7 @@ module _ (names : List (List ℕ)) (codes : Codes) (s : Programs) (depth : ℕ) 
           with_popped s w keeps stays (x.rest ++ loops_of base.frames) fits.frames (closes names codes away base x.rest x.below shape.escapes shape.captures w is_base x.opens fits) (λ m. exec code m (suc place) operands)
           (closed_on None x.rest with_frame x.below x.are x.opened z (record {
             reached = r;
+            macro = at.macro;
             opens = x.opens;
             fits = fits_framed names codes away base (None ∷ x.rest) x.rest shape.escapes shape.captures w z.frames (with_loops s w keeps stays (x.rest ++ loops_of base.frames) fits.frames) (λ h. h.1) fits;
           }))
@@ -424,6 +443,7 @@ module _ (names : List (List ℕ)) (codes : Codes) (s : Programs) (depth : ℕ) 
           within_frame (Some l) f (in_loop s w keeps stays how vs) (shapes.opened f shape) x.rest refl
           (λ push e. loop_place (is_recursive flags) (record { operands = length (sees x.rest).operands; escapes = shape.escapes; captures = shape.captures }) push e) more (record {
             reached = r;
+            macro = at.macro;
             opens = opens_loop (is_recursive flags) l x.rest refl;
             fits = fits_framed names codes away base loops (Some l ∷ loops) shape.escapes shape.captures (counted_loop w) (in_loop s w keeps stays how vs).frames (ap (λ (ls : List (Option Loop)). Some l ∷ ls) at.fits.frames)
                 (λ h. (opens_reached flags there l.rounds refl, h)) (fits_counted names codes away base loops shape.escapes shape.captures w at.fits);
@@ -439,7 +459,7 @@ module _ (names : List (List ℕ)) (codes : Codes) (s : Programs) (depth : ℕ) 
           let r : Reached code (suc place) (shapes.given 1 (sees operands)) = falls_to at.reached there (ap (λ b. cond b (Some on) None) may.0) refl in
           given_none s w keeps stays x.loop (x.rest ++ loops_of base.frames) fits.frames (owns names codes away base x.loop x.rest shape.escapes shape.captures w is_base fits x.may)
           (λ v m. exec code m (suc place) (single v ∷ operands))
-          (λ v. next shape (single v ∷ operands) w same (record { reached = r; opens = at.opens; fits = at.fits }))
+          (λ v. next shape (single v ∷ operands) w same (record { reached = r; macro = at.macro; opens = at.opens; fits = at.fits }))
 
       own_closed : (t : Shape) → loop_closed (sees operands) shape.frames ≡ Some t → slice_get code place ≡ Some pop_loop_frame → LoopClosed away (sees operands) loops shape.frames t → Acts pop_loop_frame
       own_closed t is there x =
@@ -450,6 +470,7 @@ module _ (names : List (List ℕ)) (codes : Codes) (s : Programs) (depth : ℕ) 
           loop_popped s w keeps stays x.loop (x.rest ++ loops_of base.frames) fits.frames own x.called (λ m. exec code m (suc place) operands)
           (closed_on (Some x.loop) x.rest x.frame x.below x.are x.opened z (record {
             reached = r;
+            macro = at.macro;
             opens = x.opens;
             fits = fits_framed names codes away base (Some x.loop ∷ x.rest) x.rest shape.escapes shape.captures (loop_left w x.loop) z.frames (rest_loops s w keeps stays x.loop (x.rest ++ loops_of base.frames) fits.frames own)
                 (λ h. h.1) (fits_left names codes away base (Some x.loop ∷ x.rest) shape.escapes shape.captures w fits x.loop (top_sound names codes away base x.loop x.rest shape.escapes shape.captures w fits));
@@ -486,6 +507,7 @@ module _ (names : List (List ℕ)) (codes : Codes) (s : Programs) (depth : ℕ) 
           (escape_pushed s w keeps stays x.top (λ m. exec code m (suc place) x.rest)
           (λ rule. next (with_escape shape) x.rest (escaping s w keeps stays rule) same (record {
             reached = r;
+            macro = at.macro;
             opens = at.opens;
             fits = record { frames = at.fits.frames; outer = at.fits.outer; floor = at.fits.floor; saved = saved; caught = at.fits.caught; meets = at.fits.meets; loads = at.fits.loads; added = at.fits.added; escaped = escaped; capturing = at.fits.capturing; sound = record { macros = at.fits.sound.macros; frames = at.fits.sound.frames; closed = at.fits.sound.closed }; here = at.fits.here };
           })))
@@ -506,6 +528,7 @@ module _ (names : List (List ℕ)) (codes : Codes) (s : Programs) (depth : ℕ) 
           let escaped : away.escapes ≤ pred shape.escapes = omega (arith, one, low_here, more) in
           next (record shape { escapes = pred shape.escapes }) operands (record w { escape = rule; saved = rest }) same (record {
             reached = r;
+            macro = at.macro;
             opens = at.opens;
             fits = record { frames = at.fits.frames; outer = at.fits.outer; floor = at.fits.floor; saved = saved; caught = at.fits.caught; meets = at.fits.meets; loads = at.fits.loads; added = at.fits.added; escaped = escaped; capturing = at.fits.capturing; sound = record { macros = at.fits.sound.macros; frames = at.fits.sound.frames; closed = at.fits.sound.closed }; here = at.fits.here };
           }))
@@ -518,6 +541,7 @@ module _ (names : List (List ℕ)) (codes : Codes) (s : Programs) (depth : ℕ) 
           capture_pushed s w keeps stays keep (λ m. exec code m (suc place) operands)
           (next (with_capture shape) operands (record w { captures = capture_begun keep ∷ w.captures }) same (record {
             reached = falls_to at.reached there refl refl;
+            macro = at.macro;
             opens = at.opens;
             fits = record { frames = at.fits.frames; outer = at.fits.outer; floor = at.fits.floor; saved = at.fits.saved; caught = caught; meets = at.fits.meets; loads = at.fits.loads; added = at.fits.added; escaped = at.fits.escaped; capturing = capturing; sound = record { macros = at.fits.sound.macros; frames = at.fits.sound.frames; closed = at.fits.sound.closed }; here = at.fits.here };
           }))
@@ -538,6 +562,7 @@ module _ (names : List (List ℕ)) (codes : Codes) (s : Programs) (depth : ℕ) 
           let capturing : away.captures ≤ pred shape.captures = omega (arith, one, low_here, more) in
           next (record shape { captures = pred shape.captures }) (single v ∷ operands) (record w { captures = rest }) same (record {
             reached = r;
+            macro = at.macro;
             opens = at.opens;
             fits = record { frames = at.fits.frames; outer = at.fits.outer; floor = at.fits.floor; saved = at.fits.saved; caught = caught; meets = at.fits.meets; loads = at.fits.loads; added = at.fits.added; escaped = at.fits.escaped; capturing = capturing; sound = record { macros = at.fits.sound.macros; frames = at.fits.sound.frames; closed = at.fits.sound.closed }; here = at.fits.here };
           }))
@@ -549,7 +574,7 @@ module _ (names : List (List ℕ)) (codes : Codes) (s : Programs) (depth : ℕ) 
           let inner_parts = and_parts shape.in_macro (is_none_left (sees operands).operands shape.frames && ((shape.escapes == 0) && (shape.captures == 0))) may.0 in
           let none = and_parts (is_none_left (sees operands).operands shape.frames) ((shape.escapes == 0) && (shape.captures == 0)) inner_parts.1 in
           let numbers = and_parts (shape.escapes == 0) (shape.captures == 0) none.1 in
-          over_here (none_left (sees operands).operands shape.frames none.0) (eqb-true shape.escapes 0 numbers.0) (eqb-true shape.captures 0 numbers.1)
+          over_here (none_left (sees operands).operands shape.frames none.0) (eqb-true shape.escapes 0 numbers.0) (eqb-true shape.captures 0 numbers.1) (λ none_away. inr (sym at.macro ∙ inner_parts.0))
 
       act_on : (x : Code) → slice_get code place ≡ Some x → (is_iterate (Some x) ≡ false) → Acts x
       act_on push_with there other = with_frame_pushed there
@@ -573,7 +598,8 @@ module _ (names : List (List ℕ)) (codes : Codes) (s : Programs) (depth : ℕ) 
         let is : sees operands ≡ end_of kind = good.over (sees operands) reached in
         comes_more s w keeps (λ m. exec code m place operands) (λ m. events.over (values_in operands))
         (λ m. ap (λ (o : Option Code). act (exec code m) (counts_before code place) o place operands) there)
-        (over_here (ap (λ (t : Shape). t.frames) is ∙ end_frames kind) (ap (λ (t : Shape). t.escapes) is ∙ end_escapes kind) (ap (λ (t : Shape). t.captures) is ∙ end_captures kind))
+        (over_here (ap (λ (t : Shape). t.frames) is ∙ end_frames kind) (ap (λ (t : Shape). t.escapes) is ∙ end_escapes kind) (ap (λ (t : Shape). t.captures) is ∙ end_captures kind)
+        (λ none_away. inl (values_left kind operands (ap (λ (a : Away). map form_of operands ++ a.forms) (sym none_away) ∙ ap (λ (t : Shape). t.operands) is))))
 
     iterates : (to : ℕ) → slice_get code place ≡ Some (iterate to) → Runs place operands w
     iterates to there =
@@ -610,7 +636,8 @@ module _ (names : List (List ℕ)) (codes : Codes) (s : Programs) (depth : ℕ) 
 
   -- from a place at which no frame is open, or that of the rounds alone
   pub runs_from : (loops : List (Option Loop)) (low : ℕ) (place : ℕ) (shape : Shape) (operands : List Operand) (w : World) → Reached code place (over away.forms shape operands)
+      → shape.in_macro ≡ in_body
       → Opens away loops shape.frames → Fits names codes away base loops shape.escapes shape.captures w → Lowest low shape.frames → Closing loops shape.frames low → low ≤ place → Runs place operands w
-  runs_from loops low place shape operands w reached opens fits lowest closing lower =
+  runs_from loops low place shape operands w reached macro opens fits lowest closing lower =
       by_levels s.around.limit (left_in loops) (length code) loops shape.frames low (omega arith) lowest (omega arith) closing place lower (omega arith) shape operands w refl
-      (record { reached = reached; opens = opens; fits = fits })
+      (record { reached = reached; macro = macro; opens = opens; fits = fits })

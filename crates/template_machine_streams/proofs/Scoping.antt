@@ -20,7 +20,7 @@ use Rattle.template_machine_meaning.specs.Surroundings.{Programs, pushed, rounds
 use Rattle.template_machine_meaning.proofs.Keeping.{loops_of, Top, top, on_own_is, on_loop_is}
 use Rattle.template_machine_streams.proofs.Coming.{Bounded, Comes, comes_behind}
 
-module _ (s : Programs) (w : World) (keeps : Bool → World → Type 0) (stays : keeps false w) where
+module _ (s : Programs) (w : World) (keeps : Option (List Val) → World → Type 0) (stays : keeps None w) where
   -- an event that is done leads to what follows, in another world
   pub comes_to : (z : World) (e : Ask) (Q : Bounded) → ((n : ℕ) → answer s n w e ≡ changed z done) → Comes s z keeps Q → Comes s w keeps (λ m. asks e (on_done (Q m)))
   comes_to z e Q is h =
@@ -114,7 +114,7 @@ module _ (s : Programs) (w : World) (keeps : Bool → World → Type 0) (stays :
         (λ n. on_loop_is w here.frame here.rest l here.frames own here.own (λ f k fs. closed_reply w k fs) ∙ ap (λ b. if b then told w leaves else changed behind_loop done) called) h
 
     -- where its rounds were called its frame stays, and the run ends
-    pub rounds_left : l.called ≡ true → keeps true w → (Q : Bounded) → Comes s w keeps (λ m. asks close_loop (on_done (Q m)))
+    pub rounds_left : l.called ≡ true → keeps (Some []) w → (Q : Bounded) → Comes s w keeps (λ m. asks close_loop (on_done (Q m)))
     rounds_left called kept Q = inl (record {
       items = [];
       least = 0;

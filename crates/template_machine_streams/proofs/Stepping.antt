@@ -60,7 +60,7 @@ IsPlain _ = Unit {0}
 
 module _ (names : List (List ℕ)) (codes : Codes) (s : Programs) (depth : ℕ) (deeper : AllReach names codes s depth)
     (lists : (name : List ℕ) (h : Head) → s.around.head (standing name) ≡ Some h → is_among name names ≡ true)
-    (keeps : Bool → World → Type 0) (so : (v : World) → Sound codes v → keeps false v) (code : List Code) (under : List Form) (place : ℕ) (shape : Shape) (low : length under ≤ (floor_of shape.frames).operands)
+    (keeps : Option (List Val) → World → Type 0) (so : (v : World) → Sound codes v → keeps None v) (code : List Code) (under : List Form) (place : ℕ) (shape : Shape) (low : length under ≤ (floor_of shape.frames).operands)
     (w : World) (sound : Sound codes w) (framed : IsFramed w) (deep : depth ≤ depth_of w) where
   abbrev at : List Operand → Shape
   at operands = over under shape operands

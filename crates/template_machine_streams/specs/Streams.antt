@@ -1,6 +1,6 @@
 -- Streams of instructions as programs: the code of each runs from its start, from where a macro's body begins, or from behind where a
 -- loop is opened that is called again.
-use Rattle.std.specs.Prelude.{◌≡◌, ℕ, ◌==◌, List, [], length, map, Option, None, Some, option_map, All, if◌then◌else◌}
+use Rattle.std.specs.Prelude.{◌≡◌, ℕ, ◌==◌, Bool, true, List, [], length, map, Option, None, Some, option_map, All, if◌then◌else◌}
 use Rattle.std.specs.Option.{ForSome, option_and_then}
 use Rattle.template_values_model.specs.Val.{Val}
 use Rattle.template_process.specs.Process.{Process}
@@ -18,9 +18,10 @@ use Rattle.template_machine_meaning.specs.World.{Rounds, Loop, Macro, World}
 use Rattle.template_machine_meaning.specs.Records.{all_loops}
 use Rattle.template_machine_meaning.specs.Surroundings.{Programs}
 
--- the code of each stream that there is
-abbrev pub Codes : Type 0
-Codes = Stream → Option (List Code)
+-- The code of each stream that there is; and the streams that may be known, which there are, or have been.
+pub record Codes : Type 0 where
+  pub code : Stream → Option (List Code)
+  pub known : Stream → Bool
 
 -- the body of a macro, over one argument for each parameter, the last one on top
 abbrev pub body_run : ℕ → List Val → List Code → MacroPlace → Option Process
@@ -34,18 +35,19 @@ part_run n (rounds_of number) code = option_map (λ place. exec code n place [])
 
 -- what each key runs
 abbrev pub programs_of : Codes → Around → Programs
-programs_of codes around = record { process = λ n key. option_and_then (part_run n key.part) (codes key.stream); around = around }
+programs_of codes around = record { process = λ n key. option_and_then (part_run n key.part) (codes.code key.stream); around = around }
 
 -- a stream that is good as one of its kinds
 pub record IsVerified (code : List Code) : Type 0 where
   pub kind : StreamKind
   pub good : IsGood kind code
 
--- the body of a macro of a stream is reached where it begins, with a value for each of its parameters
+-- the body of a macro of a known stream is reached where it begins, with a value for each of its parameters
 abbrev pub IsBodyReached : Codes → Stream → ℕ → Type 0
 IsBodyReached codes stream number =
-    (code : List Code) → codes stream ≡ Some code → (m : MacroPlace) → macro_at code number ≡ Some m
-    → Reached code m.offset (shapes.body_of m.count)
+    (codes.known stream ≡ true)
+    × ((code : List Code) → codes.code stream ≡ Some code → (m : MacroPlace) → macro_at code number ≡ Some m
+    → Reached code m.offset (shapes.body_of m.count))
 
 -- the shape in which the rounds of a loop begin that is opened at a place, over what the loop finds
 abbrev pub floor_at : Shape → Floor
@@ -54,11 +56,12 @@ floor_at below = record { operands = length below.operands; escapes = below.esca
 abbrev pub in_rounds : ℕ → Shape → Shape
 in_rounds push below = opened (recursive_frame push (floor_at below)) below
 
--- the rounds of a loop of a stream are reached where they begin
+-- the rounds of a loop of a known stream are reached where they begin
 abbrev pub AreRoundsReached : Codes → Stream → ℕ → Type 0
 AreRoundsReached codes stream number =
-    (code : List Code) → codes stream ≡ Some code → (place : ℕ) → rounds_at code number ≡ Some place
-    → (push : ℕ) × (below : Shape) × Reached code place (in_rounds push below)
+    (codes.known stream ≡ true)
+    × ((code : List Code) → codes.code stream ≡ Some code → (place : ℕ) → rounds_at code number ≡ Some place
+    → (push : ℕ) × (below : Shape) × Reached code place (in_rounds push below))
 
 abbrev pub IsLoopReached : Codes → Option Loop → Type 0
 IsLoopReached codes None = Unit {0}

@@ -17,7 +17,7 @@ pub returns-clause-spares : goal.returns-clause-spares
 returns-clause-spares g c = sink_spares 0 c.run_entry-told.result c.run_entry-told.ensures.failures
 
 pub returns-clause-rest : goal.returns-clause-rest
-returns-clause-rest g c = record { environment = refl; template = refl; id = refl; fuel = c.spend-self.ensures.set }
+returns-clause-rest g c = record { environment = refl; template = refl; id = refl; fuel = c.spend-self.ensures.set; streams = refl }
 
 pub returns-clause-keeps : goal.returns-clause-keeps
 returns-clause-keeps g c = c.run_entry-told.ensures.keeps

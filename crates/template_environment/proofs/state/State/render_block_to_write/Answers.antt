@@ -29,7 +29,7 @@ pub returns-in-Ok-clause-failures : goal.returns-in-Ok-clause-failures
 returns-in-Ok-clause-failures g c = told_answers c.run_block-done.result (Ok tt) _ _ (ap by_kinds (sym c.in-Ok.is)) c.run_block-done.ensures.failures
 
 pub returns-in-Ok-clause-rest : goal.returns-in-Ok-clause-rest
-returns-in-Ok-clause-rest g c = record { environment = refl; template = refl; id = refl; fuel = c.spend-self.ensures.set }
+returns-in-Ok-clause-rest g c = record { environment = refl; template = refl; id = refl; fuel = c.spend-self.ensures.set; streams = refl }
 
 pub returns-in-Ok-clause-keeps : goal.returns-in-Ok-clause-keeps
 returns-in-Ok-clause-keeps g c = c.run_block-done.ensures.keeps
@@ -78,7 +78,7 @@ pub returns-clause-failures : goal.returns-clause-failures
 returns-clause-failures g c = told_answers c.run_block-done.result (Err c.into_error.result) _ _ (ap (λ (ks : List ErrorKind). Err ks) c.into_error.ensures ∙ ap by_kinds (sym c.in-Err.is)) c.run_block-done.ensures.failures
 
 pub returns-clause-rest : goal.returns-clause-rest
-returns-clause-rest g c = record { environment = refl; template = refl; id = refl; fuel = c.spend-self.ensures.set }
+returns-clause-rest g c = record { environment = refl; template = refl; id = refl; fuel = c.spend-self.ensures.set; streams = refl }
 
 pub returns-clause-keeps : goal.returns-clause-keeps
 returns-clause-keeps g c = c.run_block-done.ensures.keeps

@@ -8,12 +8,20 @@ use template_code::{
 use template_values_core::Value;
 use template_values_errors::{Error, ErrorKind};
 
-/// The instruction that a word says, or a word with a number or a name's letter.
-pub(crate) fn instruction(alloc: Global, step: &Json) -> Result<Instruction<'static>, Error> {
+/// The instruction that a word says, or a word with a number or a name's letter; or `constant` with a text.
+///
+/// # Errors
+///
+/// `SyntaxError` where none is said; `OutOfMemory`.
+pub fn instruction(alloc: Global, step: &Json) -> Result<Instruction<'static>, Error> {
     match step {
         Json::String(word) => known(plain(word.as_str())),
         Json::Array(pair) => match pair.as_slice() {
-            [Json::String(word), Json::String(name)] => known(named(word.as_str(), name.as_str())),
+            [Json::String(word), Json::String(name)] => lettered(
+                alloc,
+                word.as_str(),
+                name.as_str(),
+            ),
             [Json::String(word), number] => numbered(alloc, word.as_str(), number),
             _ => known(None),
         },
@@ -25,6 +33,14 @@ fn known(instruction: Option<Instruction<'static>>) -> Result<Instruction<'stati
     match instruction {
         Some(instruction) => Ok(instruction),
         None => Err(Error::new(ErrorKind::SyntaxError)),
+    }
+}
+
+// The text itself, or one with a name: a letter.
+fn lettered(alloc: Global, word: &str, name: &str) -> Result<Instruction<'static>, Error> {
+    match word {
+        "constant" => Ok(Instruction::LoadConst(Value::from_str(alloc, name)?)),
+        _ => known(named(word, name)),
     }
 }
 
@@ -107,6 +123,7 @@ fn named(word: &str, name: &str) -> Option<Instruction<'static>> {
         _ => "d",
     });
     match word {
+        "text" => Some(Instruction::EmitRaw(name)),
         "lookup" => Some(Instruction::Lookup(name)),
         "store" => Some(Instruction::StoreLocal(name)),
         "function" => Some(Instruction::CallFunction(name, Some(0))),

@@ -1,0 +1,4 @@
+mod Good
+mod Held
+mod Ending
+mod Rendered
