@@ -53,7 +53,8 @@
 //!   [`AutoEscapeRule`] of the [`Extension`], which gives the escape of each name from then on.
 //! - [`Environment::context_names`] gives the names of a context that can matter to a render.
 //! - [`verify`] accepts instructions from anywhere that never lack an operand, a frame, a loop, an escape or a
-//!   capture. [`FuelTracker`] counts a fuel down along instructions.
+//!   capture, and [`check_template`] has the streams of a [`CompiledTemplate`] accepted. [`FuelTracker`] counts a fuel down along
+//!   instructions.
 //!
 //! # What is proved
 //!
@@ -99,6 +100,9 @@ pub use template_code_shapes::good_ends_well;
 pub use template_code_shapes::good_goes_on;
 pub use template_compiled::CompiledTemplate;
 pub use template_compiled::TemplateConfig;
+pub use template_compiled_checked::CheckedBlock;
+pub use template_compiled_checked::CheckedTemplate;
+pub use template_compiled_checked::check_template;
 pub use template_compiler_syntax::StartMarker;
 pub use template_compiler_syntax::SyntaxConfig;
 pub use template_compiler_syntax::SyntaxConfigBuilder;
