@@ -12,7 +12,7 @@ use Rattle.template_values_model.specs.Val.{Val, Pairs, int}
 use Rattle.template_values_core.specs.Answers.{text_in}
 use Rattle.template_values_core.specs.Order.{val_cmp}
 use Rattle.template_values_core.specs.Reads.{whole_number}
-use Rattle.template_values_kwargs.specs.Keywords.{keywords, argument}
+use Rattle.template_values_named.specs.Keywords.{keywords, argument}
 use Rattle.template_values_named.specs.Named.{local_at}
 use Rattle.template_values_operators.specs.Kinds.{list_made}
 use Rattle.template_values_operators.specs.Products.{product_of}

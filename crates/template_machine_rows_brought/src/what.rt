@@ -3,7 +3,7 @@ ghost use Rattle.std.specs.Prelude.{◌≡◌, ◌⊎◌, ◌∷◌, [], IfErr, 
 ghost use Rattle.template_values_errors.specs.Memory.{NoMemory};
 ghost use Rattle.template_values_core.specs.Answers.{text_in};
 ghost use Rattle.template_values_core.specs.Reads.{whole_number};
-ghost use Rattle.template_values_kwargs.specs.Keywords.{keywords};
+ghost use Rattle.template_values_named.specs.Keywords.{keywords};
 ghost use Rattle.template_values_model.specs.Gives.{Gives};
 ghost use Rattle.template_values_model.specs.Val as values;
 ghost use Rattle.template_callables.specs.Answers.{Answers};
@@ -17,7 +17,7 @@ use std::alloc::Global;
 use template_callables::{Answer, CallView, Further, copy_all};
 use template_values_core::Value;
 use template_values_errors::{AutoEscape, Error, ErrorKind, UndefinedBehavior};
-use template_values_kwargs::Kwargs;
+use template_values_named::Kwargs;
 use template_values_operators::growth::copy_or_undefined;
 use template_values_operators::kinds::list_made;
 use template_values_operators::mul;

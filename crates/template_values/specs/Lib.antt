@@ -14,7 +14,7 @@ pub use Rattle.template_values_core.specs.Order
 pub use Rattle.template_values_core.specs.OrderLaws
 pub use Rattle.template_values_core.specs.Reads
 pub use Rattle.template_values_core.specs.Shape
-pub use Rattle.template_values_kwargs.specs.Keywords
+pub use Rattle.template_values_named.specs.Keywords
 pub use Rattle.template_values_forms.specs.Answers as FormAnswers
 pub use Rattle.template_values_forms.specs.Known
 pub use Rattle.template_values_forms.specs.Printed

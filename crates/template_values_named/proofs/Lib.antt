@@ -1,2 +1,3 @@
 mod Naming
 mod Listing
+pub mod Named

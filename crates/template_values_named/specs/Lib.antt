@@ -1,2 +1,4 @@
 pub mod Named
 pub mod Codes
+pub mod Keywords
+pub mod Code

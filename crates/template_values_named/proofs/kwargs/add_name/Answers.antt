@@ -1,7 +1,7 @@
 use Rattle.std.proofs.Common.{◌≡◌, ◌∙◌, ap, Bool, true, false, cond, ◌||◌, refl, string_bytes, bytes_eq}
 use Rattle.std.specs.BTreeSet.{contains_text}
 use Rattle.std.proofs.lemmas.Map.Text.{btree_set_updates_text}
-use Rattle.template_values_kwargs.proofs.kwargs.add_name.Goals as goal
+use Rattle.template_values_named.proofs.kwargs.add_name.Goals as goal
 
 cond_or : (test before : Bool) → cond test true before ≡ (before || test)
 cond_or true true = refl

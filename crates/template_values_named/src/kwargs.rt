@@ -6,7 +6,7 @@ ghost use Rattle.template_values_model.specs.Gives.{Gives, TellsFault};
 ghost use Rattle.template_values_model.specs.Lookup.{is_text};
 ghost use Rattle.template_values_core.specs.Maps.{pairs_of};
 ghost use Rattle.template_values_core.specs.Shape.{pairs_in};
-ghost use Rattle.template_values_kwargs.specs.Keywords.{HasJustNames, argument, keywords};
+ghost use Rattle.template_values_named.specs.Keywords.{HasJustNames, argument, keywords};
 
 use std::alloc::Global;
 use std::collections::BTreeSet;
@@ -22,8 +22,8 @@ pub struct Kwargs {
 
 impl Model for Kwargs {
     ghost use Rattle.template_values_model.specs.Val.{Pairs};
-    ghost use Rattle.template_values_kwargs.specs.Code.{pairs_code};
-    ghost use Rattle.template_values_kwargs.specs.Keywords.{IsKeywordMap, keyword_pairs};
+    ghost use Rattle.template_values_named.specs.Code.{pairs_code};
+    ghost use Rattle.template_values_named.specs.Keywords.{IsKeywordMap, keyword_pairs};
 
     ghost Value = { Pairs };
 

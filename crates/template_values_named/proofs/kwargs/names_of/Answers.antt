@@ -1,8 +1,8 @@
 use Rattle.std.proofs.Common.{◌≡◌, ◌∙◌, ap, List, take}
 use Rattle.std.proofs.lemmas.List.{take_all}
 use Rattle.template_values_core.specs.declared.value.Entry.{Entry}
-use Rattle.template_values_kwargs.proofs.Named.{is_named, named_found}
-use Rattle.template_values_kwargs.proofs.kwargs.names_of.Goals as goal
+use Rattle.template_values_named.proofs.Named.{is_named, named_found}
+use Rattle.template_values_named.proofs.kwargs.names_of.Goals as goal
 
 -- the loop has gone over all entries
 pub returns-clause-names : goal.returns-clause-names

@@ -1,2 +1,0 @@
-pub mod Keywords
-pub mod Code
