@@ -4,7 +4,7 @@ use Rattle.template_values_errors.specs.declared.ErrorKind.{ErrorKind}
 use Rattle.template_values_model.specs.Fault.{Fault}
 use Rattle.template_values_model.specs.Gives as values
 use Rattle.template_values_model.specs.Val.{Val}
-use Rattle.template_values_frozen.specs.Frozen.{frozen}
+use Rattle.template_values_forms.specs.Frozen.{frozen}
 use Rattle.template_process.specs.Drive.{ends, faults}
 use Rattle.template_process.specs.Fuel.{under}
 use Rattle.template_process.specs.Trace.{Run}

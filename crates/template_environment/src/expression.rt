@@ -25,7 +25,7 @@ use template_machine_renders::{Program, run_expression};
 use template_machine_surroundings::StateIds;
 use template_values_core::Value;
 use template_values_errors::{Error, ErrorKind};
-use template_values_frozen::freeze;
+use template_values_forms::freeze;
 
 // The name that an expression runs under.
 const EXPRESSION: &str = "<expression>";

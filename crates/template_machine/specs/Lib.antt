@@ -3,7 +3,7 @@ pub use Rattle.template_values_errors.specs.Memory
 pub use Rattle.template_values_errors.specs.Names as ErrorNames
 pub use Rattle.template_values_model.specs.Val
 pub use Rattle.template_values_model.specs.Lookup
-pub use Rattle.template_values_frozen.specs.Frozen
+pub use Rattle.template_values_forms.specs.Frozen
 pub use Rattle.template_values_named.specs.Named
 pub use Rattle.template_machine_surroundings.specs.Rule
 pub use Rattle.template_machine_surroundings.specs.Failures

@@ -5,7 +5,7 @@ use Rattle.template_walk.specs.Counting.{MacroBody}
 use Rattle.std.specs.Prelude.{IsTrue}
 use Rattle.template_values_model.specs.Val.{Val}
 use Rattle.template_values_forms.specs.Known as forms
-use Rattle.template_values_frozen.specs.Frozen.{frozen}
+use Rattle.template_values_forms.specs.Frozen.{frozen}
 use Rattle.template_tree.specs.Tree.{Expression}
 use Rattle.template_names.specs.Names.{stands_in}
 use Rattle.template_process.specs.Process.{Process, over}

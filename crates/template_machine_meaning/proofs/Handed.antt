@@ -5,7 +5,7 @@ use Rattle.template_values_errors.specs.declared.ErrorKind.{ErrorKind}
 use Rattle.template_values_errors.specs.declared.ErrorKind.TheVariants.{OutOfFuel}
 use Rattle.template_values_model.specs.Fault.{Fault, invalid_operation, bad_serialization, missing_argument}
 use Rattle.template_values_model.specs.Val.{Val}
-use Rattle.template_values_frozen.specs.Frozen.{frozen}
+use Rattle.template_values_forms.specs.Frozen.{frozen}
 use Rattle.template_process.specs.Drive.{End, ends, faults}
 use Rattle.template_process.specs.Trace.{Run, price_of}
 use Rattle.template_process.specs.Fuel.{items_before, wraps_at, under}

@@ -6,7 +6,7 @@ use Rattle.template_values_errors.specs.declared.modes.AutoEscape.{AutoEscape}
 use Rattle.template_values_errors.specs.declared.modes.AutoEscape.TheVariants as escapes
 use Rattle.template_values_errors.specs.declared.modes.UndefinedBehavior.{UndefinedBehavior}
 use Rattle.template_values_model.specs.Val.{Val}
-use Rattle.template_values_frozen.specs.Frozen.{frozen}
+use Rattle.template_values_forms.specs.Frozen.{frozen}
 use Rattle.template_callables.specs.Callables.{Callables}
 use Rattle.template_callables.specs.Joins.{Joins}
 use Rattle.template_tree.specs.Tree.{Expression, Statements}

@@ -7,3 +7,5 @@ pub mod Escaped
 pub mod Truth
 pub mod Concatenation
 pub mod Views
+pub mod Frozen
+pub mod Given

@@ -1,8 +1,13 @@
 //! The texts that values print, their escapes, the numbers of JSON, what is known of records, and how values look into them.
+//!
+//! A value as it is once it has left the state that made its namespaces.
 #![tactic(auto)]
 
+mod freezing;
+mod namespaces;
 mod records;
 
+pub use freezing::freeze;
 pub use records::{LoopView, MacroView, NoRecords, Records};
 
 /// The least whole number that is written as JSON.

@@ -7,7 +7,7 @@ use Rattle.template_values_core.specs.Maps.{pairs_of}
 use Rattle.template_values_core.specs.Shape.{pairs_in}
 use Rattle.template_values_core.specs.declared.value.Entry.{Entry}
 use Rattle.template_values_forms.specs.Known.{Known}
-use Rattle.template_values_frozen.specs.Frozen.{frozen_pairs, frozen_vals, inner_frozen}
+use Rattle.template_values_forms.specs.Frozen.{frozen_pairs, frozen_vals, inner_frozen}
 
 abbrev pub values_given : {Z : Type 0} → Result (Vec Val Z) (List ErrorKind) → Result (List Val) (List ErrorKind)
 values_given (Ok vs) = Ok vs.items

@@ -5,8 +5,8 @@ ghost use Rattle.template_values_core.specs.Depth.{depth};
 ghost use Rattle.template_values_core.specs.Kept.{IsRising};
 ghost use Rattle.template_values_core.specs.Maps.{pairs_of};
 ghost use Rattle.template_values_core.specs.Shape.{pairs_in};
-ghost use Rattle.template_values_frozen.specs.Frozen.{holds_namespace, pairs_hold_namespace, vals_hold_namespace};
-ghost use Rattle.template_values_frozen.specs.Given.{PairsStay, Stays, ValsStay};
+ghost use Rattle.template_values_forms.specs.Frozen.{holds_namespace, pairs_hold_namespace, vals_hold_namespace};
+ghost use Rattle.template_values_forms.specs.Given.{PairsStay, Stays, ValsStay};
 
 use template_values_core::{Content, Entry, Value};
 use template_values_model::DEPTH_LIMIT;

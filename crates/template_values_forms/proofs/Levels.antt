@@ -12,7 +12,7 @@ use Rattle.template_values_core.specs.Maps.{collected, pairs_of, put_all}
 use Rattle.template_values_core.specs.Order.{val_cmp}
 use Rattle.template_values_forms.specs.Answers.{mapped}
 use Rattle.template_values_forms.specs.Known.{Known}
-use Rattle.template_values_frozen.specs.Frozen.{both, flat_frozen, frozen_namespace, frozen_pairs, frozen_vals, inner_frozen, list_holding, map_holding, nested_frozen, one_more}
+use Rattle.template_values_forms.specs.Frozen.{both, flat_frozen, frozen_namespace, frozen_pairs, frozen_vals, inner_frozen, list_holding, map_holding, nested_frozen, one_more}
 
 -- ---- maps nest no deeper than the pairs that they are made from
 

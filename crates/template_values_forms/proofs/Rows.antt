@@ -7,7 +7,7 @@ use Rattle.template_values_core.specs.Maps.{pairs_of}
 use Rattle.template_values_forms.specs.Answers.{mapped}
 use Rattle.template_values_forms.specs.Known.{Known}
 use Rattle.template_values_forms.specs.Printed as printed_forms
-use Rattle.template_values_frozen.specs.Frozen.{both, frozen, inner_frozen, map_holding, one_more}
+use Rattle.template_values_forms.specs.Frozen.{both, frozen, inner_frozen, map_holding, one_more}
 
 abbrev number : ℕ → Val
 number n = int (pos n)

@@ -1,6 +1,6 @@
 use Rattle.std.proofs.Common.{arith}
 use Rattle.template_values_forms.specs.Printed.{level_limit}
-use Rattle.template_values_frozen.proofs.freezing.freeze.Goals as goal
+use Rattle.template_values_forms.proofs.freezing.freeze.Goals as goal
 
 pub returns-then-not-holds_namespace : goal.returns-then-not-holds_namespace
 unfolding level_limit

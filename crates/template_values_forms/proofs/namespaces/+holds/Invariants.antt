@@ -3,9 +3,9 @@ use Rattle.template_values_model.specs.Val.{vals_of}
 use Rattle.template_values_core.specs.Depth.{depth, vals_depth, pairs_depth}
 use Rattle.template_values_core.specs.Maps.{pairs_of}
 use Rattle.template_values_core.specs.Shape.{pairs_in}
-use Rattle.template_values_frozen.specs.Frozen.{pairs_hold_namespace, vals_hold_namespace}
-use Rattle.template_values_frozen.specs.Given.{PairsStay, ValsStay}
-use Rattle.template_values_frozen.proofs.namespaces.+holds.Given as goal
+use Rattle.template_values_forms.specs.Frozen.{pairs_hold_namespace, vals_hold_namespace}
+use Rattle.template_values_forms.specs.Given.{PairsStay, ValsStay}
+use Rattle.template_values_forms.proofs.namespaces.+holds.Given as goal
 
 abbrev pub decreases-holds_namespace : goal.decreases-holds_namespace
 decreases-holds_namespace l = 2 * depth l.value.now

@@ -2,10 +2,10 @@ use Rattle.std.proofs.Common.{refl, arith, string_bytes}
 use Rattle.template_values_model.specs.Val.{vals_of}
 use Rattle.template_values_core.specs.Maps.{pairs_of}
 use Rattle.template_values_core.specs.Shape.{pairs_in}
-use Rattle.template_values_frozen.specs.Frozen.{frozen_pairs, inner_frozen, keyword_map_holding, list_holding, map_holding, module_holding, tuple_holding}
-use Rattle.template_values_frozen.proofs.Gathering.{entry_behind}
-use Rattle.template_values_frozen.proofs.Levels.{inner_frozen-below, pairs_made, vals_made}
-use Rattle.template_values_frozen.proofs.freezing.+freeze.Goals as goal
+use Rattle.template_values_forms.specs.Frozen.{frozen_pairs, inner_frozen, keyword_map_holding, list_holding, map_holding, module_holding, tuple_holding}
+use Rattle.template_values_forms.proofs.Gathering.{entry_behind}
+use Rattle.template_values_forms.proofs.Levels.{inner_frozen-below, pairs_made, vals_made}
+use Rattle.template_values_forms.proofs.freezing.+freeze.Goals as goal
 
 pub freeze_inner-returns : goal.freeze_inner-returns
 freeze_inner-returns g t c = rw (inner_frozen-below (g.R.Records.known c.args.records.now) c.args.left c.args.value.now c.if-left-eq0.false) c.freeze_nested.ensures

@@ -1,7 +1,7 @@
 use Rattle.std.proofs.Common.{sym, ◌∙◌, arith}
 use Rattle.template_values_core.proofs.Deep.{items_deep-at, items_deep-vals_depth, entries_deep-at, entries_deep-pairs_depth}
-use Rattle.template_values_frozen.proofs.Staying.{entry_holds, entry_stays, item_holds, item_stays, items_deep, items_hold, items_stay, no_entries_left, no_items_left, pairs_stay}
-use Rattle.template_values_frozen.proofs.namespaces.+holds.Goals as goal
+use Rattle.template_values_forms.proofs.Staying.{entry_holds, entry_stays, item_holds, item_stays, items_deep, items_hold, items_stay, no_entries_left, no_items_left, pairs_stay}
+use Rattle.template_values_forms.proofs.namespaces.+holds.Goals as goal
 
 pub holds_namespace-any_item_holds-requires : goal.holds_namespace-any_item_holds-requires
 holds_namespace-any_item_holds-requires t c =

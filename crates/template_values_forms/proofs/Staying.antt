@@ -11,9 +11,9 @@ use Rattle.template_values_core.specs.Shape.{pairs_in}
 use Rattle.template_values_core.specs.declared.value.Entry.{Entry}
 use Rattle.template_values_core.proofs.Sorting.{collected-rising}
 use Rattle.template_values_forms.specs.Answers.{mapped}
-use Rattle.template_values_frozen.specs.Frozen.{both, holds_namespace, vals_hold_namespace, pairs_hold_namespace, list_holding, tuple_holding, map_holding, keyword_map_holding, module_holding, one_more}
-use Rattle.template_values_frozen.specs.Given.{PairsStay, Stays, ValsStay}
-use Rattle.template_values_frozen.proofs.Gathering.{drop_at}
+use Rattle.template_values_forms.specs.Frozen.{both, holds_namespace, vals_hold_namespace, pairs_hold_namespace, list_holding, tuple_holding, map_holding, keyword_map_holding, module_holding, one_more}
+use Rattle.template_values_forms.specs.Given.{PairsStay, Stays, ValsStay}
+use Rattle.template_values_forms.proofs.Gathering.{drop_at}
 
 -- ---- items and entries
 

@@ -3,8 +3,8 @@ use Rattle.template_values_model.specs.Val.{vals_of}
 use Rattle.template_values_core.specs.Maps.{pairs_of}
 use Rattle.template_values_core.specs.Shape.{pairs_in}
 use Rattle.template_values_forms.specs.Answers.{mapped}
-use Rattle.template_values_frozen.specs.Frozen.{frozen_pairs, frozen_vals, inner_frozen}
-use Rattle.template_values_frozen.proofs.freezing.+freeze.Given as goal
+use Rattle.template_values_forms.specs.Frozen.{frozen_pairs, frozen_vals, inner_frozen}
+use Rattle.template_values_forms.proofs.freezing.+freeze.Given as goal
 
 abbrev pub decreases-freeze_inner : goal.decreases-freeze_inner
 decreases-freeze_inner g l = 8 * l.left

@@ -8,7 +8,7 @@ use Rattle.template_values_core.specs.Maps.{pairs_of}
 use Rattle.template_values_core.specs.Shape.{pairs_in}
 use Rattle.template_values_core.specs.declared.value.Entry.{Entry}
 use Rattle.template_values_forms.specs.Answers.{mapped}
-use Rattle.template_values_frozen.specs.Frozen.{both, frozen_pairs, one_more}
+use Rattle.template_values_forms.specs.Frozen.{both, frozen_pairs, one_more}
 
 -- a list from an item on
 pub drop_at : {A : Type 0} (xs : List A) (i : ℕ) (x : A) → i < length xs → x ≡ get_or xs i x → drop i xs ≡ x ∷ drop (i + 1) xs
