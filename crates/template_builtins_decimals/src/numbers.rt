@@ -2,7 +2,7 @@
 ghost use Rattle.std.specs.Prelude.{◌≡◌, ℕ, ◌*◌, ◌<◌, ◌≤◌, ◌^◌, ◌&&◌, nat_lt, neg_ℤ, pos};
 ghost use Rattle.template_builtins_decimals.specs.Rounding as rounding;
 ghost use Rattle.template_builtins_numbers.specs.Wholes.{IsCounted, signed, signed_counted};
-ghost use Rattle.template_values_numbers.specs.Numbers.{in_range};
+ghost use Rattle.template_values_operators.specs.Numbers.{in_range};
 
 use crate::rounding::Method;
 

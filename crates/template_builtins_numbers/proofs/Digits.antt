@@ -6,7 +6,7 @@ use Rattle.std.proofs.Math.Nat.{mul-le-mul_left}
 use Rattle.std.specs.Char.{digit_value}
 use Rattle.std.specs.List.{filter}
 use Rattle.std.specs.Str.Parse.{digits_value_after}
-use Rattle.template_values_numbers.specs.Numbers.{in_range}
+use Rattle.template_values_operators.specs.Numbers.{in_range}
 use Rattle.template_builtins_numbers.specs.Wholes.{IsCounted, digit_after, is_space, signed, signed_counted}
 
 -- the number that the digits write when they follow those of n, `_` apart

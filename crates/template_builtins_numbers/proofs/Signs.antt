@@ -1,7 +1,7 @@
 -- Numbers without their signs.
 use Rattle.std.proofs.Common.{◌≡◌, ℤ, pos, negsuc, neg_ℤ, ◌<ℤ◌, ◌≤ℤ◌, Some, refl, arith}
 use Rattle.std.proofs.lemmas.Int.{ints}
-use Rattle.template_values_numbers.specs.Numbers.{in_range}
+use Rattle.template_values_operators.specs.Numbers.{in_range}
 use Rattle.template_builtins_numbers.specs.Values.{magnitude}
 
 pub magnitude_below : (z : ℤ) → z <ℤ pos 0 → in_range (neg_ℤ z) ≡ magnitude z

@@ -4,7 +4,7 @@ use Rattle.template_values_errors.specs.declared.ErrorKind.{ErrorKind}
 use Rattle.template_values_model.specs.Val.{Val, int, text}
 use Rattle.template_values_core.specs.Reads.{whole_number}
 use Rattle.template_values_forms.specs.Known.{nothing_known}
-use Rattle.template_values_numbers.specs.Numbers.{in_range}
+use Rattle.template_values_operators.specs.Numbers.{in_range}
 use Rattle.template_values_operators.specs.Items.{attribute_of}
 use Rattle.template_values_operators.specs.Kinds.{is_undefined}
 use Rattle.template_values_operators.specs.Sums.{sum_of}

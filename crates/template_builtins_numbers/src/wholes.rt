@@ -3,7 +3,7 @@ ghost use Rattle.std.specs.Prelude.{◌≡◌, ◌+◌, ◌*◌, ◌≤◌, pos,
 ghost use Rattle.std.specs.Char.{digit_value, is_digit};
 ghost use Rattle.std.specs.List.{list_all};
 ghost use Rattle.template_builtins_numbers.specs.Wholes as wholes;
-ghost use Rattle.template_values_numbers.specs.Numbers.{in_range};
+ghost use Rattle.template_values_operators.specs.Numbers.{in_range};
 
 // No digit counts so much in a base.
 const GREATEST_BASE: u32 = 36;

@@ -9,7 +9,7 @@ use Rattle.template_values_errors.specs.declared.modes.UndefinedBehavior.{Undefi
 use Rattle.template_values_errors.specs.declared.modes.UndefinedBehavior.TheVariants.{Lenient, Chainable, SemiStrict, Strict}
 use Rattle.template_values_model.specs.Val.{Val, undefined, int, text, safe_text}
 use Rattle.template_values_forms.specs.Known.{nothing_known}
-use Rattle.template_values_numbers.specs.Numbers.{in_range}
+use Rattle.template_values_operators.specs.Numbers.{in_range}
 use Rattle.template_values_operators.specs.Items.{item_of, attribute_of}
 use Rattle.template_values_operators.specs.Kinds.{is_none, is_undefined}
 use Rattle.template_callables.specs.Callables.{View}

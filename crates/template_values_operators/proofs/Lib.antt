@@ -1,2 +1,3 @@
 mod Repeats
 pub mod Shallow
+mod Powers

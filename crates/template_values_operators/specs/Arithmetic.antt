@@ -3,7 +3,7 @@ use Rattle.std.specs.Prelude.{ℤ, Option, None, Some, Result, Ok, Err}
 use Rattle.template_values_model.specs.Fault.{Fault, invalid_operation}
 use Rattle.template_values_model.specs.Val.{Val, int}
 use Rattle.template_values_core.specs.Reads.{number_of, whole_number}
-use Rattle.template_values_numbers.specs.Numbers.{difference, quotient, remainder, power, negation}
+use Rattle.template_values_operators.specs.Numbers.{difference, quotient, remainder, power, negation}
 
 -- the number, or invalid_operation where there is none
 abbrev pub number_or_refusal : Option ℤ → Result Val Fault

@@ -8,3 +8,4 @@ pub mod Items
 pub mod Contains
 pub mod Iterated
 pub mod Slices
+pub mod Numbers

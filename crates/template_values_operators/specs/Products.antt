@@ -6,7 +6,7 @@ use Rattle.template_values_model.specs.Val.{Val, text}
 use Rattle.template_values_core.specs.Answers.{text_in}
 use Rattle.template_values_core.specs.Reads.{number_of}
 use Rattle.template_values_operators.specs.Kinds.{list_of, list_made}
-use Rattle.template_values_numbers.specs.Numbers.{product}
+use Rattle.template_values_operators.specs.Numbers.{product}
 use Rattle.template_values_operators.specs.Arithmetic.{number_or_refusal}
 
 -- a list, n times over

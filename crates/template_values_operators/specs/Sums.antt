@@ -5,7 +5,7 @@ use Rattle.template_values_model.specs.Val.{Val, text}
 use Rattle.template_values_core.specs.Answers.{text_in}
 use Rattle.template_values_core.specs.Reads.{number_of, items_in}
 use Rattle.template_values_operators.specs.Kinds.{list_made}
-use Rattle.template_values_numbers.specs.Numbers.{sum}
+use Rattle.template_values_operators.specs.Numbers.{sum}
 use Rattle.template_values_operators.specs.Arithmetic.{number_or_refusal}
 
 -- by the numbers, the texts and the items that the operands are

@@ -6,7 +6,7 @@ ghost use Rattle.template_values_operators.specs.Arithmetic.{difference_of, quot
 
 use template_values_core::Value;
 use template_values_errors::{Error, ErrorKind};
-use template_values_numbers::{difference, negation, power, quotient, remainder};
+use crate::{difference, negation, power, quotient, remainder};
 
 /// `left - right`.
 ///

@@ -13,7 +13,7 @@ use std::alloc::Global;
 use template_values_core::Value;
 use template_values_errors::Error;
 use template_values_model::{DEPTH_LIMIT, REPEATED_LIST_LIMIT, REPEATED_TEXT_LIMIT};
-use template_values_numbers::product;
+use crate::product;
 
 /// `left * right`: the product of two numbers, or, with a number from 0 on at either side, a text
 /// or a list repeated. A repeated text is plain. Linear in the size of the result.

@@ -13,7 +13,7 @@ use std::alloc::Global;
 use template_values_core::Value;
 use template_values_errors::Error;
 use template_values_model::DEPTH_LIMIT;
-use template_values_numbers::sum;
+use crate::sum;
 
 /// `left + right`: the sum of two numbers, the plain text of two texts, the list of the items of
 /// two lists or tuples. Linear in the size of the result. What is refused is told by its kind alone,

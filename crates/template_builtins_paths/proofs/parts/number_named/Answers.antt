@@ -6,7 +6,7 @@ use Rattle.std.proofs.lemmas.Str.Parse.{IsNumeralModel, numerals_by_value, parse
 use Rattle.std.proofs.lemmas.Bool.Decides.{nat_tests}
 use mir.Syntax.{w128}
 use Rattle.std.specs.Result.{result_ok}
-use Rattle.template_values_numbers.specs.Numbers.{in_range}
+use Rattle.template_values_operators.specs.Numbers.{in_range}
 use Rattle.template_builtins_paths.specs.Paths.{is_number, number_named}
 use Rattle.template_builtins_paths.proofs.parts.number_named.Goals as goal
 

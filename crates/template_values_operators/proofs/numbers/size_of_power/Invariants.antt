@@ -1,5 +1,5 @@
-use Rattle.template_values_numbers.proofs.Powers.{Squaring}
-use Rattle.template_values_numbers.proofs.numbers.size_of_power.Given as goal
+use Rattle.template_values_operators.proofs.Powers.{Squaring}
+use Rattle.template_values_operators.proofs.numbers.size_of_power.Given as goal
 
 abbrev pub invariant-loop-left : goal.invariant-loop-left
 invariant-loop-left l = Squaring l.base l.exponent l.power l.square l.left

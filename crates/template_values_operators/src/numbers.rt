@@ -1,6 +1,6 @@
 //! The arithmetic of whole numbers from -2^127 to 2^127 - 1. A result out of that range is none.
 ghost use Rattle.std.specs.Prelude.{◌≡◌, ◌<◌, ◌^◌, SomeIff};
-ghost use Rattle.template_values_numbers.specs.Numbers.{sum, difference, product, quotient, remainder, power, negation};
+ghost use Rattle.template_values_operators.specs.Numbers.{sum, difference, product, quotient, remainder, power, negation};
 
 /// The sum.
 #[inline(always)]

@@ -1,6 +1,6 @@
 use Rattle.std.proofs.Common.{◌≤◌, ◌*◌, ◌^◌, ◌∙◌, arith}
-use Rattle.template_values_numbers.proofs.Powers.{even_turn, odd_turn, last_turn, product_below, square_below}
-use Rattle.template_values_numbers.proofs.numbers.size_of_power.Goals as goal
+use Rattle.template_values_operators.proofs.Powers.{even_turn, odd_turn, last_turn, product_below, square_below}
+use Rattle.template_values_operators.proofs.numbers.size_of_power.Goals as goal
 
 pub returns-in_err-power : goal.returns-in_err-power
 returns-in_err-power c =
