@@ -64,7 +64,7 @@ fn printed_anew<'a>(
         return Err(Error::new(ErrorKind::UndefinedError));
     }
     let mut text = String::new(alloc);
-    template_values_text::print_to(value, &NoRecords, &mut text)?;
+    template_values_print::print_to(value, &NoRecords, &mut text)?;
     Ok(PrintedForm::Made(text))
 }
 
@@ -100,7 +100,7 @@ pub fn truth_of(view: &CallView<'_>, value: &Value) -> Result<bool, Error>
     if is_unseen(value) {
         return refusal();
     }
-    template_values_text::is_true(value, &NoRecords)
+    template_values_print::is_true(value, &NoRecords)
 }
 
 // Whether the value is a loop or a macro.

@@ -11,7 +11,7 @@ use template_callables::CallView;
 use template_values_core::{Content, Value};
 use template_values_errors::{AutoEscape, Error, ErrorKind};
 use template_values_forms::NoRecords;
-use template_values_text::escape_to;
+use template_values_print::escape_to;
 
 /// Whether the value is a safe text.
 pub fn is_safe(value: &Value) -> bool

@@ -16,8 +16,7 @@ use template_callables::CallView;
 use template_values_core::{Content, Value};
 use template_values_errors::{AutoEscape, Error, ErrorKind};
 use template_values_forms::NoRecords;
-use template_values_print::{Markup, Quoting, push, push_quoted};
-use template_values_text::escape_to;
+use template_values_print::{Markup, Quoting, push, push_quoted, escape_to};
 
 pub(crate) fn string(
     alloc: Global,

@@ -17,7 +17,7 @@ use template_values_errors::{Error, UndefinedBehavior};
 ///
 /// # Errors
 ///
-/// What [`escape_to`](template_values_text::escape_to) refuses the value with, and nothing is written.
+/// What [`escape_to`](template_values_print::escape_to) refuses the value with, and nothing is written.
 /// [`ErrorKind::OutOfMemory`](template_values_errors::ErrorKind::OutOfMemory) where a growth was refused, and
 /// [`ErrorKind::WriteFailure`](template_values_errors::ErrorKind::WriteFailure) where the sink failed: it has then taken a
 /// beginning of the text.

@@ -44,7 +44,7 @@ use template_values_core::{Entry as MapEntry, Value};
 use template_values_errors::{AutoEscape, Error, ErrorKind, UndefinedBehavior};
 use template_values_forms::{LoopView, MacroView, Records};
 use template_values_operators::growth::copies;
-use template_values_text::print_to;
+use template_values_print::print_to;
 
 /// What surrounds a template: as a render of it left it, or without any frame.
 pub struct State<'env, 'source, E: Extension = NoExtension> {

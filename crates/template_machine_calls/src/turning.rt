@@ -16,7 +16,7 @@ use template_machine_state::State;
 use template_values_core::Value;
 use template_values_errors::{AutoEscape, Error};
 use template_values_operations::truth_of;
-use template_values_text::print_to;
+use template_values_print::print_to;
 
 // Notes what is to be made of the value of what is asked further, behind what is to be made of those before.
 //

@@ -18,8 +18,7 @@ use template_machine_undefined::{forbids_printing, refusal};
 use template_values_core::{Content, Value};
 use template_values_errors::{AutoEscape, Error, UndefinedBehavior};
 use template_values_forms::Records;
-use template_values_print::{HTML_BLOCK, SHORT_TEXT, is_unmarked, put_html};
-use template_values_text::escape_to;
+use template_values_print::{HTML_BLOCK, SHORT_TEXT, is_unmarked, put_html, escape_to};
 
 /// Puts a text into a sink. No byte of it is copied.
 ///

@@ -15,7 +15,7 @@ use template_machine_output::Sink;
 use template_values_core::Value;
 use template_values_errors::{AutoEscape, Error, UndefinedBehavior};
 use template_values_forms::Records;
-use template_values_text::escape_to;
+use template_values_print::escape_to;
 
 /// A sink, and captures over it. What is written goes into the innermost capture, or, where none is open, into the sink.
 #[derive(Drop)]
@@ -131,7 +131,7 @@ impl<W: Sink + Drop> Output<W> {
     ///
     /// # Errors
     ///
-    /// What [`escape_to`](template_values_text::escape_to) refuses the value with, and nothing is written; else those of
+    /// What [`escape_to`](template_values_print::escape_to) refuses the value with, and nothing is written; else those of
     /// [`Output::write_str`].
     pub fn write_escaped<R: Records>(
         &mut self,

@@ -5,7 +5,7 @@ use std::fmt::{Debug, Display};
 use template_rows::{bytes_of, count_of, expect_names, quoted};
 use template_values_core::Value;
 use template_values_errors::{Error, ErrorKind};
-use template_values_text::{NoRecords, print_to};
+use template_values_print::{NoRecords, print_to};
 
 /// What comes of a line, as far as it is written. What is refused on the way is kept, so that what writes need not ask.
 #[derive(Drop)]

@@ -9,4 +9,4 @@ pub use template_values_items::{contains, get_attr, get_item, items_of, slice};
 pub use template_values_json::{context_from_json, entries_from_json};
 pub use template_values_named::Kwargs;
 pub use template_values_operators::{add, div, int_div, mul, neg, pow, rem, sub};
-pub use template_values_text::{escape_to, is_true, print_to, string_concat};
+pub use template_values_print::{escape_to, is_true, print_to, string_concat};

@@ -4,7 +4,7 @@ ghost use Rattle.template_values_model.specs.Gives.{Gives};
 ghost use Rattle.template_values_model.specs.Val.{Val};
 ghost use Rattle.template_values_forms.specs.Concatenation.{concatenation_of};
 
-use crate::print::print_to;
+use crate::printing::print_to;
 use std::alloc::Global;
 use template_values_core::Value;
 use template_values_errors::Error;

@@ -4,7 +4,7 @@ use Rattle.std.proofs.lemmas.Str.{IsUtf8-string_bytes}
 use Rattle.template_values_forms.specs.Escaped.{escaped}
 use Rattle.template_values_print.specs.declared.pieces.Markup.TheVariants.{Plain}
 use Rattle.template_values_print.proofs.PieceLemmas.{AppendsOrRefuses-cut, AppendsOrRefuses-whole, Begins-boundary, Writes-begins}
-use Rattle.template_values_text.proofs.escape.escape_to.Goals as goal
+use Rattle.template_values_print.proofs.escape.escape_to.Goals as goal
 
 pub truncate-requires : goal.truncate-requires
 truncate-requires g c =
