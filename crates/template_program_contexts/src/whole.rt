@@ -9,14 +9,14 @@ ghost use Rattle.template_values_errors.specs.Memory.{NoMemory};
 ghost use Rattle.template_values_model.specs.Val.{vals_of};
 ghost use Rattle.template_values_core.specs.Kept.{IsRising};
 ghost use Rattle.template_values_core.specs.Shape.{pairs_in};
-ghost use Rattle.template_values_json_leaves.specs.Leaves.{IsFloatRefusal};
+ghost use Rattle.template_values_json.specs.Leaves.{IsFloatRefusal};
 ghost use Rattle.template_values_json.specs.Json.{data_in, value_of, values_of, named_values};
 
 use serde_json::{Map, Value as Json};
 use std::alloc::Global;
 use template_values_core::{Entry, Value};
 use template_values_errors::{Error, ErrorKind};
-use template_values_json_leaves::value_of_leaf;
+use template_values_json::value_of_leaf;
 
 /// What a text is as JSON.
 pub(crate) fn read_json(alloc: Global, text: &str) -> Result<Json, Error>

@@ -10,7 +10,7 @@ use Rattle.template_values_core.specs.Shape.{pairs_in}
 use Rattle.template_values_core.specs.declared.value.Entry.{Entry}
 use Rattle.template_values_json.specs.Entries.{ArePlain}
 use Rattle.template_values_json.proofs.Plain.{map_within}
-use Rattle.template_values_json_leaves.specs.Leaves.{IsFloatRefusal}
+use Rattle.template_values_json.specs.Leaves.{IsFloatRefusal}
 
 abbrev pub Made : Type 0
 Made = Result Val (List ErrorKind)

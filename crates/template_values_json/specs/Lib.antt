@@ -1,3 +1,4 @@
 pub mod Json
 pub mod Entries
 pub mod Whole
+pub mod Leaves

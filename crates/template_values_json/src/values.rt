@@ -7,7 +7,7 @@ ghost use Rattle.serde_json.specs.Written.{has_float, items_have_float, members_
 ghost use Rattle.template_values_model.specs.Val.{vals_of};
 ghost use Rattle.template_values_core.specs.Kept.{IsRising};
 ghost use Rattle.template_values_core.specs.Shape.{pairs_in};
-ghost use Rattle.template_values_json_leaves.specs.Leaves.{IsFloatRefusal};
+ghost use Rattle.template_values_json.specs.Leaves.{IsFloatRefusal};
 ghost use Rattle.template_values_json.specs.Json.{value_of, values_of, named_values};
 ghost use Rattle.template_values_json.specs.Entries.{SayData};
 
@@ -15,7 +15,7 @@ use serde_json::{Map, Value as Json};
 use std::alloc::Global;
 use template_values_core::{Entry, Value};
 use template_values_errors::Error;
-use template_values_json_leaves::value_of_leaf;
+use crate::value_of_leaf;
 
 /// The value that the JSON stands for, moving its texts, where no float stands in it.
 #[cycle(values)]

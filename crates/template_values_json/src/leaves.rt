@@ -1,10 +1,9 @@
 //! The values of JSON in which no JSON stands.
-#![tactic(auto)]
 
 ghost use Rattle.std.specs.Prelude.{◌≡◌, false, IfErr, IfOk};
 ghost use Rattle.serde_json.specs.View.{view};
 ghost use Rattle.serde_json.specs.Written.{has_float};
-ghost use Rattle.template_values_json_leaves.specs.Leaves.{IsLeaf, IsFloatRefusal, leaf_value};
+ghost use Rattle.template_values_json.specs.Leaves.{IsLeaf, IsFloatRefusal, leaf_value};
 
 use serde_json::Value as Json;
 use template_values_core::Value;
