@@ -1,8 +1,8 @@
 -- The context that is made of bytes of JSON alone.
 use Rattle.std.proofs.Common.{◌≡◌, ◌↔◌, ℕ, List, [], ◌∷◌, Option, None, Some, subst, sym}
 use Rattle.template_values_model.specs.Val.{Val}
-use Rattle.template_values_contexts.specs.declared.contexts.Floats.{Floats}
-use Rattle.template_values_contexts.specs.declared.contexts.Floats.TheVariants.{Refused}
+use Rattle.template_values_json.specs.declared.contexts.Floats.{Floats}
+use Rattle.template_values_json.specs.declared.contexts.Floats.TheVariants.{Refused}
 use Rattle.template_program_parts.specs.Context.{IsContextOf, fault_of_json}
 use Rattle.template_program_contexts.specs.Context.{IsContextWith, fault_of_all}
 use Rattle.template_program_contexts.specs.Laws.{NoDocument, OneDocument}

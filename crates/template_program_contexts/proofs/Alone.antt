@@ -2,7 +2,7 @@
 use Rattle.std.proofs.Common.{ℕ, List, option_map, sym, ap, ◌∙◌, refl}
 use Rattle.std.specs.Option.{option_or}
 use Rattle.template_values_model.specs.Val.{text}
-use Rattle.template_values_contexts.specs.declared.contexts.Floats.TheVariants.{Refused}
+use Rattle.template_values_json.specs.declared.contexts.Floats.TheVariants.{Refused}
 use Rattle.template_values_json.proofs.Last.{or_none}
 use Rattle.template_program_parts.specs.Context.{defined_under}
 use Rattle.template_program_contexts.specs.Documents.{member_in, fault_in}

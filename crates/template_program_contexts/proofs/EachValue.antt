@@ -6,8 +6,8 @@ use Rattle.std.specs.Str.{bytes_eq}
 use Rattle.template_values_errors.specs.declared.ErrorKind.{ErrorKind}
 use Rattle.template_values_model.specs.Val.{Val, text}
 use Rattle.template_values_json.specs.Json.{IsRefusal}
-use Rattle.template_values_contexts.specs.Contexts.{context_of}
-use Rattle.template_values_contexts.specs.declared.contexts.Floats.{Floats}
+use Rattle.template_values_json.specs.Contexts.{context_of}
+use Rattle.template_values_json.specs.declared.contexts.Floats.{Floats}
 use Rattle.template_values_core.specs.Maps.{last_at}
 use Rattle.template_values_core.specs.Shape.{pairs_in}
 use Rattle.template_values_core.specs.declared.value.Entry.{Entry}

@@ -6,7 +6,7 @@ use Rattle.template_values_model.specs.Lookup.{value_at}
 use Rattle.template_values_core.specs.Maps.{collected, put_all, last_at}
 use Rattle.template_values_core.specs.Shape.{pairs_in}
 use Rattle.template_values_core.specs.declared.value.Entry.{Entry}
-use Rattle.template_values_contexts.specs.declared.contexts.Floats.{Floats}
+use Rattle.template_values_json.specs.declared.contexts.Floats.{Floats}
 use Rattle.template_values_json.specs.Entries.{IsPlainText, ArePlain}
 use Rattle.template_values_json.proofs.Made.{Made}
 use Rattle.template_values_json.proofs.Plain.{text_keys}

@@ -9,8 +9,8 @@ use Rattle.template_values_core.specs.Shape.{pairs_in}
 use Rattle.template_values_core.specs.declared.value.Entry.{Entry}
 use Rattle.template_values_core.proofs.LastGiven.{entry_at-collected}
 use Rattle.template_values_json.specs.Entries.{ArePlain}
-use Rattle.template_values_contexts.specs.Spelled.{spelled_pairs, spelled_value}
-use Rattle.template_values_contexts.proofs.Levels.{depth-spelled_value}
+use Rattle.template_values_json.specs.Spelled.{spelled_pairs, spelled_value}
+use Rattle.template_values_json.proofs.ContextLevels.{depth-spelled_value}
 use Rattle.template_program_contexts.specs.Documents.{spelled_member}
 use Rattle.template_program_contexts.specs.Entries.{Say}
 

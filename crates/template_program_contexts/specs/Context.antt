@@ -4,7 +4,7 @@ use Rattle.std.specs.Option.{option_or}
 use Rattle.template_values_errors.specs.declared.ErrorKind.{ErrorKind}
 use Rattle.template_values_model.specs.Val.{Val, text}
 use Rattle.template_values_model.specs.Lookup.{value_at}
-use Rattle.template_values_contexts.specs.declared.contexts.Floats.{Floats}
+use Rattle.template_values_json.specs.declared.contexts.Floats.{Floats}
 use Rattle.template_program_parts.specs.Context.{defined_under, IsTextMap}
 use Rattle.template_program_contexts.specs.Documents.{documents_under, fault_of_documents}
 use Rattle.template_program_contexts.specs.Values.{values_under, fault_of_values}

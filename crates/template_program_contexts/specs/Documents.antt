@@ -5,10 +5,10 @@ use Rattle.template_values_errors.specs.declared.ErrorKind.{ErrorKind}
 use Rattle.template_values_model.specs.Val.{Val}
 use Rattle.template_values_model.specs.Lookup.{value_at}
 use Rattle.json.specs.Json.{Json as Tree}
-use Rattle.template_values_contexts.specs.Contexts.{fault_of, tree_in}
-use Rattle.template_values_contexts.specs.Spelled.{spelled_value}
-use Rattle.template_values_contexts.specs.declared.contexts.Floats.{Floats}
-use Rattle.template_values_contexts.specs.declared.contexts.Floats.TheVariants.{Refused, AsSpelled}
+use Rattle.template_values_json.specs.Contexts.{fault_of, tree_in}
+use Rattle.template_values_json.specs.Spelled.{spelled_value}
+use Rattle.template_values_json.specs.declared.contexts.Floats.{Floats}
+use Rattle.template_values_json.specs.declared.contexts.Floats.TheVariants.{Refused, AsSpelled}
 use Rattle.template_program_parts.specs.Context.{member_under}
 use Rattle.template_program_contexts.specs.Toml.{fault_of_toml, toml_member}
 use Rattle.template_program_contexts.specs.declared.documents.Document.{Document}

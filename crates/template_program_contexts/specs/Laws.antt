@@ -1,7 +1,7 @@
 -- What one document alone makes, and none.
 use Rattle.std.specs.Prelude.{◌≡◌, ◌↔◌, ℕ, List, [], ◌∷◌, None, Some}
 use Rattle.template_values_model.specs.Val.{Val}
-use Rattle.template_values_contexts.specs.declared.contexts.Floats.TheVariants.{Refused}
+use Rattle.template_values_json.specs.declared.contexts.Floats.TheVariants.{Refused}
 use Rattle.template_program_parts.specs.Context.{fault_of_json, IsContextOf}
 use Rattle.template_program_contexts.specs.Context.{fault_of_all, IsContextWith}
 use Rattle.template_program_contexts.specs.declared.documents.Document.{Document}

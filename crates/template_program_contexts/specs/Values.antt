@@ -9,9 +9,9 @@ use Rattle.template_values_errors.specs.declared.ErrorKind.{ErrorKind}
 use Rattle.template_values_errors.specs.declared.ErrorKind.TheVariants.{SyntaxError, NoFloats}
 use Rattle.template_values_model.specs.Val.{Val}
 use Rattle.template_values_json.specs.Json.{data_in}
-use Rattle.template_values_contexts.specs.Contexts.{context_of, tree_in}
-use Rattle.template_values_contexts.specs.declared.contexts.Floats.{Floats}
-use Rattle.template_values_contexts.specs.declared.contexts.Floats.TheVariants.{Refused, AsSpelled}
+use Rattle.template_values_json.specs.Contexts.{context_of, tree_in}
+use Rattle.template_values_json.specs.declared.contexts.Floats.{Floats}
+use Rattle.template_values_json.specs.declared.contexts.Floats.TheVariants.{Refused, AsSpelled}
 
 -- a value need be no object, as a document is
 abbrev pub fault_of_data : Option Data → Option ErrorKind

@@ -12,7 +12,7 @@ ghost use Rattle.template_program_contexts.specs.Values.{fault_of_values, values
 use crate::documents::{Document, document_entries};
 use crate::values::value_of_text;
 use std::alloc::Global;
-use template_values_contexts::Floats;
+use template_values_json::Floats;
 use template_values_core::{Entry, Value};
 use template_values_errors::Error;
 

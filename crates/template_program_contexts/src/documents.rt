@@ -5,15 +5,14 @@ ghost use Rattle.template_values_json.specs.Entries.{ArePlain};
 ghost use Rattle.template_values_json.specs.Json.{IsRefusal};
 ghost use Rattle.template_program_contexts.specs.Documents.{documents_under, fault_of_document, fault_of_documents, json_member, member_of};
 ghost use Rattle.template_program_contexts.specs.Entries.{Say};
-ghost use Rattle.template_values_contexts.specs.Contexts.{fault_of};
+ghost use Rattle.template_values_json.specs.Contexts.{fault_of};
 
 use crate::texts::spelled_entries;
 use crate::toml_tables::toml_entries;
 use std::alloc::Global;
-use template_values_contexts::Floats;
+use template_values_json::{Floats, entries_from_json};
 use template_values_core::Entry;
 use template_values_errors::Error;
-use template_values_json::entries_from_json;
 
 /// What the bytes of a document are.
 #[derive(Clone, Copy, Debug, Drop, PartialEq, Eq)]

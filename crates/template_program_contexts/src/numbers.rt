@@ -1,6 +1,6 @@
 //! Numbers of a document.
 ghost use Rattle.std.specs.Prelude.{◌≡◌, IfErr, IfOk};
-ghost use Rattle.template_values_contexts.specs.Spelled.{number_value};
+ghost use Rattle.template_values_json.specs.Spelled.{number_value};
 ghost use Rattle.template_values_errors.specs.Memory.{NoMemory};
 
 use std::alloc::Global;
@@ -9,7 +9,7 @@ use template_values_errors::Error;
 use template_values_json::whole_in;
 
 /// A number of JSON: a whole number of 64 bits, or the text that spells another one.
-#[tactic(auto, unfolding(template_values_contexts::specs::Spelled::number_value))]
+#[tactic(auto, unfolding(template_values_json::specs::Spelled::number_value))]
 pub(crate) fn number_value(alloc: Global, text: &str) -> Result<Value, Error>
     ensures made { IfOk result (λ v. v ≡ number_value text.now) }
     ensures refused { IfErr result NoMemory }

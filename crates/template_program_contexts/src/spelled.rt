@@ -3,7 +3,7 @@ ghost use Rattle.std.specs.Prelude.{◌≡◌, ◌<◌, ◌≤◌, IfErr, IfOk};
 ghost use Rattle.json.specs.Tree.{depth, items_depth, members_depth};
 ghost use Rattle.json.specs.Value.{items_view, members_view, value_view};
 ghost use Rattle.serde_json.specs.Read.{max_depth};
-ghost use Rattle.template_values_contexts.specs.Spelled.{spelled_pairs, spelled_value, spelled_values};
+ghost use Rattle.template_values_json.specs.Spelled.{spelled_pairs, spelled_value, spelled_values};
 ghost use Rattle.template_values_core.specs.Shape.{pairs_in};
 ghost use Rattle.template_values_errors.specs.Memory.{NoMemory};
 ghost use Rattle.template_values_model.specs.Val.{vals_of};

@@ -3,9 +3,9 @@ ghost use Rattle.std.specs.Prelude.{◌≡◌, ◌<◌, ◌≤◌, ◌⊎◌, []
 ghost use Rattle.json.specs.Tree.{depth as nesting};
 ghost use Rattle.json.specs.Value.{value_view};
 ghost use Rattle.serde_json.specs.Read.{max_depth};
-ghost use Rattle.template_values_contexts.specs.Contexts.{fault_of as fault_of_context, fault_of_tree as fault_of_object, tree_of};
-ghost use Rattle.template_values_contexts.specs.Spelled.{spelled_value};
-ghost use Rattle.template_values_contexts.specs.declared.contexts.Floats.TheVariants.{AsSpelled};
+ghost use Rattle.template_values_json.specs.Contexts.{fault_of as fault_of_context, fault_of_tree as fault_of_object, tree_of};
+ghost use Rattle.template_values_json.specs.Spelled.{spelled_value};
+ghost use Rattle.template_values_json.specs.declared.contexts.Floats.TheVariants.{AsSpelled};
 ghost use Rattle.template_values_core.specs.Depth.{depth};
 ghost use Rattle.template_values_model.specs.declared.TheConstants.{DEPTH_LIMIT};
 ghost use Rattle.template_values_errors.specs.Memory.{NoMemory};
@@ -91,7 +91,7 @@ fn object_entries(alloc: Global, tree: &Json<'_>) -> Result<Vec<Entry>, Error>
 }
 
 // The JSON that a text is.
-#[tactic(auto, unfolding(template_values_contexts::specs::Contexts::tree_of))]
+#[tactic(auto, unfolding(template_values_json::specs::Contexts::tree_of))]
 fn read_tree<'a>(alloc: Global, text: &'a str, scratch: &'a mut Scratch) -> Result<Json<'a>, Error>
     ensures is { IfOk result (λ tree. tree_of text.now ≡ Some (value_view tree)) }
     ensures nests { IfOk result (λ tree. nesting (value_view tree) ≤ max_depth) }

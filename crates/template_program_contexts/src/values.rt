@@ -1,7 +1,7 @@
 //! Values that are given as JSON.
 ghost use Rattle.std.specs.Prelude.{◌≡◌, ◌<◌, None, Some, IfOk, IfErr, option_map};
 ghost use Rattle.template_values_core.specs.Depth.{depth};
-ghost use Rattle.template_values_contexts.specs.Contexts.{context_of};
+ghost use Rattle.template_values_json.specs.Contexts.{context_of};
 ghost use Rattle.template_values_json.specs.Json.{data_in, value_of, IsRefusal};
 ghost use Rattle.template_values_model.specs.declared.TheConstants.{DEPTH_LIMIT};
 ghost use Rattle.template_program_contexts.specs.Values.{fault_of_data, fault_of_value};
@@ -9,7 +9,7 @@ ghost use Rattle.template_program_contexts.specs.Values.{fault_of_data, fault_of
 use crate::texts::spelled_value;
 use crate::whole::{read_json, value_from};
 use std::alloc::Global;
-use template_values_contexts::Floats;
+use template_values_json::Floats;
 use template_values_core::Value;
 use template_values_errors::Error;
 

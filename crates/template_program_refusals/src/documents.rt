@@ -4,7 +4,7 @@ use crate::lines::{part_text, place_text};
 use crate::toml_places::toml_place;
 use std::alloc::Global;
 use template_program_contexts::{Document, Form};
-use template_values_contexts::{ContextError, Floats, context_from_json_with};
+use template_values_json::{ContextError, Floats, context_from_json_with};
 use template_values_errors::ErrorKind;
 
 /// Where a document is refused as a context, behind its name: `site.json:3:14`, the line and the column in bytes where the reader

@@ -5,7 +5,7 @@ use std::alloc::Global;
 use std::fmt::Display;
 use template_program_contexts::{Document, Form, context_with, is_json};
 use template_rows::pairs_of;
-use template_values_contexts::{Floats, context_from_json_with};
+use template_values_json::{Floats, context_from_json_with};
 use template_values_core::Value;
 use template_values_errors::ErrorKind;
 

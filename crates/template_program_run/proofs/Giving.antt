@@ -1,7 +1,7 @@
 -- What the context is made of, as it was read.
 use Rattle.std.proofs.Common.{◌≡◌, ◌∙◌, ℕ, List, [], ◌∷◌, MatchOption, None, Option, Some, map, subst, sym}
 use Rattle.std.specs.Prelude.{option_to_list}
-use Rattle.template_values_contexts.specs.declared.contexts.Floats.{Floats}
+use Rattle.template_values_json.specs.declared.contexts.Floats.{Floats}
 use Rattle.template_program_contexts.specs.declared.documents.Document.{Document}
 use Rattle.template_program_contexts.specs.declared.documents.Form.{Form}
 use Rattle.template_program_words.specs.declared.words.Words.{Words}

@@ -3,8 +3,8 @@ use Rattle.std.specs.Prelude.{◌≡◌, ℕ, List, [], ◌∷◌, Option, None,
 use Rattle.template_values_errors.specs.declared.ErrorKind.{ErrorKind}
 use Rattle.template_values_model.specs.Val.{Val, undefined}
 use Rattle.template_values_json.specs.Json.{IsRefusal}
-use Rattle.template_values_contexts.specs.declared.contexts.Floats.{Floats}
-use Rattle.template_values_contexts.specs.declared.contexts.Floats.TheVariants.{Refused}
+use Rattle.template_values_json.specs.declared.contexts.Floats.{Floats}
+use Rattle.template_values_json.specs.declared.contexts.Floats.TheVariants.{Refused}
 use Rattle.template_program_parts.specs.Context.{text_pairs}
 use Rattle.template_program_parts.specs.declared.command.Command.{Command}
 use Rattle.template_program_parts.specs.declared.command.Command.TheVariants as asked

@@ -1,6 +1,6 @@
 -- Why values that are given as JSON are refused.
 use Rattle.std.specs.Prelude.{◌≡◌, ◌≢◌, ℕ, List, [], map, All, Contains, None}
-use Rattle.template_values_contexts.specs.Contexts.{tree_of}
+use Rattle.template_values_json.specs.Contexts.{tree_of}
 use Rattle.template_program_words.specs.declared.faults.WordsFault.{WordsFault}
 use Rattle.template_program_words.specs.declared.faults.WordsFault.TheVariants.{Memory, Help, Version, Usage, Definition}
 use Rattle.template_program_words.specs.declared.words.Words.{Words}

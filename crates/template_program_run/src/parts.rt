@@ -2,7 +2,7 @@
 ghost use Rattle.std.specs.Prelude.{◌≡◌, []};
 
 use template_program_contexts::Document;
-use template_values_contexts::Floats;
+use template_values_json::Floats;
 
 /// What the context of a render is made of, beside the definitions of its request: these go over the documents, and the values
 /// over both.

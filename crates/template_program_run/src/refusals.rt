@@ -10,7 +10,7 @@ use std::alloc::Global;
 use template_program_output::Output;
 use template_program_places::write_placed;
 use template_program_refusals::{document_place, value_place, write_refused};
-use template_values_contexts::Floats;
+use template_values_json::Floats;
 use template_values_errors::{Error, ErrorKind};
 
 /// Writes the fault line of a context that was refused, and the place behind it where that is asked for.

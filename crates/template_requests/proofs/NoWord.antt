@@ -4,7 +4,7 @@ use Rattle.std.proofs.lemmas.Bool.{false_from_ne_true}
 use Rattle.std.proofs.lemmas.Slice.Eq.{bytes_eq-Decides}
 use Rattle.template_values_errors.specs.declared.modes.AutoEscape.TheVariants.{Html, Json}
 use Rattle.template_values_errors.specs.declared.modes.UndefinedBehavior.TheVariants.{Lenient, Chainable, SemiStrict, Strict}
-use Rattle.template_values_contexts.specs.declared.contexts.Floats.TheVariants.{Refused, AsSpelled}
+use Rattle.template_values_json.specs.declared.contexts.Floats.TheVariants.{Refused, AsSpelled}
 use Rattle.template_machine_surroundings.specs.declared.escape.EscapeRule.TheVariants.{ByName, Never, Fixed}
 use Rattle.template_requests.specs.Words.{escape_named, floats_named, mode_named}
 

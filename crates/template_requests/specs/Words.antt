@@ -3,8 +3,8 @@ use Rattle.std.specs.Prelude.{ℕ, List, Option, None, Some, if◌then◌else◌
 use Rattle.template_values_errors.specs.declared.modes.AutoEscape.TheVariants.{Html, Json}
 use Rattle.template_values_errors.specs.declared.modes.UndefinedBehavior.{UndefinedBehavior}
 use Rattle.template_values_errors.specs.declared.modes.UndefinedBehavior.TheVariants.{Lenient, Chainable, SemiStrict, Strict}
-use Rattle.template_values_contexts.specs.declared.contexts.Floats.{Floats}
-use Rattle.template_values_contexts.specs.declared.contexts.Floats.TheVariants.{Refused, AsSpelled}
+use Rattle.template_values_json.specs.declared.contexts.Floats.{Floats}
+use Rattle.template_values_json.specs.declared.contexts.Floats.TheVariants.{Refused, AsSpelled}
 use Rattle.template_machine_surroundings.specs.declared.escape.EscapeRule.{EscapeRule}
 use Rattle.template_machine_surroundings.specs.declared.escape.EscapeRule.TheVariants.{ByName, Never, Fixed}
 

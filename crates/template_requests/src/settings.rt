@@ -10,7 +10,7 @@ use crate::member::Member;
 use crate::syntax::{SyntaxParts, syntax_in};
 use json::Value as Json;
 use template_machine_surroundings::EscapeRule;
-use template_values_contexts::Floats;
+use template_values_json::Floats;
 use template_values_errors::UndefinedBehavior;
 
 // How deep a render may be where the request does not say it.

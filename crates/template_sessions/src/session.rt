@@ -19,7 +19,7 @@ use template_program_parts::{Command, Outcome};
 use template_program_run::{ContextParts, Program, render};
 use template_replies::{options_of, request_of};
 use template_requests::Opening;
-use template_values_contexts::Floats;
+use template_values_json::Floats;
 use template_values_errors::Error;
 
 /// Templates that are compiled once, to be rendered often.

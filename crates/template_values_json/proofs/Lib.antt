@@ -11,3 +11,6 @@ pub mod Steps
 pub mod Turns
 pub mod Whole
 pub mod Wholes
+pub mod ContextDocuments
+pub mod ContextLevels
+pub mod ContextSteps

@@ -1,7 +1,7 @@
 use Rattle.std.proofs.Common.{◌≡◌, ap, ◌∙◌, sym, refl, string_bytes}
 use Rattle.template_values_model.specs.Val.{text}
 use Rattle.template_values_core.specs.declared.value.Entry.{Entry}
-use Rattle.template_values_contexts.specs.Contexts.{context_of}
+use Rattle.template_values_json.specs.Contexts.{context_of}
 use Rattle.template_values_json.proofs.Plain.{plain_push}
 use Rattle.template_program_contexts.specs.Values.{fault_of_value}
 use Rattle.template_program_contexts.proofs.EachValue.{value_passes, value_said}

@@ -2,7 +2,7 @@ use Rattle.std.proofs.Common.{◌≡◌, ◌≤◌, ◌+◌, ◌*◌, ◌++◌, 
 use Rattle.json.specs.Tree.{depth, items_depth, members_depth}
 use Rattle.json.specs.Value.{items_view, members_view, value_view}
 use Rattle.template_values_core.specs.Shape.{pairs_in}
-use Rattle.template_values_contexts.proofs.Steps.{pairs_left, values_left}
+use Rattle.template_values_json.proofs.ContextSteps.{pairs_left, values_left}
 use Rattle.template_program_contexts.proofs.spelled.+values.Given as goal
 
 abbrev pub decreases-value_from : goal.decreases-value_from

@@ -1,7 +1,7 @@
 use Rattle.std.proofs.Common.{sym, ap, ◌∙◌}
 use Rattle.json.specs.Json.{value, skip_value}
 use Rattle.json.specs.Lex.{tokens}
-use Rattle.template_values_contexts.specs.Contexts.{tree_of}
+use Rattle.template_values_json.specs.Contexts.{tree_of}
 use Rattle.template_program_contexts.proofs.Follows.{all_by_next, all_of_none}
 use Rattle.template_program_contexts.proofs.texts.is_json.Goals as goal
 

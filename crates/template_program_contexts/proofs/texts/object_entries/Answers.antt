@@ -4,8 +4,8 @@ use Rattle.json.specs.Json.{object}
 use Rattle.json.specs.Tree.{members_depth}
 use Rattle.json.specs.Value.{members_view, value_view}
 use Rattle.json.proofs.Trees.{view-Object}
-use Rattle.template_values_contexts.specs.Spelled.{spelled_pairs}
-use Rattle.template_values_contexts.proofs.Levels.{members_within}
+use Rattle.template_values_json.specs.Spelled.{spelled_pairs}
+use Rattle.template_values_json.proofs.ContextLevels.{members_within}
 use Rattle.template_program_contexts.proofs.Members.{plain_spelled, spelled_said}
 use Rattle.template_program_contexts.proofs.texts.object_entries.Goals as goal
 

@@ -1,8 +1,8 @@
 use Rattle.std.proofs.Common.{◌≡◌, inr, refl, sym, ap, ◌∙◌}
 use Rattle.std.proofs.lemmas.Result.{IfOk-weaker}
 use Rattle.template_values_errors.specs.declared.ErrorKind.TheVariants.{SyntaxError}
-use Rattle.template_values_contexts.specs.Contexts.{fault_of_tree, tree_in, tree_of}
-use Rattle.template_values_contexts.proofs.Documents.{tree_in_text, no_tree_in}
+use Rattle.template_values_json.specs.Contexts.{fault_of_tree, tree_in, tree_of}
+use Rattle.template_values_json.proofs.ContextDocuments.{tree_in_text, no_tree_in}
 use Rattle.template_program_contexts.specs.Documents.{spelled_member}
 use Rattle.template_program_contexts.proofs.texts.spelled_entries.Goals as goal
 

@@ -2,7 +2,7 @@ use Rattle.std.proofs.Common.{ap, arith}
 use Rattle.std.proofs.lemmas.Result.{IfOk-weaker}
 use Rattle.json.specs.Value.{value_view}
 use Rattle.template_values_core.specs.Depth.{depth}
-use Rattle.template_values_contexts.proofs.Levels.{depth-spelled_value}
+use Rattle.template_values_json.proofs.ContextLevels.{depth-spelled_value}
 use Rattle.template_program_contexts.proofs.texts.spelled_value.Goals as goal
 
 pub returns-clause-shallow : goal.returns-clause-shallow

@@ -1,8 +1,8 @@
 use Rattle.std.proofs.Common.{◌≡◌, ap, ◌∙◌, option_map}
 use Rattle.std.proofs.lemmas.Result.{IfOk-weaker}
-use Rattle.template_values_contexts.specs.Contexts.{context_of, tree_in, tree_of}
-use Rattle.template_values_contexts.specs.Spelled.{spelled_value}
-use Rattle.template_values_contexts.proofs.Documents.{tree_in_text}
+use Rattle.template_values_json.specs.Contexts.{context_of, tree_in, tree_of}
+use Rattle.template_values_json.specs.Spelled.{spelled_value}
+use Rattle.template_values_json.proofs.ContextDocuments.{tree_in_text}
 use Rattle.template_program_contexts.specs.Values.{fault_of_tree, fault_of_value}
 use Rattle.template_program_contexts.proofs.values.value_of_text.Goals as goal
 

@@ -1,7 +1,7 @@
 use Rattle.std.proofs.Common.{◌≢◌, All, List, None, ℕ, subst}
 use Rattle.std.proofs.lemmas.List.{take_all}
 use Rattle.std.proofs.lemmas.List.Elements.{All-map}
-use Rattle.template_values_contexts.specs.Contexts.{tree_of}
+use Rattle.template_values_json.specs.Contexts.{tree_of}
 use Rattle.template_program_words.specs.declared.definitions.Definition.{Definition}
 use Rattle.template_program_run.proofs.values.check_values.Goals as goal
 

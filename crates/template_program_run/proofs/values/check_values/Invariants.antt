@@ -1,6 +1,6 @@
 -- The values so far are JSON.
 use Rattle.std.proofs.Common.{◌≢◌, All, None, take}
-use Rattle.template_values_contexts.specs.Contexts.{tree_of}
+use Rattle.template_values_json.specs.Contexts.{tree_of}
 use Rattle.template_program_run.proofs.values.check_values.Given as goal
 
 abbrev pub invariant-loop-value : goal.invariant-loop-value

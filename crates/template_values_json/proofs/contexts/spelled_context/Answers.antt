@@ -1,10 +1,10 @@
 use Rattle.std.proofs.Common.{◌≡◌, inr, refl, sym, ap, ◌∙◌, option_map}
 use Rattle.std.proofs.lemmas.Result.{IfOk-weaker}
 use Rattle.template_values_errors.specs.declared.ErrorKind.TheVariants.{SyntaxError}
-use Rattle.template_values_contexts.specs.Contexts.{fault_of_tree, tree_in, tree_of}
-use Rattle.template_values_contexts.specs.Spelled.{spelled_value}
-use Rattle.template_values_contexts.proofs.Documents.{tree_in_text, no_tree_in}
-use Rattle.template_values_contexts.proofs.contexts.spelled_context.Goals as goal
+use Rattle.template_values_json.specs.Contexts.{fault_of_tree, tree_in, tree_of}
+use Rattle.template_values_json.specs.Spelled.{spelled_value}
+use Rattle.template_values_json.proofs.ContextDocuments.{tree_in_text, no_tree_in}
+use Rattle.template_values_json.proofs.contexts.spelled_context.Goals as goal
 
 pub returns-in-Ok-clause-faultless : goal.returns-in-Ok-clause-faultless
 returns-in-Ok-clause-faultless c =

@@ -8,9 +8,9 @@ use Rattle.template_values_errors.specs.declared.ErrorKind.{ErrorKind}
 use Rattle.template_values_errors.specs.declared.ErrorKind.TheVariants.{SyntaxError, InvalidOperation}
 use Rattle.template_values_model.specs.Val.{Val}
 use Rattle.template_values_json.specs.Json.{data_in, fault_in, value_of}
-use Rattle.template_values_contexts.specs.Spelled.{spelled_value}
-use Rattle.template_values_contexts.specs.declared.contexts.Floats.{Floats}
-use Rattle.template_values_contexts.specs.declared.contexts.Floats.TheVariants.{Refused, AsSpelled}
+use Rattle.template_values_json.specs.Spelled.{spelled_value}
+use Rattle.template_values_json.specs.declared.contexts.Floats.{Floats}
+use Rattle.template_values_json.specs.declared.contexts.Floats.TheVariants.{Refused, AsSpelled}
 
 -- the JSON that a text is, nested as deep as `serde_json` reads
 unfoldable pub tree_of : List ℕ → Option Json

@@ -1,12 +1,12 @@
 //! Numbers of a document.
 ghost use Rattle.std.specs.Prelude.{◌≡◌, IfErr, IfOk};
-ghost use Rattle.template_values_contexts.specs.Spelled.{number_value};
+ghost use Rattle.template_values_json.specs.Spelled.{number_value};
 ghost use Rattle.template_values_errors.specs.Memory.{NoMemory};
 
 use std::alloc::Global;
 use template_values_core::Value;
 use template_values_errors::Error;
-use template_values_json::whole_in;
+use crate::whole_in;
 
 /// A number of JSON: a whole number of 64 bits, or the text that spells another one.
 #[tactic(auto, unfolding(crate::specs::Spelled::number_value))]

@@ -8,10 +8,10 @@ use Rattle.template_values_core.specs.Maps.{collected}
 use Rattle.template_values_core.specs.Shape.{pairs_in}
 use Rattle.template_values_core.specs.declared.value.Entry.{Entry}
 use Rattle.template_values_json.proofs.Levels.{put_within}
-use Rattle.template_values_contexts.specs.Spelled.{spelled_value, spelled_values, spelled_pairs}
-use Rattle.template_values_contexts.proofs.Levels.{never_deep, vals_depth-spelled_values, pairs_depth-spelled_pairs, items_within, members_within}
-use Rattle.template_values_contexts.proofs.Steps.{values_end, entry_more, members_fall}
-use Rattle.template_values_contexts.proofs.spelled.+values.Goals as goal
+use Rattle.template_values_json.specs.Spelled.{spelled_value, spelled_values, spelled_pairs}
+use Rattle.template_values_json.proofs.ContextLevels.{never_deep, vals_depth-spelled_values, pairs_depth-spelled_pairs, items_within, members_within}
+use Rattle.template_values_json.proofs.ContextSteps.{values_end, entry_more, members_fall}
+use Rattle.template_values_json.proofs.spelled.+values.Goals as goal
 
 pub value_from-returns-in_ok-values_from-in-Array-clause-refused : goal.value_from-returns-in_ok-values_from-in-Array-clause-refused
 value_from-returns-in_ok-values_from-in-Array-clause-refused t c =

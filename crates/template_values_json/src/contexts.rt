@@ -3,8 +3,8 @@ ghost use Rattle.std.specs.Prelude.{◌≡◌, ◌≤◌, ◌⊎◌, [], ◌∷�
 ghost use Rattle.json.specs.Tree.{depth as nesting};
 ghost use Rattle.json.specs.Value.{value_view};
 ghost use Rattle.serde_json.specs.Read.{max_depth};
-ghost use Rattle.template_values_contexts.specs.Contexts as contexts;
-ghost use Rattle.template_values_contexts.specs.Spelled.{spelled_value};
+ghost use Rattle.template_values_json.specs.Contexts as contexts;
+ghost use Rattle.template_values_json.specs.Spelled.{spelled_value};
 ghost use Rattle.template_values_errors.specs.Memory.{NoMemory};
 ghost use Rattle.template_values_json.specs.Json.{IsRefusal};
 
@@ -16,7 +16,7 @@ use json::{Reader, Scratch, Value as Json};
 use std::alloc::Global;
 use template_values_core::Value;
 use template_values_errors::{Error, ErrorKind};
-use template_values_json::context_from_json;
+use crate::context_from_json;
 
 /// What becomes of a number in JSON that is no whole number of 64 bits, with or without a sign.
 #[derive(Clone, Copy, Debug, Drop, PartialEq, Eq)]

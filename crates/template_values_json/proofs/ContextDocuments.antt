@@ -2,7 +2,7 @@
 use Rattle.std.proofs.Common.{◌≡◌, ℕ, List, Bool, true, false, None, refl}
 use Rattle.std.specs.Str.{is_utf8, IsUtf8}
 use Rattle.std.proofs.lemmas.Str.{IsUtf8-from_is_utf8, is_utf8-from_IsUtf8}
-use Rattle.template_values_contexts.specs.Contexts.{tree_in, tree_of}
+use Rattle.template_values_json.specs.Contexts.{tree_in, tree_of}
 
 pub tree_in_text : (bytes : List ℕ) → IsUtf8 bytes → tree_in bytes ≡ tree_of bytes
 tree_in_text bytes utf8 = rw (is_utf8-from_IsUtf8 bytes utf8) refl

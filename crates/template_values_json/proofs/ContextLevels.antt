@@ -13,7 +13,7 @@ use Rattle.template_values_core.specs.Answers.{TooDeep}
 use Rattle.template_values_core.specs.Depth.{depth, vals_depth, pairs_depth}
 use Rattle.template_values_core.specs.Maps.{pairs_of}
 use Rattle.template_values_json.proofs.Levels.{put_within}
-use Rattle.template_values_contexts.specs.Spelled.{number_value, spelled_value, spelled_values, spelled_pairs, whole_in}
+use Rattle.template_values_json.specs.Spelled.{number_value, spelled_value, spelled_values, spelled_pairs, whole_in}
 
 number_by : (s : List ℕ) (n : Option _) → depth (unwrap_or (option_map int n) (text s)) ≤ 0
 number_by s None = omega arith

@@ -9,7 +9,7 @@ use Rattle.template_values_model.specs.Val.{Val, Vals, no_vals, vals_more, text,
 use Rattle.template_values_core.proofs.PairLemmas.{pairs_in_push}
 use Rattle.template_values_core.specs.Shape.{pairs_in}
 use Rattle.template_values_core.specs.declared.value.Entry.{Entry}
-use Rattle.template_values_contexts.specs.Spelled.{spelled_value, spelled_values, spelled_pairs}
+use Rattle.template_values_json.specs.Spelled.{spelled_value, spelled_values, spelled_pairs}
 
 vals_of-items_of : (vs : Vals) → vals_of (items_of vs) ≡ vs
 vals_of-items_of no_vals = refl

@@ -3,13 +3,13 @@ ghost use Rattle.std.specs.Prelude.{◌≡◌, ◌<◌, ◌≤◌, IfErr, IfOk};
 ghost use Rattle.json.specs.Tree.{depth, items_depth, members_depth};
 ghost use Rattle.json.specs.Value.{items_view, members_view, value_view};
 ghost use Rattle.serde_json.specs.Read.{max_depth};
-ghost use Rattle.template_values_contexts.specs.Spelled.{spelled_pairs, spelled_value, spelled_values};
+ghost use Rattle.template_values_json.specs.Spelled.{spelled_pairs, spelled_value, spelled_values};
 ghost use Rattle.template_values_core.specs.Shape.{pairs_in};
 ghost use Rattle.template_values_errors.specs.Memory.{NoMemory};
 ghost use Rattle.template_values_model.specs.Val.{vals_of};
 
 use crate::names::{entry_named, first_of, key_of, value_in};
-use crate::numbers::number_value;
+use crate::spelled_numbers::number_value;
 use json::Value as Json;
 use std::alloc::Global;
 use template_values_core::{Entry, Value};
