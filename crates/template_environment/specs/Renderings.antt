@@ -12,7 +12,7 @@ use Rattle.template_process.specs.Fuel.{under}
 use Rattle.template_process.specs.Trace.{Run, text_of}
 use Rattle.template_machine_meaning.specs.Meaning.{rendered}
 use Rattle.template_machine_meaning.specs.World.{World}
-use Rattle.template_machine_output.specs.Writes.{AppendsBeginning}
+use Rattle.template_machine_surroundings.specs.Writes.{AppendsBeginning}
 use Rattle.template_machine_surroundings.specs.Rule.{IsEscapeOf}
 use Rattle.template_machine_renders.specs.Renders.{FaultsAs, IsOver, leaves}
 use Rattle.template_compiled.specs.Compiled.{Compiled, standing_of}

@@ -8,7 +8,7 @@ ghost use Rattle.template_environment.specs.States.{world_in};
 use crate::state::State;
 use template_callables::Extension;
 use template_machine_operations::print;
-use template_machine_output::Sink;
+use template_machine_surroundings::Sink;
 use template_values_core::Value;
 use template_values_errors::{Error, UndefinedBehavior};
 

@@ -7,8 +7,8 @@ pub use Rattle.template_values_forms.specs.Frozen
 pub use Rattle.template_values_named.specs.Named
 pub use Rattle.template_machine_surroundings.specs.Rule
 pub use Rattle.template_machine_surroundings.specs.Failures
-pub use Rattle.template_machine_output.specs.Wrapper
-pub use Rattle.template_machine_output.specs.Writes
+pub use Rattle.template_machine_surroundings.specs.Wrapper
+pub use Rattle.template_machine_surroundings.specs.Writes
 pub use Rattle.template_machine_surroundings.specs.Answered
 pub use Rattle.template_callables.specs.Callables
 pub use Rattle.template_callables.specs.Answers as CallableAnswers

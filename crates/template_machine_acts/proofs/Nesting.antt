@@ -8,7 +8,7 @@ use Rattle.template_process.specs.Process.{Counts, Ask, Answer, fails, breaks_of
 use Rattle.template_process.specs.Drive.{End, ends, faults, breaks, waits, mistaken, cuts, sticks}
 use Rattle.template_process.specs.Trace.{Item, paid, written, Run, run, replied, go_on, behind, ended, text_of, price_of}
 use Rattle.template_code.specs.Code.{Code}
-use Rattle.template_machine_output.specs.Writes.{AppendsBeginning}
+use Rattle.template_machine_surroundings.specs.Writes.{AppendsBeginning}
 use Rattle.template_machine_meaning.specs.World.{World}
 use Rattle.template_machine_meaning.specs.Turnings.{Turning, turned}
 use Rattle.template_machine_meaning.specs.Plans.{Within, caller_of, after_by, given, wrapped_by, told_by, came_from, settled}

@@ -11,7 +11,7 @@ use Rattle.template_process.specs.Process as events
 use Rattle.template_process.specs.Process.{Counts, Answer, done, fails, on_done}
 use Rattle.template_process.specs.Trace.{written, run, replied}
 use Rattle.template_code.specs.Code.{Operand, single, emit}
-use Rattle.template_machine_output.specs.Writes.{AppendsBeginning}
+use Rattle.template_machine_surroundings.specs.Writes.{AppendsBeginning}
 use Rattle.template_machine_meaning.specs.Captures.{with_text}
 use Rattle.template_machine_meaning.specs.Keeps.{KeepsWorld}
 use Rattle.template_machine_meaning.specs.Replies.{told}

@@ -10,8 +10,8 @@ use Rattle.template_process.specs.Drive.{End, ends, faults, breaks, waits, mista
 use Rattle.template_process.specs.Trace.{Item, paid, Run, behind, ended, price_of, text_of}
 use Rattle.template_process.proofs.Cuts.{text-append}
 use Rattle.template_code.specs.Code.{Code}
-use Rattle.template_machine_output.specs.Writes.{AppendsBeginning}
-use Rattle.template_machine_output.proofs.Beginnings.{beginning_after, beginning_whole}
+use Rattle.template_machine_surroundings.specs.Writes.{AppendsBeginning}
+use Rattle.template_machine_surroundings.proofs.Beginnings.{beginning_after, beginning_whole}
 use Rattle.template_machine_meaning.specs.World.{World}
 use Rattle.template_machine_meaning.specs.Keys.{own, standing, Key, whole_of}
 use Rattle.template_machine_meaning.specs.Plans.{ran, restarted, beneath, with_beneath, parent_run, went_on}

@@ -21,7 +21,7 @@ use std::alloc::Global;
 use template_machine_calls::{Entering, Entry, turn_all};
 use template_machine_going::Stop;
 use template_machine_operands::Operands;
-use template_machine_output::Sink;
+use template_machine_surroundings::Sink;
 use template_machine_state::State;
 use template_values_core::Value;
 

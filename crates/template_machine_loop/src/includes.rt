@@ -16,7 +16,7 @@ use std::alloc::Global;
 use template_machine_going::Stop;
 use template_machine_items::Items;
 use template_machine_operations::choices_in;
-use template_machine_output::Sink;
+use template_machine_surroundings::Sink;
 use template_machine_state::State;
 use template_values_core::Value;
 use template_values_errors::{Error, ErrorKind};

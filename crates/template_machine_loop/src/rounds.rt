@@ -26,7 +26,7 @@ use template_machine_going::Stop;
 use template_machine_items::Items;
 use template_machine_operands::Operands;
 use template_machine_operations as values;
-use template_machine_output::Sink;
+use template_machine_surroundings::Sink;
 use template_machine_state::{LoopState, Rounds, State};
 use template_values_core::Value;
 use template_values_errors::{Error, ErrorKind};

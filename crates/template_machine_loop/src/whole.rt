@@ -12,7 +12,7 @@ use crate::templates::{Program, Templates};
 use std::alloc::Global;
 use template_code::Instructions;
 use template_machine_going::Stop;
-use template_machine_output::Sink;
+use template_machine_surroundings::Sink;
 use template_machine_state::State;
 use template_values_errors::{Error, ErrorKind};
 

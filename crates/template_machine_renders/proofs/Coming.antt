@@ -14,8 +14,8 @@ use Rattle.template_process.specs.Drive as drives
 use Rattle.template_process.specs.Fuel.{under}
 use Rattle.template_process.specs.Trace.{Item, paid, Run, behind, ended, text_of, price_of}
 use Rattle.template_process.proofs.Cuts.{text-append}
-use Rattle.template_machine_output.specs.Writes.{AppendsBeginning}
-use Rattle.template_machine_output.proofs.Beginnings.{beginning_longer}
+use Rattle.template_machine_surroundings.specs.Writes.{AppendsBeginning}
+use Rattle.template_machine_surroundings.proofs.Beginnings.{beginning_longer}
 use Rattle.template_machine_meaning.specs.World.{World}
 use Rattle.template_machine_meaning.specs.Surroundings.{answer}
 use Rattle.template_machine_meaning.specs.Meaning.{Setting, evaluation, meaning}

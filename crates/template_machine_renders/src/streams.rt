@@ -19,7 +19,7 @@ use template_code_checked::Checked;
 use template_machine_going::Stop;
 use template_machine_loop::{Kept, Program, Templates, run_to_end, run_whole};
 use template_machine_operands::Operands;
-use template_machine_output::Sink;
+use template_machine_surroundings::Sink;
 use template_machine_state::State;
 use template_values_core::Value;
 use template_values_errors::{Error, ErrorKind};

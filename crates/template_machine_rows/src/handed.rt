@@ -6,7 +6,7 @@ use std::alloc::Global;
 use template_callables::Extension;
 use template_code_checked::{Checked, verify};
 use template_environment::State;
-use template_machine_output::WriteWrapper;
+use template_machine_surroundings::WriteWrapper;
 use template_rows::unreadable;
 use template_rows_streams::stream_of;
 use template_values_core::Value;

@@ -9,7 +9,7 @@ use template_callables::Extension;
 use template_code_checked::Checked;
 use template_environment::{State, Template, escape_formatter, namespace};
 use template_machine_operations::{dict, range};
-use template_machine_output::WriteWrapper;
+use template_machine_surroundings::WriteWrapper;
 use template_rows::unreadable;
 use template_values_core::Value;
 use template_values_errors::{Error, ErrorKind};

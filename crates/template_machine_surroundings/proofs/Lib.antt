@@ -1,1 +1,2 @@
 pub mod OneRule
+pub mod Beginnings

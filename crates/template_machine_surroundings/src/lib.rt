@@ -5,8 +5,12 @@
 mod escape;
 mod fault;
 mod ids;
+mod output;
+mod wrapper;
 mod writer;
 
+pub use wrapper::WriteWrapper;
+pub use output::{Sink, NullWriter, write_text};
 pub use escape::{
     AutoEscapeRule, EscapeRule, NoRule, default_auto_escape_callback, one_escape, one_rule,
 };

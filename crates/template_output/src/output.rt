@@ -11,7 +11,7 @@ use crate::capture::Capture;
 use std::alloc::Global;
 use template_code::CaptureMode;
 use template_machine_operations::{print, write};
-use template_machine_output::Sink;
+use template_machine_surroundings::Sink;
 use template_values_core::Value;
 use template_values_errors::{AutoEscape, Error, UndefinedBehavior};
 use template_values_forms::Records;

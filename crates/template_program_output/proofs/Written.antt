@@ -6,7 +6,7 @@ use Rattle.std.specs.declared.io.Error.{Error}
 use Rattle.template_values_errors.specs.Causes.{IsHead}
 use Rattle.template_values_errors.specs.Names.{kind_name}
 use Rattle.template_values_errors.specs.declared.ErrorKind.{ErrorKind}
-use Rattle.template_machine_output.proofs.Beginnings.{beginning_longer, beginning_after, beginning_whole}
+use Rattle.template_machine_surroundings.proofs.Beginnings.{beginning_longer, beginning_after, beginning_whole}
 use Rattle.template_program_output.specs.Lines.{causes_behind, error_line}
 use Rattle.template_program_output.specs.Shown.{GrowsBy, Shown, TellsAnswer, Writes}
 use Rattle.template_program_output.specs.Answer.{to_flush}

@@ -2,7 +2,7 @@
 use Rattle.std.specs.Prelude.{◌≡◌, ℕ, List, [], ◌∷◌, ◌++◌, Option, None, Some, OnOk, Result, Ok, Err}
 use Rattle.std.specs.Io.KnownBytes.{Appends}
 use Rattle.std.specs.declared.io.Error.{Error}
-use Rattle.template_machine_output.specs.Writes.{AppendsBeginning}
+use Rattle.template_machine_surroundings.specs.Writes.{AppendsBeginning}
 use Rattle.template_program_output.specs.Answer.{Answer, failures_among, failures_of, to_flush}
 
 -- the bytes that an output holds, and what it answered so far, where these are known

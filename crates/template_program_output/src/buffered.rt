@@ -2,14 +2,14 @@
 ghost use Rattle.std.specs.Prelude.{◌≡◌, ◌+◌, ◌≤◌, [], length, take, drop, vec_len, IfOk, OnOk};
 ghost use Rattle.std.specs.Io.KnownBytes.{Appends, Keeps};
 ghost use Rattle.template_machine_surroundings.specs.Failures.{failures_in};
-ghost use Rattle.template_machine_output.specs.Writes.{AppendsBeginning};
+ghost use Rattle.template_machine_surroundings.specs.Writes.{AppendsBeginning};
 ghost use Rattle.template_program_output.specs.Buffer.{failure_count, failures_told, held_in, output_in, taken_by};
 ghost use Rattle.template_program_output.specs.Shown.{GrowsBy, IsFlushed, TellsResult};
 
 use crate::Output;
 use crate::whole::{write_out, write_whole};
 use std::io;
-use template_machine_output::{Sink, SinkFault};
+use template_machine_surroundings::{Sink, SinkFault};
 
 /// A sink in front of an output, which holds bytes back until its buffer is full. It takes each piece as a
 /// whole, or fails.

@@ -2,7 +2,7 @@
 use crate::report::Report;
 use serde_json::{Map, Value as Json};
 use std::alloc::{AllocError, Global};
-use template_machine_output::{SinkFault, WriteWrapper, write_text};
+use template_machine_surroundings::{SinkFault, WriteWrapper, write_text};
 use template_rows::{Output, kind_of, texts_of};
 use template_values_errors::{Error, ErrorKind};
 

@@ -3,7 +3,7 @@ use crate::report::Report;
 use std::alloc::Global;
 use std::fs;
 use std::io::{BufWriter, Write};
-use template_machine_output::{NullWriter, WriteWrapper, write_text};
+use template_machine_surroundings::{NullWriter, WriteWrapper, write_text};
 use template_program_parts::{FileFault, ReadWrapper, Source, read_text, read_text_file};
 use template_values_errors::ErrorKind;
 

@@ -11,7 +11,7 @@ use Rattle.template_values_model.specs.Val.{Val}
 use Rattle.template_process.specs.Approximants.{IsFinished}
 use Rattle.template_process.specs.Fuel.{IsSameRun, under}
 use Rattle.template_machine_surroundings.specs.Rule.{IsEscapeOf}
-use Rattle.template_machine_output.specs.Writes.{AppendsBeginning}
+use Rattle.template_machine_surroundings.specs.Writes.{AppendsBeginning}
 use Rattle.template_environment_settings.specs.Extras.{Brought}
 use Rattle.template_environment_settings.specs.Outcomes.{IsWant, TellsFailures}
 use Rattle.template_environment_settings.specs.Meaning.{Standing, rendered}

@@ -13,8 +13,7 @@ use crate::parts::ContextParts;
 use crate::request::Request;
 use crate::running::{context_of, leave, run_with};
 use std::alloc::Global;
-use template_machine_output::Sink;
-use template_machine_surroundings::StateIds;
+use template_machine_surroundings::{Sink, StateIds};
 use template_program_expression::evaluate;
 use template_program_parts::Outcome;
 

@@ -3,14 +3,14 @@ ghost use Rattle.std.specs.Prelude.{◌≡◌, IfErr, IfOk, OnOk, OnErr, map, st
 ghost use Rattle.std.specs.Io.KnownBytes.{Appends};
 ghost use Rattle.serde_json.specs.View.{view};
 ghost use Rattle.template_values_errors.specs.Memory.{NoMemory};
-ghost use Rattle.template_machine_output.specs.Writes.{AppendsBeginning};
+ghost use Rattle.template_machine_surroundings.specs.Writes.{AppendsBeginning};
 ghost use Rattle.template_environment_settings.specs.Outcomes.{IsWant, TellsFailures};
 ghost use Rattle.template_program_run.specs.Lines.{json_line_of, line_of, lines_of, strings_of, told_names};
 
 use serde_json::Value as Json;
 use std::alloc::Global;
 use std::collections::BTreeSet;
-use template_machine_output::{Sink, write_text};
+use template_machine_surroundings::{Sink, write_text};
 use template_values_errors::Error;
 
 /// Writes the names in order of bytes: as a JSON list on one line, or each with a newline behind it. A list is made whole

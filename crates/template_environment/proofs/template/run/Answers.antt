@@ -2,7 +2,7 @@ use Rattle.std.proofs.Common.{ℕ, Option, inl, refl, sym, subst, ◌∙◌}
 use Rattle.std.proofs.lemmas.Result.{err_from_is_err_and}
 use Rattle.template_process.specs.Trace.{price_of}
 use Rattle.template_machine_going.specs.Paying.{Paid}
-use Rattle.template_machine_output.proofs.Beginnings.{beginning_none}
+use Rattle.template_machine_surroundings.proofs.Beginnings.{beginning_none}
 use Rattle.template_environment.specs.Extras.{user_answers}
 use Rattle.template_environment.specs.Reading.{brought_of}
 use Rattle.template_environment.specs.Renderings.{broken, left_of, whole}

@@ -1,6 +1,6 @@
 use Rattle.std.proofs.Common.{[], ◌∷◌}
 use Rattle.std.proofs.lemmas.Result.{err_from_is_err_and}
-use Rattle.template_machine_output.proofs.Beginnings.{beginning_longer, beginning_after}
+use Rattle.template_machine_surroundings.proofs.Beginnings.{beginning_longer, beginning_after}
 use Rattle.template_program_run.proofs.names.write_line.Goals as goal
 
 pub returns-in_err-write_text-clause-beginning : goal.returns-in_err-write_text-clause-beginning

@@ -2,8 +2,8 @@ use Rattle.std.proofs.Common.{◌≡◌, ◌∙◌, ap, sym, subst, ◌∷◌, �
 use Rattle.std.proofs.KnownBytes.{Appends-trans}
 use Rattle.std.proofs.lemmas.Result.{err_from_is_err_and}
 use Rattle.std.specs.Io.KnownBytes.{Appends}
-use Rattle.template_machine_output.specs.Writes.{AppendsBeginning}
-use Rattle.template_machine_output.proofs.Beginnings.{beginning_longer, beginning_of_rest}
+use Rattle.template_machine_surroundings.specs.Writes.{AppendsBeginning}
+use Rattle.template_machine_surroundings.proofs.Beginnings.{beginning_longer, beginning_of_rest}
 use Rattle.template_program_run.specs.Lines.{line_of, lines_of}
 use Rattle.template_program_run.proofs.names.write_lines.Goals as goal
 

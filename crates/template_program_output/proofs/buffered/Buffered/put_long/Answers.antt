@@ -1,5 +1,5 @@
 use Rattle.std.proofs.Common.{arith, ◌≡◌, ◌+◌, ◌==◌, ◌&&◌, not, ◌∙◌, ap, ℕ, Bool, true, false, Ok, Err, refl, length, rules, if◌then◌else◌}
-use Rattle.template_machine_output.proofs.Beginnings.{beginning_whole}
+use Rattle.template_machine_surroundings.proofs.Beginnings.{beginning_whole}
 use Rattle.template_program_output.specs.Answer.{failures_of}
 use Rattle.template_program_output.specs.Buffer.{failure_count}
 use Rattle.template_program_output.proofs.Told.{counts}

@@ -1,9 +1,9 @@
 -- What the first call took, and a beginning of what it left, is a beginning of the text.
 use Rattle.std.proofs.Common.{take, drop, Result, Ok, Err, OnErr, sym, ◌∙◌, subst}
 use Rattle.std.proofs.lemmas.List.{take-append-drop}
-use Rattle.template_machine_output.specs.Writes.{AppendsBeginning}
-use Rattle.template_machine_output.proofs.Beginnings.{beginning_of_rest}
-use Rattle.template_machine_output.proofs.write_text.Goals as goal
+use Rattle.template_machine_surroundings.specs.Writes.{AppendsBeginning}
+use Rattle.template_machine_surroundings.proofs.Beginnings.{beginning_of_rest}
+use Rattle.template_machine_surroundings.proofs.output.write_text.Goals as goal
 
 on_error : {X E : Type 0} (result : Result X E) (P Q : Type 0) → (P → Q) → OnErr result P → OnErr result Q
 on_error (Ok x) P Q f p = tt

@@ -2,9 +2,9 @@
 use Rattle.std.proofs.Common.{◌++◌, take, sym, ap, subst, ◌∙◌, arith, rules}
 use Rattle.std.proofs.KnownBytes.{Appends-trans}
 use Rattle.std.proofs.lemmas.Bool.Decides.{nat_tests}
-use Rattle.template_machine_output.specs.Writes.{AppendsBeginning}
-use Rattle.template_machine_output.proofs.Beginnings.{beginning_of_rest, rest-moved}
-use Rattle.template_machine_output.proofs.write_bytes.Goals as goal
+use Rattle.template_machine_surroundings.specs.Writes.{AppendsBeginning}
+use Rattle.template_machine_surroundings.proofs.Beginnings.{beginning_of_rest, rest-moved}
+use Rattle.template_machine_surroundings.proofs.output.write_bytes.Goals as goal
 
 pub returns-in_err-count-clause-beginning : goal.returns-in_err-count-clause-beginning
 returns-in_err-count-clause-beginning g c =

@@ -4,7 +4,7 @@ use Rattle.std.proofs.Math.Seq.{take-append-add, take-length}
 use Rattle.std.proofs.lemmas.List.{take-append-drop, take-append-le, take_min}
 use Rattle.std.specs.Io.KnownBytes.{Appends}
 use Rattle.std.proofs.KnownBytes.{Appends-nil, Appends-trans}
-use Rattle.template_machine_output.specs.Writes.{AppendsBeginning}
+use Rattle.template_machine_surroundings.specs.Writes.{AppendsBeginning}
 
 -- a sink that stays as it was has taken a beginning
 pub beginning_none : (a : Option (List ℕ)) (bs : List ℕ) → AppendsBeginning a a bs

@@ -1,6 +1,6 @@
 use Rattle.std.proofs.Common.{◌≡◌, ℕ, List, ◌++◌, length}
 use Rattle.std.specs.Io.KnownBytes.{Appends}
-use Rattle.template_machine_output.proofs.write_bytes.Given as goal
+use Rattle.template_machine_surroundings.proofs.output.write_bytes.Given as goal
 
 -- what was taken so far is what stands in the text before the rest, and no failure was met
 abbrev pub invariant-loop-rest : goal.invariant-loop-rest

@@ -3,13 +3,12 @@ ghost use Rattle.std.specs.Prelude.{◌≡◌, ◌≢◌, ◌+◌, ◌≤◌, �
 ghost use Rattle.std.specs.Io.KnownBytes.{WriteAppends};
 ghost use Rattle.std.specs.IoError.{error_kind};
 ghost use Rattle.std.specs.declared.io.ErrorKind.{ErrorKind as IoKind};
-ghost use Rattle.template_machine_output.specs.Wrapper.{failure_count};
+ghost use Rattle.template_machine_surroundings.specs.Wrapper.{failure_count};
 ghost use Rattle.template_machine_surroundings.specs.Answered.{AnswersOnce, PassesOn};
 ghost use Rattle.template_machine_surroundings.specs.Failures.{failures_in};
 
-use super::{Sink, SinkFault};
+use crate::{Sink, SinkFault, Writer, write_once};
 use std::io;
-use template_machine_surroundings::{Writer, write_once};
 use template_values_errors::{Error, ErrorKind};
 
 /// A sink over a writer, whose last error it keeps. It takes and tells what the writer takes and

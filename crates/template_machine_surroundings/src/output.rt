@@ -1,16 +1,11 @@
 //! Where rendered text goes: sinks that take bytes, and the loop that puts a whole text into one.
-#![tactic(auto)]
 
 ghost use Rattle.std.specs.Prelude.{◌≡◌, ℕ, ◌+◌, ◌<◌, ◌≤◌, ◌↔◌, ◌∷◌, [], ◌++◌, List, Option, length, take, drop, IfOk, OnOk, OnErr, IsErrOf, IsOkUnless, IsUtf8, Ok, Some, None, string_bytes, string_capacity, string_len};
 ghost use Rattle.std.specs.Io.KnownBytes.{Appends};
-ghost use Rattle.template_machine_output.specs.Writes.{AppendsBeginning};
+ghost use Rattle.template_machine_surroundings.specs.Writes.{AppendsBeginning};
 ghost use Rattle.template_machine_surroundings.specs.Failures.{failures_in};
 
-mod wrapper;
-
-use template_machine_surroundings::rest_after;
-pub use template_machine_surroundings::{SinkFault, Writer};
-pub use wrapper::WriteWrapper;
+use crate::{rest_after, SinkFault};
 
 /// What takes rendered bytes. A sink names the bytes that it has taken, or tells none, and counts
 /// its failures.
