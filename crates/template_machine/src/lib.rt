@@ -130,7 +130,7 @@ pub use template_machine_frames::Frame;
 pub use template_machine_frames::LoopState;
 pub use template_machine_fuel::FuelTracker;
 pub use template_machine_globals::Globals;
-pub use template_machine_items::Items;
+pub use template_values_items::Items;
 pub use template_machine_meaning::every_evaluation_gives;
 pub use template_machine_meaning::every_expression_gives;
 pub use template_machine_meaning::every_run_ends;

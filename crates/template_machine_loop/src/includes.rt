@@ -14,7 +14,7 @@ use crate::templates::{Compiled, Program, Templates};
 use crate::whole::run_whole;
 use std::alloc::Global;
 use template_machine_going::Stop;
-use template_machine_items::Items;
+use template_values_items::Items;
 use template_machine_operations::choices_in;
 use template_machine_surroundings::Sink;
 use template_machine_state::State;

@@ -23,7 +23,7 @@ use crate::told::told_by;
 use std::alloc::Global;
 use template_code::Instructions;
 use template_machine_going::Stop;
-use template_machine_items::Items;
+use template_values_items::Items;
 use template_machine_operands::Operands;
 use template_machine_operations as values;
 use template_machine_surroundings::Sink;

@@ -9,12 +9,11 @@ ghost use Rattle.template_machine_meaning.specs.Replies.{guarded, kinded};
 ghost use Rattle.template_machine_operations.specs.Answers.{Answers};
 
 use std::alloc::Global;
-use template_machine_items::Items;
+use template_values_items::{Items, items_of};
 use template_machine_undefined::{forbids_iterating, refusal};
 use template_values_core::{Content, Value};
 use template_values_errors::{Error, ErrorKind, UndefinedBehavior};
 use template_values_forms::{NoRecords, Records};
-use template_values_items::items_of;
 
 /// What a loop goes over: the items of a list or tuple, which are shared, at once; the characters of a
 /// text and the keys of a map, keyword map, module or namespace, in time linear in their number;

@@ -6,7 +6,7 @@ ghost use Rattle.template_machine_blocks.specs.Streams.{stream_of};
 
 use std::marker::Model;
 use template_machine_blocks::Stream;
-use template_machine_items::Items;
+use template_values_items::Items;
 use template_values_core::Value;
 use template_values_forms::MacroView;
 

@@ -27,7 +27,7 @@ use std::mem;
 use template_code_blocks::CompiledBlock;
 use template_machine_blocks::{BlockStack, Home, Stream};
 use template_machine_frames::{Frame, LoopState, Rounds};
-use template_machine_items::Items;
+use template_values_items::Items;
 use template_values_core::Value;
 use template_values_errors::{AutoEscape, Error, ErrorKind};
 

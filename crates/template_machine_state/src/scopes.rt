@@ -19,7 +19,7 @@ use crate::state::State;
 use std::alloc::Global;
 use template_machine_blocks::Stream;
 use template_machine_frames::{Frame, LoopState, Rounds};
-use template_machine_items::Items;
+use template_values_items::Items;
 use template_machine_records::MacroRecord;
 use template_values_core::Value;
 use template_values_errors::{Error, ErrorKind};

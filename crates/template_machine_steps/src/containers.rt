@@ -10,7 +10,7 @@ ghost use Rattle.template_machine_operands.specs.Operands.{operands_in};
 ghost use Rattle.template_machine_steps.specs.Performs.{Performs, ruled};
 
 use std::alloc::Global;
-use template_machine_items::Items;
+use template_values_items::Items;
 use template_machine_operands::Operands;
 use template_machine_operations as values;
 use template_values_errors::{Error, ErrorKind, UndefinedBehavior};

@@ -1,2 +1,4 @@
 pub mod Loops
 pub mod Places
+pub mod Shared
+pub mod Held

@@ -3,9 +3,11 @@
 
 mod items;
 mod membership;
+mod ordered;
 mod records;
 mod slices;
 
+pub use ordered::Items;
 pub use items::{get_attr, get_item, items_of};
 pub use membership::contains;
 pub use slices::slice;

@@ -1,8 +1,7 @@
 //! Values in order: what a loop goes over, what is unpacked, and what an include chooses from.
-#![tactic(auto)]
 
 ghost use Rattle.std.specs.Prelude.{◌≡◌, ◌==◌, [], ◌∷◌, length, slice_get, option_copied};
-ghost use Rattle.template_machine_items.specs.Shared.{items_shared};
+ghost use Rattle.template_values_items.specs.Shared.{items_shared};
 
 use std::marker::Model;
 use std::slice;
@@ -33,7 +32,7 @@ impl Model for Items {
 
     ghost coded = { coded_list val_code };
 
-    ghost use Rattle.template_machine_items.specs.Held.{values_held};
+    ghost use Rattle.template_values_items.specs.Held.{values_held};
 
     ghost view = { λ items. values_held items.held };
 }
