@@ -1,7 +1,6 @@
 //! How a case describes what it brings.
 use std::alloc::Global;
-use template_machine_rows_brought::{Brought, First, Joined, Means, Named, Seen, What};
-use template_rows::unreadable;
+use template_rows::{Brought, First, Joined, Means, Named, Seen, What, unreadable};
 use template_values_core::Value;
 use template_values_errors::{Error, ErrorKind};
 

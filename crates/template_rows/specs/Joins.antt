@@ -4,9 +4,9 @@ use Rattle.std.specs.Global.{Global}
 use Rattle.std.specs.Str.{bytes_eq}
 use Rattle.template_values_errors.specs.declared.ErrorKind.{ErrorKind}
 use Rattle.template_callables.specs.Joins.{Joins}
-use Rattle.template_machine_rows_brought.specs.declared.joined.Joined.{Joined}
-use Rattle.template_machine_rows_brought.specs.declared.joined.Means.{Means}
-use Rattle.template_machine_rows_brought.specs.declared.joined.Means.TheVariants.{Behind, Fails}
+use Rattle.template_rows.specs.declared.joined.Joined.{Joined}
+use Rattle.template_rows.specs.declared.joined.Means.{Means}
+use Rattle.template_rows.specs.declared.joined.Means.TheVariants.{Behind, Fails}
 
 abbrev pub prefixes_in : List (String Global × String Global) → List (List ℕ × List ℕ)
 prefixes_in = map (λ (p : String Global × String Global). (string_bytes p.0, string_bytes p.1))

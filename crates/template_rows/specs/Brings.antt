@@ -10,8 +10,8 @@ use Rattle.template_values_model.specs.Val.{Val, int}
 use Rattle.template_values_named.specs.Named.{local_at, pairs_named}
 use Rattle.template_values_operators.specs.Sums.{sum_of}
 use Rattle.template_callables.specs.Callables.{View, Stated, finishes, refuses, goes_on}
-use Rattle.template_machine_rows_brought.specs.Says.{what_says}
-use Rattle.template_machine_rows_brought.specs.declared.brought.Brought.{Brought}
+use Rattle.template_rows.specs.Says.{what_says}
+use Rattle.template_rows.specs.declared.brought.Brought.{Brought}
 
 -- one more than the number, or 1 where there is none
 abbrev pub one_more : Option Val → Result Val Fault

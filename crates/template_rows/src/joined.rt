@@ -1,7 +1,7 @@
 //! What a case says of the names that stand in templates.
 ghost use Rattle.std.specs.Prelude.{◌≡◌, ◌++◌, IfErr, IfOk, string_bytes};
 ghost use Rattle.template_values_errors.specs.Memory.{NoMemory};
-ghost use Rattle.template_machine_rows_brought.specs.Joins.{joined_says, prefix_at, prefixes_in};
+ghost use Rattle.template_rows.specs.Joins.{joined_says, prefix_at, prefixes_in};
 
 use crate::what::fault;
 use std::alloc::Global;

@@ -3,7 +3,7 @@ ghost use Rattle.std.specs.Prelude.{IfErr, IfOk};
 ghost use Rattle.template_values_errors.specs.Memory.{NoMemory};
 ghost use Rattle.template_callables.specs.Formats.{Formats};
 ghost use Rattle.template_callables.specs.Views.{seen_in};
-ghost use Rattle.template_machine_rows_brought.specs.Prints.{formats_say, text_or_value};
+ghost use Rattle.template_rows.specs.Prints.{formats_say, text_or_value};
 
 use crate::brought::Brought;
 use std::alloc::Global;

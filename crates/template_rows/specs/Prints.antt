@@ -3,8 +3,8 @@ use Rattle.std.specs.Prelude.{ℕ, List, [], ◌∷◌, Option, None, Some}
 use Rattle.template_values_model.specs.Val.{Val}
 use Rattle.template_values_core.specs.Answers.{text_in}
 use Rattle.template_callables.specs.Callables.{View, Stated, finishes, refuses, goes_on, Formatted, writes, escapes, forbids}
-use Rattle.template_machine_rows_brought.specs.Brings.{brought_says}
-use Rattle.template_machine_rows_brought.specs.declared.brought.Brought.{Brought}
+use Rattle.template_rows.specs.Brings.{brought_says}
+use Rattle.template_rows.specs.declared.brought.Brought.{Brought}
 
 -- a text stands as it is, another value is printed under the escape in force
 abbrev pub as_text : Val → Option (List ℕ) → Formatted

@@ -6,7 +6,7 @@ ghost use Rattle.template_values_model.specs.Val as values;
 ghost use Rattle.template_values_named.specs.Named.{local_at, pairs_named};
 ghost use Rattle.template_callables.specs.Answers.{Answers, stated_by, temps_in};
 ghost use Rattle.template_callables.specs.Views.{seen_in};
-ghost use Rattle.template_machine_rows_brought.specs.Brings.{SetsFirst, before, brought_says, first_set, methods_say, one_more};
+ghost use Rattle.template_rows.specs.Brings.{SetsFirst, before, brought_says, first_set, methods_say, one_more};
 
 use crate::what::What;
 use std::alloc::Global;

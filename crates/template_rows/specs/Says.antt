@@ -17,14 +17,14 @@ use Rattle.template_values_named.specs.Named.{local_at}
 use Rattle.template_values_operators.specs.Kinds.{list_made}
 use Rattle.template_values_operators.specs.Products.{product_of}
 use Rattle.template_callables.specs.Callables.{View, Stated, finishes, refuses, goes_on, call, filter, test, lookup, call_macro, block}
-use Rattle.template_machine_rows_brought.specs.declared.what.What.{What}
-use Rattle.template_machine_rows_brought.specs.declared.what.What.TheVariants as whats
-use Rattle.template_machine_rows_brought.specs.declared.what.Seen.{Seen}
-use Rattle.template_machine_rows_brought.specs.declared.what.Seen.TheVariants as seens
-use Rattle.template_machine_rows_brought.specs.declared.what.First.{First}
-use Rattle.template_machine_rows_brought.specs.declared.what.First.TheVariants as firsts
-use Rattle.template_machine_rows_brought.specs.declared.what.Named.{Named}
-use Rattle.template_machine_rows_brought.specs.declared.what.Named.TheVariants as nameds
+use Rattle.template_rows.specs.declared.what.What.{What}
+use Rattle.template_rows.specs.declared.what.What.TheVariants as whats
+use Rattle.template_rows.specs.declared.what.Seen.{Seen}
+use Rattle.template_rows.specs.declared.what.Seen.TheVariants as seens
+use Rattle.template_rows.specs.declared.what.First.{First}
+use Rattle.template_rows.specs.declared.what.First.TheVariants as firsts
+use Rattle.template_rows.specs.declared.what.Named.{Named}
+use Rattle.template_rows.specs.declared.what.Named.TheVariants as nameds
 
 -- a value, or a fault
 abbrev pub answered : Result Val Fault → Stated

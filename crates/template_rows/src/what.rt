@@ -10,8 +10,8 @@ ghost use Rattle.template_callables.specs.Answers.{Answers};
 ghost use Rattle.template_callables.specs.Callables as callables;
 ghost use Rattle.template_callables.specs.Callables.{finishes, goes_on};
 ghost use Rattle.template_callables.specs.Views.{seen_in};
-ghost use Rattle.template_machine_rows_brought.specs.Says as says;
-ghost use Rattle.template_machine_rows_brought.specs.Says.{behavior_name, escape_name, first_says, keyword_at, keyword_of, name_says, seen_says, what_says};
+ghost use Rattle.template_rows.specs.Says as says;
+ghost use Rattle.template_rows.specs.Says.{behavior_name, escape_name, first_says, keyword_at, keyword_of, name_says, seen_says, what_says};
 
 use std::alloc::Global;
 use template_callables::{Answer, CallView, Further, copy_all};

@@ -1,4 +1,0 @@
-pub mod Brings
-pub mod Joins
-pub mod Prints
-pub mod Says
