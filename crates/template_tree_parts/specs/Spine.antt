@@ -1,7 +1,7 @@
 -- The left chain of an expression, which may be as long as the source, and one law for what goes along it.
 use Rattle.std.specs.Prelude.{List, [], ◌∷◌, ◌++◌, Option, None, Some}
 use Rattle.template_tree.specs.Tree.{Expression, variable, constant, slice, unary, binary, chain, conditional, filtered, tested, attribute, item, call, list_literal, tuple_literal, map_literal, Optional, absent, given}
-pub use Rattle.template_tree_nodes.specs.Left.{optional, left_of}
+pub use Rattle.template_tree_parts.specs.Left.{optional, left_of}
 
 -- the expression, its left part, that one's left part and so on, the last one first
 abbrev mutual

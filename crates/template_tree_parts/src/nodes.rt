@@ -1,14 +1,10 @@
 //! What is asked of one node of a tree: the part that begins where it begins; and samples of nodes.
-#![tactic(auto)]
 
 ghost use Rattle.std.specs.Prelude.{◌≡◌, ◌<◌, IfSome, option_map};
 ghost use Rattle.template_tree.specs.View.{expression_of};
 ghost use Rattle.template_tree.specs.declared.expressions.Expr.{size-Expr};
-ghost use Rattle.template_tree_nodes.specs.Left.{left_of};
+ghost use Rattle.template_tree_parts.specs.Left.{left_of};
 
-mod samples;
-
-pub use samples::{difference, one_entry};
 use template_tree::Expr;
 
 /// The part that begins where the expression begins, and takes no level of nesting: the object of an
