@@ -4,11 +4,11 @@ ghost use Rattle.template_compiler_block_names.specs.Own.{own_name};
 ghost use Rattle.template_compiler_block_names.specs.Waiting.{texts_in};
 ghost use Rattle.template_compiler_statement_makers.specs.Listed.{statements_in};
 ghost use Rattle.template_compiler_grammar.specs.TemplateTrees.{blocks_among};
-ghost use Rattle.template_tree_bodies.specs.Kinds.{is_block};
+ghost use Rattle.template_tree_parts.specs.Kinds.{is_block};
 ghost use Rattle.template_tree_statements.specs.View.{statement_of};
 
 use std::alloc::{AllocError, Global};
-use template_tree_bodies::{Picks, pick_among};
+use template_tree_parts::{Picks, pick_among};
 use template_tree_statements::Stmt;
 
 // The blocks, wherever they stand.

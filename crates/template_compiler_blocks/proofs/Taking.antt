@@ -1,10 +1,10 @@
 -- A statement's blocks: itself, and those of its bodies.
 use Rattle.std.proofs.Common.{◌≡◌, true, false, if◌then◌else◌, [], ◌∷◌, ◌++◌, append_assoc, append-nil, refl, sym, ap}
 use Rattle.template_tree.specs.Tree.{Statement, Statements, template, for_loop, if_condition, with_block, set_block, auto_escape, filter_block, block, macro, call_block}
-use Rattle.template_tree_bodies.specs.Bodies.{body_in, other_in}
-use Rattle.template_tree_bodies.specs.Kinds.{is_block, is_call_block, is_macro, is_template}
-use Rattle.template_tree_bodies.specs.Within.{joined, picked_among}
-use Rattle.template_tree_bodies.proofs.Picked.{said}
+use Rattle.template_tree_parts.specs.Bodies.{body_in, other_in}
+use Rattle.template_tree_parts.specs.Kinds.{is_block, is_call_block, is_macro, is_template}
+use Rattle.template_tree_parts.specs.Within.{joined, picked_among}
+use Rattle.template_tree_parts.proofs.Picked.{said}
 use Rattle.template_walk.specs.Blocks.{blocks_by, blocks_in}
 use Rattle.template_compiler_blocks.specs.Seen.{is_entered, own_blocks}
 

@@ -1,13 +1,13 @@
 //! The blocks among statements.
 ghost use Rattle.std.specs.Prelude.{◌≡◌, ◌++◌, IfOk, refl};
 ghost use Rattle.template_compiler_blocks.specs.Seen.{is_entered, own_blocks, trees_in};
-ghost use Rattle.template_tree_bodies.specs.Kinds.{is_block};
+ghost use Rattle.template_tree_parts.specs.Kinds.{is_block};
 ghost use Rattle.template_tree_parts.specs.Listed.{statements_in};
 ghost use Rattle.template_tree_statements.specs.View.{statement_of};
 ghost use Rattle.template_walk.specs.Blocks.{blocks_in};
 
 use std::alloc::{AllocError, Global};
-use template_tree_bodies::{Picks, pick_among};
+use template_tree_parts::{Picks, pick_among};
 use template_tree_statements::{Block, Stmt};
 
 // The blocks that stand in no macro.

@@ -3,10 +3,10 @@ use Rattle.std.proofs.Common.{◌≡◌, Bool, true, false, Result, Ok, Err, IfO
 use Rattle.template_tree.specs.Tree.{Expression, Statement, Statements, template, for_loop, if_condition, with_block, set_block, auto_escape, filter_block, block, macro, call_block}
 use Rattle.template_tree_statements.specs.View.{statement_of}
 use Rattle.template_tree_statements.specs.declared.statements.Stmt.{Stmt}
-use Rattle.template_tree_bodies.specs.Bodies.{body_in, other_in}
-use Rattle.template_tree_bodies.specs.Kinds.{is_block, is_loop, is_template}
-use Rattle.template_tree_bodies.specs.Within.{joined, picked_among, picked_of}
-use Rattle.template_tree_bodies.proofs.Picked.{said, said_of}
+use Rattle.template_tree_parts.specs.Bodies.{body_in, other_in}
+use Rattle.template_tree_parts.specs.Kinds.{is_block, is_loop, is_template}
+use Rattle.template_tree_parts.specs.Within.{joined, picked_among, picked_of}
+use Rattle.template_tree_parts.proofs.Picked.{said, said_of}
 use Rattle.template_names_closures.specs.Bodies.{is_part, own_part}
 use Rattle.template_names_closures.specs.Units.{Part, part_of, parts_in, rounds_of, units_among, units_of}
 use Rattle.template_names_closures.specs.declared.parts.Unit.{Unit}

@@ -8,7 +8,7 @@ ghost use Rattle.template_names_closures.specs.Units.{part_of, parts_in, rounds_
 
 use crate::Unit;
 use std::alloc::{AllocError, Global};
-use template_tree_bodies::{Picks, pick_among, pick_of};
+use template_tree_parts::{Picks, pick_among, pick_of};
 use template_tree_statements::{ForLoop, Stmt};
 
 // The statements that are units, wherever they stand.

@@ -7,10 +7,10 @@ use Rattle.template_tree.specs.declared.span.Spanned.{Spanned}
 use Rattle.template_tree.specs.declared.expressions.Compare.{Compare}
 use Rattle.template_tree.specs.declared.expressions.Expr.{Expr, Compare as CompareNode}
 use Rattle.template_tree_statements.specs.View.{imports_in}
-use Rattle.template_tree_bodies.specs.Bodies.{body_in, other_in}
-use Rattle.template_tree_bodies.specs.Kinds.{is_import, is_template}
-use Rattle.template_tree_bodies.specs.Within.{joined, picked_among}
-use Rattle.template_tree_bodies.proofs.Picked.{said}
+use Rattle.template_tree_parts.specs.Bodies.{body_in, other_in}
+use Rattle.template_tree_parts.specs.Kinds.{is_import, is_template}
+use Rattle.template_tree_parts.specs.Within.{joined, picked_among}
+use Rattle.template_tree_parts.proofs.Picked.{said}
 use Rattle.template_tree_parts.proofs.Trees.{chain_tree}
 use Rattle.template_walk.specs.Imported.{is_imported, is_imported_by, is_name, is_one_of}
 use Rattle.template_names.specs.Among.{Among, is_among}

@@ -2,7 +2,7 @@
 ghost use Rattle.std.specs.Prelude.{◌≡◌, ℕ, not, List, IfOk, refl};
 ghost use Rattle.template_tree.specs.View.{expression_of};
 ghost use Rattle.template_tree_statements.specs.View.{imports_in, statement_of};
-ghost use Rattle.template_tree_bodies.specs.Kinds.{is_import, is_template};
+ghost use Rattle.template_tree_parts.specs.Kinds.{is_import, is_template};
 ghost use Rattle.template_tree_parts.specs.Listed.{statements_in};
 ghost use Rattle.template_walk.specs.Imported.{is_imported, is_name, is_one_of};
 ghost use Rattle.template_names.specs.Among.{is_among, just};
@@ -10,7 +10,7 @@ ghost use Rattle.template_names_needed.specs.Needed.{Takes, own_imports};
 
 use std::alloc::{AllocError, Global};
 use template_tree::Expr;
-use template_tree_bodies::{Picks, pick_among};
+use template_tree_parts::{Picks, pick_among};
 use template_tree_statements::Stmt;
 
 // The statements that import names of others; a template inside another keeps its own.

@@ -3,3 +3,7 @@ pub mod Trees
 pub mod Chains
 pub mod Walks
 pub mod NodeChains
+pub mod BodyTrees
+pub mod Deep
+pub mod Others
+pub mod Picked

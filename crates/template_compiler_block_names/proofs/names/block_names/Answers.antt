@@ -1,6 +1,6 @@
 use Rattle.std.proofs.Common.{◌<◌, ◌≤◌, length, [], ◌++◌, append_assoc, append-nil, arith, ap, ◌∙◌}
-use Rattle.template_tree_bodies.specs.Within.{joined}
-use Rattle.template_tree_bodies.proofs.Picked.{all_done, one_more}
+use Rattle.template_tree_parts.specs.Within.{joined}
+use Rattle.template_tree_parts.proofs.Picked.{all_done, one_more}
 use Rattle.template_compiler_block_names.specs.Own.{own_name}
 use Rattle.template_compiler_block_names.specs.Waiting.{texts_in}
 use Rattle.template_compiler_block_names.proofs.Blocks.{names_of}

@@ -1,6 +1,6 @@
 use Rattle.std.proofs.Common.{◌<◌, ◌≤◌, length, [], ◌++◌, append_assoc, append-nil, arith, ap, ◌∙◌}
-use Rattle.template_tree_bodies.specs.Within.{joined}
-use Rattle.template_tree_bodies.proofs.Picked.{all_done, one_more}
+use Rattle.template_tree_parts.specs.Within.{joined}
+use Rattle.template_tree_parts.proofs.Picked.{all_done, one_more}
 use Rattle.template_tree_parts.specs.Listed.{statements_in}
 use Rattle.template_compiler_blocks.specs.Seen.{own_blocks, trees_in}
 use Rattle.template_compiler_blocks.proofs.Taking.{blocks_of}

@@ -3,8 +3,8 @@ use Rattle.template_tree.specs.declared.span.Spanned.{Spanned}
 use Rattle.template_tree_statements.specs.View.{statement_of}
 use Rattle.template_tree_statements.specs.declared.statements.Block.{Block as BlockNode}
 use Rattle.template_tree_statements.specs.declared.statements.Stmt.{Stmt}
-use Rattle.template_tree_bodies.proofs.Others.{no_block}
-use Rattle.template_tree_bodies.proofs.Trees.{block_tree}
+use Rattle.template_tree_parts.proofs.Others.{no_block}
+use Rattle.template_tree_parts.proofs.BodyTrees.{block_tree}
 use Rattle.template_compiler_blocks.specs.Seen.{own_blocks, tree_of, trees_in}
 use Rattle.template_compiler_blocks.proofs.Lists.{trees_push}
 use Rattle.template_compiler_blocks.proofs.Taking.{none_picked}

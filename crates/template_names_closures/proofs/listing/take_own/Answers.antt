@@ -5,8 +5,8 @@ use Rattle.template_tree_statements.specs.View.{statement_of}
 use Rattle.template_tree_statements.specs.declared.statements.Block.{Block as BlockNode}
 use Rattle.template_tree_statements.specs.declared.statements.ForLoop.{ForLoop as ForLoopNode}
 use Rattle.template_tree_parts.specs.Listed.{statements_in}
-use Rattle.template_tree_bodies.proofs.Others.{no_block, no_loop, no_template}
-use Rattle.template_tree_bodies.proofs.Trees.{block_tree}
+use Rattle.template_tree_parts.proofs.Others.{no_block, no_loop, no_template}
+use Rattle.template_tree_parts.proofs.BodyTrees.{block_tree}
 use Rattle.template_tree_parts.proofs.Trees.{for_tree, whole_tree}
 use Rattle.template_names_closures.specs.Bodies.{own_part}
 use Rattle.template_names_closures.specs.Units.{block_body, parts_in, rounds_of}

@@ -1,6 +1,6 @@
 use Rattle.std.proofs.Common.{◌<◌, ◌≤◌, length, [], ◌++◌, append_assoc, append-nil, arith, ap, ◌∙◌}
-use Rattle.template_tree_bodies.specs.Within.{joined}
-use Rattle.template_tree_bodies.proofs.Picked.{all_done, one_more}
+use Rattle.template_tree_parts.specs.Within.{joined}
+use Rattle.template_tree_parts.proofs.Picked.{all_done, one_more}
 use Rattle.template_tree_statements.specs.View.{statement_of}
 use Rattle.template_names_closures.specs.Bodies.{own_part}
 use Rattle.template_names_closures.specs.Units.{parts_in}

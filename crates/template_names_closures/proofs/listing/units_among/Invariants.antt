@@ -1,6 +1,6 @@
 -- The parts so far, and those that are left.
 use Rattle.std.proofs.Common.{◌≡◌, ◌++◌, [], drop}
-use Rattle.template_tree_bodies.specs.Within.{joined, trees_of}
+use Rattle.template_tree_parts.specs.Within.{joined, trees_of}
 use Rattle.template_names_closures.specs.Bodies.{own_part}
 use Rattle.template_names_closures.specs.Units.{parts_in}
 use Rattle.template_names_closures.proofs.listing.units_among.Given as goal

@@ -1,7 +1,7 @@
 use Rattle.std.proofs.Common.{◌<◌, ◌≤◌, length, false, ◌||◌, arith, sym, ap, ◌∙◌}
 use Rattle.template_tree_parts.specs.Listed.{statements_in}
-use Rattle.template_tree_bodies.specs.Within.{joined}
-use Rattle.template_tree_bodies.proofs.Picked.{all_done, one_more}
+use Rattle.template_tree_parts.specs.Within.{joined}
+use Rattle.template_tree_parts.proofs.Picked.{all_done, one_more}
 use Rattle.template_names.specs.Among.{is_among}
 use Rattle.template_names.proofs.Laws.{or_assoc, or_false}
 use Rattle.template_names_needed.specs.Needed.{own_imports}

@@ -1,6 +1,6 @@
 -- The names so far, and those that are left.
 use Rattle.std.proofs.Common.{◌≡◌, ℕ, ◌||◌, false, List, drop}
-use Rattle.template_tree_bodies.specs.Within.{joined, trees_of}
+use Rattle.template_tree_parts.specs.Within.{joined, trees_of}
 use Rattle.template_names.specs.Among.{is_among}
 use Rattle.template_names_needed.specs.Needed.{own_imports}
 use Rattle.template_names_needed.proofs.imported.imported_names.Given as goal

@@ -4,7 +4,7 @@ use Rattle.template_tree.specs.declared.span.Spanned.{Spanned}
 use Rattle.template_tree_statements.specs.View.{imports_in, statement_of}
 use Rattle.template_tree_statements.specs.declared.statements.FromImport.{FromImport as FromImportNode}
 use Rattle.template_tree_statements.specs.declared.statements.Stmt.{Stmt}
-use Rattle.template_tree_bodies.proofs.Others.{no_import}
+use Rattle.template_tree_parts.proofs.Others.{no_import}
 use Rattle.template_walk.specs.Imported.{is_one_of}
 use Rattle.template_names.specs.Among.{is_among}
 use Rattle.template_names.proofs.Laws.{or_false}

@@ -6,10 +6,10 @@ use Rattle.template_tree_statements.specs.declared.statements.IfCond.{IfCond as 
 use Rattle.template_tree_statements.specs.declared.statements.Stmt.{Stmt, size-Stmt, ForLoop, IfCond, WithBlock}
 use Rattle.template_tree.specs.declared.expressions.Expr.{Expr}
 use Rattle.template_tree.specs.Tree.{Statement, template, set_block, auto_escape, filter_block, block, macro, call_block}
-use Rattle.template_tree_bodies.specs.Bodies.{body_deep}
+use Rattle.template_tree_parts.specs.Bodies.{body_deep}
 use Rattle.template_tree_parts.specs.Listed.{statements_in}
-use Rattle.template_tree_bodies.proofs.Deep.{deep_as, deep_at, whole_deep, for_deep, for_other_deep, if_deep, if_other_deep, with_deep, set_block_deep, escape_deep, filter_block_deep, block_deep, macro_deep, call_deep}
-use Rattle.template_tree_bodies.proofs.Trees.{set_block_tree, filter_block_tree, block_tree, macro_tree, call_tree}
+use Rattle.template_tree_parts.proofs.Deep.{deep_as, deep_at, whole_deep, for_deep, for_other_deep, if_deep, if_other_deep, with_deep, set_block_deep, escape_deep, filter_block_deep, block_deep, macro_deep, call_deep}
+use Rattle.template_tree_parts.proofs.BodyTrees.{set_block_tree, filter_block_tree, block_tree, macro_tree, call_tree}
 use Rattle.template_tree_parts.proofs.Trees.{whole_tree, for_tree, if_tree, with_tree, escape_tree}
 use Rattle.template_tree.specs.declared.calls.Call.{Call as CallNode}
 use Rattle.template_tree_statements.specs.declared.statements.AutoEscape.{AutoEscape as AutoEscapeNode}

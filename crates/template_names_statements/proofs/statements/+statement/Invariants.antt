@@ -1,7 +1,7 @@
 -- What is left ends as all does.
 use Rattle.std.proofs.Common.{◌+◌, ◌*◌, ◌≤◌, drop}
 use Rattle.template_tree_statements.specs.declared.statements.Stmt.{size-Stmt, ForLoop, IfCond, WithBlock}
-use Rattle.template_tree_bodies.specs.Bodies.{body_deep}
+use Rattle.template_tree_parts.specs.Bodies.{body_deep}
 use Rattle.template_tree_parts.specs.Listed.{statements_in}
 use Rattle.template_names.specs.Names.{place_by, place_within}
 use Rattle.template_names.specs.declared.state.Names.{Names}

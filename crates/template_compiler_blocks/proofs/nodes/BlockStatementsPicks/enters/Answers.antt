@@ -1,8 +1,8 @@
 use Rattle.std.proofs.Common.{sym, ap, ◌∙◌}
 use Rattle.template_tree_statements.specs.View.{statement_of}
 use Rattle.template_tree_statements.specs.declared.statements.Stmt.{Stmt}
-use Rattle.template_tree_bodies.proofs.Others.{no_call_block, no_macro, no_template}
-use Rattle.template_tree_bodies.proofs.Trees.{call_tree}
+use Rattle.template_tree_parts.proofs.Others.{no_call_block, no_macro, no_template}
+use Rattle.template_tree_parts.proofs.BodyTrees.{call_tree}
 use Rattle.template_compiler_blocks.specs.Seen.{is_entered}
 use Rattle.template_compiler_blocks.proofs.Taking.{entered}
 use Rattle.template_compiler_blocks.proofs.nodes.BlockStatementsPicks.enters.Goals as goal

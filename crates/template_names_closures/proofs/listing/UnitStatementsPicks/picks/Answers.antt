@@ -1,6 +1,6 @@
 use Rattle.std.proofs.Common.{sym}
 use Rattle.template_tree_statements.specs.View.{statement_of}
-use Rattle.template_tree_bodies.proofs.Others.{no_block, no_loop, no_template}
+use Rattle.template_tree_parts.proofs.Others.{no_block, no_loop, no_template}
 use Rattle.template_names_closures.proofs.Taking.{no_part}
 use Rattle.template_names_closures.proofs.listing.UnitStatementsPicks.picks.Goals as goal
 

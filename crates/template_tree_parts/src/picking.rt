@@ -3,7 +3,7 @@ ghost use Rattle.std.specs.Prelude.{◌≡◌, ◌++◌, ℕ, Bool, false, List,
 ghost use Rattle.template_tree.specs.Tree.{Expression, Statement, print, raw};
 ghost use Rattle.template_tree_statements.specs.View.{statement_of};
 ghost use Rattle.template_tree_parts.specs.Listed.{statements_in};
-ghost use Rattle.template_tree_bodies.specs.Within.{IsPrinted, picked, picked_among, picked_of, trees_of};
+ghost use Rattle.template_tree_parts.specs.Within.{IsPrinted, picked, picked_among, picked_of, trees_of};
 
 use crate::bodies::{body_of, other_of};
 use std::alloc::{AllocError, Global};

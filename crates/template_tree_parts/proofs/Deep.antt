@@ -12,7 +12,7 @@ use Rattle.template_tree_statements.specs.declared.statements.SetBlock.{SetBlock
 use Rattle.template_tree_statements.specs.declared.statements.Template.{Template as TemplateNode}
 use Rattle.template_tree_statements.specs.declared.statements.WithBlock.{WithBlock as WithBlockNode}
 use Rattle.template_tree_statements.specs.declared.statements.Stmt.{Stmt, size-Stmt, AutoEscape, Block, CallBlock, FilterBlock, ForLoop, IfCond, Macro, SetBlock, Template, WithBlock, the_lemmas}
-use Rattle.template_tree_bodies.specs.Bodies.{body_deep}
+use Rattle.template_tree_parts.specs.Bodies.{body_deep}
 
 pub deep_at : (xs : Items Stmt) (i : ℕ) (x : Stmt) → i < length xs → x ≡ get_or xs i x → size-Stmt x < body_deep xs
 deep_at [] i x h read = absurd (omega (arith, h))

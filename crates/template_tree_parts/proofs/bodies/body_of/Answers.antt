@@ -9,11 +9,11 @@ use Rattle.template_tree_statements.specs.declared.statements.IfCond.{IfCond as 
 use Rattle.template_tree_statements.specs.declared.statements.Macro.{Macro as MacroNode}
 use Rattle.template_tree_statements.specs.declared.statements.SetBlock.{SetBlock as SetBlockNode}
 use Rattle.template_tree_statements.specs.declared.statements.WithBlock.{WithBlock as WithBlockNode}
-use Rattle.template_tree_bodies.specs.Bodies.{body_in}
-use Rattle.template_tree_bodies.proofs.Deep.{call_deep, deep_as, whole_deep, for_deep, if_deep, with_deep, set_block_deep, escape_deep, filter_block_deep, block_deep, macro_deep}
-use Rattle.template_tree_bodies.proofs.Trees.{call_tree, read_as, set_block_tree, filter_block_tree, block_tree, macro_tree}
+use Rattle.template_tree_parts.specs.Bodies.{body_in}
+use Rattle.template_tree_parts.proofs.Deep.{call_deep, deep_as, whole_deep, for_deep, if_deep, with_deep, set_block_deep, escape_deep, filter_block_deep, block_deep, macro_deep}
+use Rattle.template_tree_parts.proofs.BodyTrees.{call_tree, read_as, set_block_tree, filter_block_tree, block_tree, macro_tree}
 use Rattle.template_tree_parts.proofs.Trees.{whole_tree, for_tree, if_tree, with_tree, escape_tree}
-use Rattle.template_tree_bodies.proofs.bodies.body_of.Goals as goal
+use Rattle.template_tree_parts.proofs.bodies.body_of.Goals as goal
 
 pub returns-in-Template : goal.returns-in-Template
 returns-in-Template c = record {

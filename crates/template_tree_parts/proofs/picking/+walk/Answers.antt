@@ -1,13 +1,13 @@
 use Rattle.std.proofs.Common.{◌≡◌, ◌<◌, ◌≤◌, length, ◌++◌, refl, sym, ap, ◌∙◌, arith}
 use Rattle.template_tree_statements.specs.View.{statement_of}
 use Rattle.template_tree_statements.specs.declared.statements.Stmt.{size-Stmt}
-use Rattle.template_tree_bodies.specs.Bodies.{body_deep}
+use Rattle.template_tree_parts.specs.Bodies.{body_deep}
 use Rattle.template_tree_parts.specs.Listed.{statements_in}
-use Rattle.template_tree_bodies.specs.Within.{picked_among, trees_of}
-use Rattle.template_tree_bodies.proofs.Deep.{body_falls, deep_at, item_falls}
-use Rattle.template_tree_bodies.proofs.Picked.{body_done, body_item, body_passed, else_left, ends, left_out, only}
-use Rattle.template_tree_bodies.proofs.picking.+walk.Goals as goal
-use Rattle.template_tree_bodies.proofs.picking.+walk.Goals.{take_among-then-not-is_printed+in_ok-take_of, take_among-else-not-is_printed}
+use Rattle.template_tree_parts.specs.Within.{picked_among, trees_of}
+use Rattle.template_tree_parts.proofs.Deep.{body_falls, deep_at, item_falls}
+use Rattle.template_tree_parts.proofs.Picked.{body_done, body_item, body_passed, else_left, ends, left_out, only}
+use Rattle.template_tree_parts.proofs.picking.+walk.Goals as goal
+use Rattle.template_tree_parts.proofs.picking.+walk.Goals.{take_among-then-not-is_printed+in_ok-take_of, take_among-else-not-is_printed}
 
 pub take_of-take_among-requires : goal.take_of-take_among-requires
 take_of-take_among-requires g t c κs within =

@@ -2,11 +2,11 @@ use Rattle.std.proofs.Common.{[], arith, refl, ap, ◌∙◌}
 use Rattle.template_tree.specs.declared.span.Spanned.{Spanned}
 use Rattle.template_tree_statements.specs.declared.statements.ForLoop.{ForLoop as ForLoopNode}
 use Rattle.template_tree_statements.specs.declared.statements.IfCond.{IfCond as IfCondNode}
-use Rattle.template_tree_bodies.specs.Bodies.{other_in}
-use Rattle.template_tree_bodies.proofs.Deep.{deep_as, for_other_deep, if_other_deep}
-use Rattle.template_tree_bodies.proofs.Trees.{call_tree, read_as}
+use Rattle.template_tree_parts.specs.Bodies.{other_in}
+use Rattle.template_tree_parts.proofs.Deep.{deep_as, for_other_deep, if_other_deep}
+use Rattle.template_tree_parts.proofs.BodyTrees.{call_tree, read_as}
 use Rattle.template_tree_parts.proofs.Trees.{for_tree, if_tree}
-use Rattle.template_tree_bodies.proofs.bodies.other_of.Goals as goal
+use Rattle.template_tree_parts.proofs.bodies.other_of.Goals as goal
 
 pub returns-in-ForLoop : goal.returns-in-ForLoop
 returns-in-ForLoop c =

@@ -2,10 +2,10 @@
 use Rattle.std.proofs.Common.{◌≡◌, ◌≤◌, ◌+◌, ◌*◌, ◌++◌, drop}
 use Rattle.template_tree_statements.specs.View.{statement_of}
 use Rattle.template_tree_statements.specs.declared.statements.Stmt.{size-Stmt}
-use Rattle.template_tree_bodies.specs.Bodies.{body_deep}
+use Rattle.template_tree_parts.specs.Bodies.{body_deep}
 use Rattle.template_tree_parts.specs.Listed.{statements_in}
-use Rattle.template_tree_bodies.specs.Within.{picked_among, picked_of, trees_of}
-use Rattle.template_tree_bodies.proofs.picking.+walk.Given as goal
+use Rattle.template_tree_parts.specs.Within.{picked_among, picked_of, trees_of}
+use Rattle.template_tree_parts.proofs.picking.+walk.Given as goal
 
 abbrev pub decreases-take_among : goal.decreases-take_among
 decreases-take_among g l = 2 * body_deep l.body.now

@@ -4,9 +4,9 @@ use Rattle.std.proofs.Math.Seq.{drop-cons}
 use Rattle.template_tree.specs.Tree.{Statement, Statements, template, raw, print, for_loop, if_condition, with_block, set_block, auto_escape, filter_block, block, macro, call_block, no_statements, statements_more}
 use Rattle.template_tree_statements.specs.View.{statement_of}
 use Rattle.template_tree_statements.specs.declared.statements.Stmt.{Stmt}
-use Rattle.template_tree_bodies.specs.Bodies.{body_in, other_in}
+use Rattle.template_tree_parts.specs.Bodies.{body_in, other_in}
 use Rattle.template_tree_parts.specs.Listed.{statements_in}
-use Rattle.template_tree_bodies.specs.Within.{IsPrinted, joined, picked, picked_among, picked_of, picked_within, trees_of}
+use Rattle.template_tree_parts.specs.Within.{IsPrinted, joined, picked, picked_among, picked_of, picked_within, trees_of}
 
 pub trees_push : (xs : List (Bor Stmt)) (x : Bor Stmt) → trees_of (xs ++ x ∷ []) ≡ trees_of xs ++ statement_of x.now ∷ []
 trees_push [] x = refl

@@ -2,7 +2,7 @@
 ghost use Rattle.std.specs.Prelude.{◌≡◌, ◌≤◌};
 ghost use Rattle.template_tree_statements.specs.View.{statement_of};
 ghost use Rattle.template_tree_statements.specs.declared.statements.Stmt.{size-Stmt};
-ghost use Rattle.template_tree_bodies.specs.Bodies.{body_deep, body_in, other_in};
+ghost use Rattle.template_tree_parts.specs.Bodies.{body_deep, body_in, other_in};
 ghost use Rattle.template_tree_parts.specs.Listed.{statements_in};
 
 use template_tree_statements::Stmt;

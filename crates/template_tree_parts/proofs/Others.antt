@@ -7,7 +7,7 @@ use Rattle.template_tree_statements.specs.declared.statements.Stmt.{Stmt, Templa
 use Rattle.template_tree_statements.specs.declared.statements.Stmt.TheOpen.{Stmt-F}
 use Rattle.template_tree_statements.specs.declared.statements.Stmt.TheViews.{out-Stmt, roll-Stmt, roll-out-Stmt}
 use Rattle.template_tree_statements.specs.declared.statements.Stmt.TheVariants.{rolls-Template, rolls-ForLoop, rolls-Block, rolls-FromImport, rolls-Macro, rolls-CallBlock}
-use Rattle.template_tree_bodies.specs.Kinds.{is_template, is_loop, is_block, is_import, is_macro, is_call_block}
+use Rattle.template_tree_parts.specs.Kinds.{is_template, is_loop, is_block, is_import, is_macro, is_call_block}
 
 data Kind : Type 0 where
   a_template : Kind

@@ -1,4 +1,0 @@
-pub mod Trees
-pub mod Deep
-pub mod Others
-pub mod Picked
