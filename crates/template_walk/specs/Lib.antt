@@ -8,3 +8,5 @@ pub mod Runnable
 pub mod Blocks
 pub mod Imported
 pub mod Laws
+pub mod Standing
+pub mod NumberLaws

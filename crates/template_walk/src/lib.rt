@@ -3,6 +3,12 @@
 
 ghost use Rattle.template_walk.specs.Laws.{MacrosRise, RoundsRise, WalksRise};
 
+mod numbers;
+
+pub use numbers::{macros_find_their_bodies, loops_find_their_rounds};
+
+
+
 /// Under a greater bound on rounds a template does what it does under a smaller one, as far as that
 /// goes.
 pub fn walks_rise()

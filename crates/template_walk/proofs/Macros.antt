@@ -4,8 +4,8 @@ use Rattle.template_tree.specs.Tree.{Expression, Expressions, Arguments, Stateme
 use Rattle.template_process.specs.Process.{Counts, no_counts}
 use Rattle.template_walk.specs.Expressions.{callee_of}
 use Rattle.template_walk.specs.Counting.{MacroBody, caller_counts, counts_among, counts_by, macro_among, macro_by}
-use Rattle.template_walk_numbers.specs.Standing.{Enters, IsMade, Stands, behind_rounds, here, in_branch, in_caller, in_escape, in_filter, in_macro, in_other, in_rounds, in_set, in_with, later, within}
-use Rattle.template_walk_numbers.proofs.Below.{below_first, below_second, caller_found, caller_made}
+use Rattle.template_walk.specs.Standing.{Enters, IsMade, Stands, behind_rounds, here, in_branch, in_caller, in_escape, in_filter, in_macro, in_other, in_rounds, in_set, in_with, later, within}
+use Rattle.template_walk.proofs.Below.{below_first, below_second, caller_found, caller_made}
 
 abbrev many : Statements → ℕ
 many tree = (counts_among tree).macros

@@ -4,7 +4,7 @@ use Rattle.std.proofs.lemmas.Bool.Decides.{nat_tests}
 use Rattle.template_process.specs.Process.{Counts}
 use Rattle.template_walk.specs.Expressions.{Callee, by_block}
 use Rattle.template_walk.specs.Counting.{LoopRounds, below_or, caller_counts, loop_counts, macro_counts, rounds_or, within_caller}
-use Rattle.template_walk_numbers.specs.Standing.{IsMade}
+use Rattle.template_walk.specs.Standing.{IsMade}
 
 pub below_first : {X : Type 0} (n mid : ℕ) (o p : Option X) → n < mid → below_or n mid o p ≡ o
 below_first n mid o p h = let is : nat_lt n mid ≡ true = grind (arith, nat_tests) in ap (λ (b : Bool). if b then o else p) is

@@ -1,8 +1,8 @@
 //! Laws of the numbers of macros and of loops that may be called again: what a declaration makes is found under its number, with its
 //! own body. The functions do nothing: each stands for the law in its contract.
-#![tactic(auto)]
 
-ghost use Rattle.template_walk_numbers.specs.Laws.{CallersFindTheirBodies, LoopsFindTheirRounds, MacrosFindTheirBodies};
+ghost use Rattle.template_walk.specs.NumberLaws.{CallersFindTheirBodies, LoopsFindTheirRounds, MacrosFindTheirBodies};
+
 
 /// The number that a walk gives to a macro that it makes is that of its own body, arguments and defaults, wherever in a tree it is
 /// declared; so it is of the body of a call block.

@@ -1,5 +1,5 @@
-use Rattle.template_walk_numbers.proofs.Macros.{caller_body_found, macro_found}
-use Rattle.template_walk_numbers.proofs.macros_find_their_bodies.Goals as goal
+use Rattle.template_walk.proofs.Macros.{caller_body_found, macro_found}
+use Rattle.template_walk.proofs.numbers.macros_find_their_bodies.Goals as goal
 
 pub returns-clause-macros : goal.returns-clause-macros
 returns-clause-macros c = macro_found

@@ -5,7 +5,7 @@ use Rattle.template_process.specs.Process.{Counts, no_counts, counted_together}
 use Rattle.template_walk.specs.Expressions.{callee_of}
 use Rattle.template_walk.specs.Counting.{loop_counts, macro_numbered, rounds_numbered}
 use Rattle.template_walk.specs.Statements.{caller_name, looping_behind, making_of}
-use Rattle.template_walk_numbers.specs.Standing.{IsMade, Stands}
+use Rattle.template_walk.specs.Standing.{IsMade, Stands}
 
 -- A macro that a walk makes, wherever in a tree it is declared, has the number under which its own body is found, with its arguments,
 -- its defaults, and what stands before it.

@@ -1,3 +1,0 @@
-mod Below
-mod Macros
-mod Rounds
