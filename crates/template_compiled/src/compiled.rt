@@ -14,7 +14,7 @@ ghost use Rattle.template_compiler_sources.specs.Source.{IsAlone, IsSource};
 ghost use Rattle.template_machine_surroundings.specs.Rule.{IsEscapeOf};
 ghost use Rattle.template_compiled.specs.Compiled.{IsFaithful, code_for, escaped_as};
 ghost use Rattle.template_names.specs.Names.{IsTold};
-ghost use Rattle.template_names_undeclared.specs.Found.{Adds, AddsSome};
+ghost use Rattle.template_names_statements.specs.Found.{Adds, AddsSome};
 ghost use Rattle.template_compiled.specs.Names.{uses};
 ghost use Rattle.template_compiler_emission.specs.Puts.{NoRoom};
 ghost use Rattle.template_compiled.specs.Plain.{IsPlain, PlainStandsForItself};
@@ -38,7 +38,7 @@ use template_compiler_statement_codegen::children;
 use template_compiler_syntax::SyntaxConfig;
 use template_machine_surroundings::EscapeRule;
 use template_names_needed::add_needed;
-use template_names_undeclared::find_undeclared;
+use template_names_statements::find_undeclared;
 use template_tree_statements::Stmt;
 use template_values_errors::{AutoEscape, Error, ErrorKind};
 

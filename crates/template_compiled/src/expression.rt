@@ -21,7 +21,7 @@ use std::marker::Model;
 use template_code::Instructions;
 use template_compiler_numbers::number_names;
 use template_compiler_sources::parse_expr;
-use template_names_undeclared::find_undeclared;
+use template_names_statements::find_undeclared;
 use template_tree::{Expr, Span, Spanned};
 use template_tree_statements::{EmitExpr, Stmt};
 use template_values_errors::Error;

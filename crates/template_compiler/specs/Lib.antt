@@ -32,7 +32,7 @@ pub use Rattle.template_compiler_sources.specs.Source
 pub use Rattle.template_compiler_sources.specs.Parsers
 pub use Rattle.template_names.specs.Names as UsedNames
 pub use Rattle.template_names.specs.Enclosed
-pub use Rattle.template_names_undeclared.specs.Found
+pub use Rattle.template_names_statements.specs.Found
 pub use Rattle.template_names_closures.specs.Closures
 pub use Rattle.template_names_closures.specs.Units
 pub use Rattle.template_process.specs.Process

@@ -75,5 +75,5 @@ pub use template_compiler_syntax::{StartMarker, SyntaxConfig, SyntaxConfigBuilde
 pub use template_compiler_tokenizer::{TokenStream, Tokenizer};
 pub use template_compiler_tokens::{Token, Tokens, one_token};
 pub use template_names_closures::{Unit, find_macro_closure, units, used_names};
-pub use template_names_undeclared::{add_undeclared, find_undeclared, first_segments};
+pub use template_names_statements::{add_undeclared, find_undeclared, first_segments};
 pub use template_values_errors::{Error, ErrorKind};

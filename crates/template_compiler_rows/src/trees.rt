@@ -14,7 +14,7 @@ use std::collections::BTreeSet;
 use template_compiler_folding::as_const;
 use template_compiler_sources::{parse, parse_expr};
 use template_compiler_syntax::SyntaxConfig;
-use template_names_undeclared::{add_undeclared, find_undeclared};
+use template_names_statements::{add_undeclared, find_undeclared};
 use template_tree::Expr;
 use template_tree_statements::Stmt;
 use template_values_errors::{Error, ErrorKind};

@@ -6,7 +6,7 @@ use Rattle.std.specs.Prelude.{if◌then◌else◌}
 use Rattle.template_values_errors.specs.declared.ErrorKind.{ErrorKind}
 use Rattle.template_values_errors.specs.declared.ErrorKind.TheVariants.{InvalidOperation}
 use Rattle.template_values_model.specs.Val.{Val}
-use Rattle.template_names_undeclared.proofs.Walking.{turned as named_either_way}
+use Rattle.template_names_statements.proofs.UndeclaredWalking.{turned as named_either_way}
 use Rattle.template_process.specs.Approximants.{IsFinished}
 use Rattle.template_process.specs.Drive.{End, ends, faults, breaks, waits, mistaken, cuts, sticks}
 use Rattle.template_process.specs.Process.{Answer, Process, Told, tells, fails, value}

@@ -3,7 +3,7 @@ use Rattle.std.proofs.Common.{◌≡◌, ℕ, Bool, true, false, not, ◌&&◌, 
 use Rattle.std.specs.Option.{option_map}
 use Rattle.template_tree.specs.Tree.{Statements}
 use Rattle.template_names.specs.Names.{IsTold, Places, is_stored_everywhere, is_used, uses_place}
-use Rattle.template_names_undeclared.proofs.Walking.{turned}
+use Rattle.template_names_statements.proofs.UndeclaredWalking.{turned}
 use Rattle.template_walk.specs.Blocks.{blocks_in}
 use Rattle.template_walk.specs.Imported.{is_imported}
 use Rattle.template_machine_meaning.specs.Isolation as isolation

@@ -15,7 +15,7 @@ use std::alloc::Global;
 use std::collections::BTreeSet;
 use template_callables::Extension;
 use template_machine_meaning::isolation;
-use template_names_undeclared::add_name;
+use template_names_statements::add_name;
 use template_values_errors::Error;
 
 impl<'source, E: Extension> Environment<'source, E> {

@@ -14,7 +14,7 @@ use Rattle.template_names.specs.Names.{IsToldFor, Places, anywhere, is_stored_ev
 use Rattle.template_names.specs.declared.state.Names.{Names}
 use Rattle.template_names.proofs.Laws.{and_false, goes_then, turned, uses_then}
 use Rattle.template_names_closures.specs.declared.parts.Unit.{Unit}
-use Rattle.template_names_undeclared.specs.Found.{AddsSome}
+use Rattle.template_names_statements.specs.Found.{AddsSome}
 use Rattle.template_names_needed.specs.Needed.{is_used_by_one, needed_by, place_in_blocks, place_in_loops}
 
 -- nothing was found or known before

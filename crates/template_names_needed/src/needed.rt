@@ -4,7 +4,7 @@ ghost use Rattle.std.specs.BTreeSet.{contains_text};
 ghost use Rattle.template_tree_parts.specs.Listed.{statements_in};
 ghost use Rattle.template_machine_meaning.specs.Isolation.{is_needed};
 ghost use Rattle.template_names.specs.Among.{Adds};
-ghost use Rattle.template_names_undeclared.specs.Found.{AddsSome};
+ghost use Rattle.template_names_statements.specs.Found.{AddsSome};
 ghost use Rattle.template_names_needed.specs.Needed.{is_used_by_one, needed_by};
 
 use crate::imported::imported_names;
@@ -14,8 +14,7 @@ use std::collections::BTreeSet;
 use template_compiler_blocks::blocks;
 use template_names::{Names, add_each};
 use template_names_closures::use_loop_rounds;
-use template_names_statements::use_region;
-use template_names_undeclared::add_names;
+use template_names_statements::{use_region, add_names};
 use template_tree_statements::Stmt;
 
 /// The names that a template needs: those that it uses, those that one of its blocks, or of its recursive loops, uses by

@@ -3,3 +3,6 @@ pub mod Deep
 mod Walking
 mod Nodes
 pub mod Storing
+mod Adding
+pub mod UndeclaredWalking
+mod Whole

@@ -4,3 +4,4 @@ pub mod Stores
 pub use Rattle.template_names.specs.Among
 pub use Rattle.template_names.specs.Dotted
 pub use Rattle.template_names.specs.Goes
+pub mod Found

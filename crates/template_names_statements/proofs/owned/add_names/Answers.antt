@@ -1,10 +1,10 @@
 use Rattle.std.proofs.Common.{◌∙◌, ◌||◌, String, Global, string_bytes}
 use Rattle.std.specs.BTreeSet.{contains_text}
 use Rattle.std.proofs.lemmas.Map.Iter.{rest_more}
-use Rattle.template_names_undeclared.specs.Found.{AddsSome}
+use Rattle.template_names_statements.specs.Found.{AddsSome}
 use Rattle.template_names.specs.Among.{just}
-use Rattle.template_names_undeclared.proofs.Adding.{kept_more, on_err, one_added, some_added}
-use Rattle.template_names_undeclared.proofs.owned.add_names.Goals as goal
+use Rattle.template_names_statements.proofs.Adding.{kept_more, on_err, one_added, some_added}
+use Rattle.template_names_statements.proofs.owned.add_names.Goals as goal
 
 pub loop-name-preserved : goal.loop-name-preserved
 loop-name-preserved c =

@@ -5,7 +5,7 @@ use Rattle.std.specs.BTreeSet.{BTreeSet, contains_text}
 use Rattle.template_tree.specs.Tree.{Statement, template, raw, print, for_loop, if_condition, with_block, set, set_block, auto_escape, filter_block, block, import, from_import, extends, include, macro, call_block, continue_loop, break_loop, do_call}
 use Rattle.template_names.specs.Names.{IsToldFor, Places, anywhere, is_stored_by, is_stored_everywhere, place_by}
 use Rattle.template_names.specs.declared.state.Names.{Names}
-use Rattle.template_names_undeclared.specs.Found.{HasJust, has_place, uses}
+use Rattle.template_names_statements.specs.Found.{HasJust, has_place, uses}
 use Rattle.template_names.specs.Among.{just}
 use Rattle.template_names.specs.Goes.{Goes, knows, no_place, tells}
 use Rattle.template_names.proofs.Laws.{goes_then, turned}

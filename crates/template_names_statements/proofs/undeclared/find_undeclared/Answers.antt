@@ -1,6 +1,6 @@
 use Rattle.template_tree_statements.specs.View.{statement_of}
-use Rattle.template_names_undeclared.proofs.Whole.{in_set, whole_names}
-use Rattle.template_names_undeclared.proofs.undeclared.find_undeclared.Goals as goal
+use Rattle.template_names_statements.proofs.Whole.{in_set, whole_names}
+use Rattle.template_names_statements.proofs.undeclared.find_undeclared.Goals as goal
 
 pub returns : goal.returns
 returns c =

@@ -3,12 +3,12 @@ ghost use Rattle.std.specs.Prelude.{◌≡◌, ◌↔◌, ℕ, List, IfOk, IsTru
 ghost use Rattle.template_tree.specs.Tree.{Statements};
 ghost use Rattle.template_tree_statements.specs.View.{statement_of};
 ghost use Rattle.template_names.specs.Names.{along, is_used, uses_place};
-ghost use Rattle.template_names_undeclared.specs.Found.{HasJust};
+ghost use Rattle.template_names_statements.specs.Found.{HasJust};
 
 use std::alloc::{AllocError, Global};
 use std::collections::BTreeSet;
 use template_names::Names;
-use template_names_statements::use_statement;
+use crate::use_statement;
 use template_tree_statements::Stmt;
 
 /// The names that a template uses, each once, in order; where `track_nested`, each with the dotted names that

@@ -3,7 +3,7 @@ ghost use Rattle.std.specs.Prelude.{OnErr, OnOk};
 ghost use Rattle.std.specs.BTreeSet.{contains_text};
 ghost use Rattle.template_tree_statements.specs.View.{statement_of};
 ghost use Rattle.template_names.specs.Among.{Adds};
-ghost use Rattle.template_names_undeclared.specs.Found.{AddsJust, AddsSome, uses};
+ghost use Rattle.template_names_statements.specs.Found.{AddsJust, AddsSome, uses};
 
 use crate::undeclared::find_undeclared;
 use std::alloc::{AllocError, Global};

@@ -1,6 +1,6 @@
 use Rattle.std.proofs.Common.{IsTrue, ◌≡◌, ℕ, List, ◌||◌}
 use Rattle.std.specs.BTreeSet.{contains_text}
-use Rattle.template_names_undeclared.proofs.owned.add_names.Given as goal
+use Rattle.template_names_statements.proofs.owned.add_names.Given as goal
 
 -- with the names that are left the set has what it is to have, and it keeps its names
 abbrev pub invariant-loop-name : goal.invariant-loop-name

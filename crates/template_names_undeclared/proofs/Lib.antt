@@ -1,3 +1,0 @@
-mod Adding
-pub mod Walking
-mod Whole

@@ -1,2 +1,0 @@
-pub mod Found
-pub use Rattle.template_names.specs.Among
