@@ -10,7 +10,7 @@ ghost use Rattle.template_compiler_scanner.specs.Scans.{Unescaped, TakesEscape, 
 use crate::bytes::byte_at;
 use memchr::memchr;
 use std::alloc::{AllocError, Global};
-use template_compiler_places::is_low_surrogate;
+use template_compiler_tokens::is_low_surrogate;
 use template_values_errors::ErrorKind;
 
 // The character that a letter behind a backslash stands for.

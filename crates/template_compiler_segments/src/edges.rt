@@ -5,7 +5,7 @@ ghost use Rattle.template_compiler_segments.specs.Places.{sign_of, sign_at, sign
 ghost use Rattle.template_compiler_segments.specs.Segments.{comment_sign as sign_of_comment, start_sign as sign_of_start};
 
 use crate::places::rest_from;
-use template_compiler_places::last_between;
+use template_compiler_tokens::last_between;
 use template_compiler_syntax::{StartMarker, SyntaxConfig};
 
 /// The sign at an end of a segment.

@@ -11,7 +11,7 @@ ghost use Rattle.template_compiler_segments.specs.Known.{IsKnown, IsSought, IsNe
 use crate::edges::Sign;
 use crate::places::{find_text, is_first_on_line, rest_from};
 use memchr::memchr;
-use template_compiler_places::goes_before;
+use template_compiler_tokens::goes_before;
 use template_compiler_syntax::{StartMarker, SyntaxConfig};
 
 /// What is known of the start markers of one kind from a place on.

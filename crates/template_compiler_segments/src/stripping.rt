@@ -6,7 +6,7 @@ ghost use Rattle.template_compiler_segments.specs.Stripping.{stripped_from, stri
 
 use crate::edges::{Edge, Sign};
 use crate::places::{blanks_from, is_first_on_line, newline_len};
-use template_compiler_places::behind_white_space;
+use template_compiler_tokens::behind_white_space;
 use template_compiler_syntax::{StartMarker, SyntaxConfig};
 
 /// The data between two places of a source, less the white space that what stands beside it takes.

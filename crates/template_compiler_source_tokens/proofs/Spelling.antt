@@ -10,7 +10,7 @@ use Rattle.template_compiler_tokens.specs.Token.{TokenFault, bad}
 use Rattle.template_compiler_tokens.specs.Left.{kind_of}
 use Rattle.template_compiler_tokens.specs.Lexical.{no_sign, Class, name_class, number_class, text_class, sign_class, class_of, BeginsAs, Begins, IsToken, token_at}
 use Rattle.template_compiler_tokens.specs.Texts.{bad_text, open_text}
-use Rattle.template_compiler_places.specs.Places.{span_between}
+use Rattle.template_compiler_tokens.specs.SourcePlaces.{span_between}
 use Rattle.template_compiler_tokens.proofs.OneToken.{one_token, some_token}
 use Rattle.template_compiler_segments.specs.Segments.{is_bad}
 use Rattle.template_compiler_segments.proofs.Bytes.{takes_bytes}

@@ -5,7 +5,7 @@ ghost use Rattle.template_compiler_stream.specs.declared.refusal.Refusal.TheVari
 
 use crate::refusals::fault_of;
 use std::alloc::Global;
-use template_compiler_places::Place;
+use template_compiler_tokens::Place;
 use template_compiler_scanner::scan_token;
 use template_compiler_stream::{Refusal, TokenStream};
 

@@ -5,10 +5,9 @@ ghost use Rattle.template_compiler_source_tokens.specs.Kinds.{refused_kind};
 use crate::ends::ends_at;
 use crate::prefixes::{Text, take_first};
 use std::alloc::{AllocError, Global};
-use template_compiler_places::Place as Position;
+use template_compiler_tokens::{Place as Position, Token};
 use template_compiler_source_tokens::error_of;
 use template_compiler_stream::Refusal;
-use template_compiler_tokens::Token;
 use template_tree::Span;
 use template_values_errors::{Error, Place};
 

@@ -1,6 +1,6 @@
 -- What it tells of five starts that they are apart.
 use Rattle.std.proofs.Common.{◌≡◌, ℕ, List, refl, sym, ◌∙◌}
-use Rattle.template_compiler_places.specs.Starts.{AreApart, Differ}
+use Rattle.template_compiler_tokens.specs.Starts.{AreApart, Differ}
 use Rattle.template_compiler_syntax.specs.declared.StartMarker.TheVariants.{Variable, Block, Comment, LineStatement, LineComment}
 use Rattle.template_compiler_syntax.specs.Syntax.{Syntax, start_text, IsApart}
 

@@ -3,7 +3,7 @@ ghost use Rattle.std.specs.Prelude.{◌≡◌, ◌↔◌, IfOk, IsTrue};
 
 use std::alloc::{AllocError, Global};
 use std::borrow::CowStr;
-use template_compiler_places::are_apart;
+use template_compiler_tokens::are_apart;
 
 /// What a kind of segment begins and ends with.
 #[derive(Clone, Drop)]

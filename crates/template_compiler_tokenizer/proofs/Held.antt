@@ -4,8 +4,8 @@ use Rattle.std.proofs.lemmas.List.{map-append}
 use Rattle.template_values_errors.specs.declared.ErrorKind.{ErrorKind}
 use Rattle.template_tree.specs.declared.span.Span.{Span}
 use Rattle.template_compiler_syntax.specs.Syntax.{Syntax}
-use Rattle.template_compiler_places.specs.Places.{span_between}
-use Rattle.template_compiler_places.specs.Stretches.{BeginsBy}
+use Rattle.template_compiler_tokens.specs.SourcePlaces.{span_between}
+use Rattle.template_compiler_tokens.specs.Stretches.{BeginsBy}
 use Rattle.template_compiler_tokens.specs.Left.{IsRefused}
 use Rattle.template_compiler_tokens.specs.View.{token_of}
 use Rattle.template_compiler_tokens.specs.declared.token.Token.{Token}
@@ -14,7 +14,7 @@ use Rattle.template_compiler_placed_tokens.specs.Left.{Placed, placed, left_at, 
 use Rattle.template_compiler_placed_tokens.specs.Reads.{IsStage, IsRefusedKind, ReadsPiece}
 use Rattle.template_compiler_tokenizer.specs.Spans.{Spanned, spanned, spans_in, words_in}
 use Rattle.template_compiler_tokenizer.specs.Tokenizer.{TokenizerView, placed_at, view_of, IsStanding}
-use Rattle.template_compiler_places.specs.declared.stretch.Stretch.{Stretch}
+use Rattle.template_compiler_tokens.specs.declared.stretch.Stretch.{Stretch}
 use Rattle.template_compiler_segments.specs.declared.starts.StartFinder.{StartFinder}
 use Rattle.template_compiler_tokenizer.specs.declared.tokenizer.State.{State}
 use Rattle.template_compiler_tokenizer.specs.declared.tokenizer.State.TheVariants.{Refused}

@@ -15,8 +15,8 @@ use Rattle.template_compiler_placed_tokens.specs.Finds.{FindsPlace}
 use Rattle.template_compiler_tokenizer.specs.Held.{StandsIn, left_of, HoldsRead, HoldsRefused, IsFurther}
 use Rattle.template_compiler_tokenizer.specs.Held.{spanned_of}
 use Rattle.template_compiler_tokenizer.specs.Spans.{spanned}
-use Rattle.template_compiler_places.specs.Places.{span_between}
-use Rattle.template_compiler_places.specs.Stretches.{BeginsBy}
+use Rattle.template_compiler_tokens.specs.SourcePlaces.{span_between}
+use Rattle.template_compiler_tokens.specs.Stretches.{BeginsBy}
 use Rattle.std.specs.Prelude.{◌≤◌, [], ◌++◌, take}
 use Rattle.template_compiler_tokens.specs.declared.token.Token.TheVariants.{VariableEnd, BlockEnd}
 use Rattle.template_compiler_syntax.specs.declared.StartMarker.TheVariants as marker

@@ -3,9 +3,9 @@ use Rattle.std.proofs.Common.{◌≡◌, ℕ, ◌≤◌, inl, List, [], ◌∷�
 use Rattle.template_values_errors.specs.declared.ErrorKind.{ErrorKind}
 use Rattle.template_values_errors.specs.declared.ErrorKind.TheVariants.{OutOfMemory}
 use Rattle.template_tree.specs.declared.span.Span.{Span}
-use Rattle.template_compiler_places.specs.Places.{span_between}
-use Rattle.template_compiler_places.specs.Stretches.{BeginsBy}
-use Rattle.template_compiler_places.specs.declared.stretch.Stretch.{Stretch}
+use Rattle.template_compiler_tokens.specs.SourcePlaces.{span_between}
+use Rattle.template_compiler_tokens.specs.Stretches.{BeginsBy}
+use Rattle.template_compiler_tokens.specs.declared.stretch.Stretch.{Stretch}
 use Rattle.template_compiler_syntax.specs.Syntax.{Syntax}
 use Rattle.template_compiler_tokens.specs.Token as spec
 use Rattle.template_compiler_tokens.specs.declared.token.Token.{Token}

@@ -4,13 +4,13 @@ use Rattle.template_values_errors.specs.declared.ErrorKind.{ErrorKind}
 use Rattle.template_values_errors.specs.declared.ErrorKind.TheVariants.{OutOfMemory}
 use Rattle.template_tree.specs.declared.span.Span.{Span}
 use Rattle.template_compiler_syntax.specs.Syntax.{Syntax}
-use Rattle.template_compiler_places.specs.Stretches.{BeginsBy}
+use Rattle.template_compiler_tokens.specs.Stretches.{BeginsBy}
 use Rattle.template_compiler_tokens.specs.Left.{IsRefused}
 use Rattle.template_compiler_tokens.specs.View.{token_of}
 use Rattle.template_compiler_tokens.specs.declared.token.Token.{Token}
 use Rattle.template_compiler_placed_tokens.specs.Left.{Placed, left_at}
 use Rattle.template_compiler_placed_tokens.specs.Reads.{IsStage, IsRefusedKind}
-use Rattle.template_compiler_places.specs.Places.{span_between}
+use Rattle.template_compiler_tokens.specs.SourcePlaces.{span_between}
 use Rattle.template_compiler_tokenizer.specs.Spans.{Spanned, spanned, spans_in, words_in}
 use Rattle.template_compiler_tokenizer.specs.declared.all.Standing.{Standing}
 use Rattle.template_compiler_placed_tokens.specs.declared.inside.Piece.{Piece}

@@ -5,8 +5,8 @@ use Rattle.template_values_errors.specs.declared.ErrorKind.{ErrorKind}
 use Rattle.template_values_errors.specs.declared.ErrorKind.TheVariants.{OutOfMemory}
 use Rattle.template_tree.specs.declared.span.Span.{Span}
 use Rattle.template_compiler_syntax.specs.declared.StartMarker.{StartMarker}
-use Rattle.template_compiler_places.specs.Places.{span_between}
-use Rattle.template_compiler_places.specs.Stretches.{BeginsBy}
+use Rattle.template_compiler_tokens.specs.SourcePlaces.{span_between}
+use Rattle.template_compiler_tokens.specs.Stretches.{BeginsBy}
 use Rattle.template_compiler_tokens.specs.View.{token_of}
 use Rattle.template_compiler_tokens.specs.declared.token.Token.{Token}
 use Rattle.template_compiler_scanner.specs.Scans.{Scans}

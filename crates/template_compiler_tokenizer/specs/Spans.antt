@@ -7,7 +7,7 @@ use Rattle.template_compiler_syntax.specs.Syntax.{Syntax}
 use Rattle.template_compiler_tokens.specs.Token as token
 use Rattle.template_compiler_tokens.specs.View.{token_of}
 use Rattle.template_compiler_tokens.specs.declared.token.Token.{Token}
-use Rattle.template_compiler_places.specs.Places.{span_between}
+use Rattle.template_compiler_tokens.specs.SourcePlaces.{span_between}
 use Rattle.template_compiler_segments.specs.declared.edges.Edge.TheVariants.{Nothing}
 use Rattle.template_compiler_segments.specs.Segments.{HasPieces, Piece}
 use Rattle.template_compiler_segments.specs.Stripping.{stripped}

@@ -3,8 +3,8 @@ use Rattle.std.specs.Prelude.{ℕ, List, [], Option, None, Some}
 use Rattle.template_values_errors.specs.declared.ErrorKind.{ErrorKind}
 use Rattle.template_compiler_syntax.specs.Syntax.{Syntax}
 use Rattle.template_compiler_tokens.specs.Token.{Token}
-use Rattle.template_compiler_places.specs.Stretches.{BeginsBy}
-use Rattle.template_compiler_places.specs.declared.stretch.Stretch.{Stretch}
+use Rattle.template_compiler_tokens.specs.Stretches.{BeginsBy}
+use Rattle.template_compiler_tokens.specs.declared.stretch.Stretch.{Stretch}
 use Rattle.template_compiler_segments.specs.Known.{Knows}
 use Rattle.template_compiler_segments.specs.declared.starts.StartFinder.{StartFinder}
 use Rattle.template_compiler_placed_tokens.specs.Left.{Placed, tokens_in, left_at}

@@ -1,6 +1,6 @@
 // All tokens that are left, in one go.
 ghost use Rattle.std.specs.Prelude.{◌≡◌, ◌∷◌, [], ◌++◌, IfOk, IfSome, MatchResult};
-ghost use Rattle.template_compiler_places.specs.Stretches.{BeginsBy};
+ghost use Rattle.template_compiler_tokens.specs.Stretches.{BeginsBy};
 ghost use Rattle.template_compiler_segments.specs.Known.{Knows};
 ghost use Rattle.template_compiler_tokenizer.specs.Held.{Holds, ReadsAll, ReadsNext, StandsIn, left_of};
 ghost use Rattle.template_compiler_placed_tokens.specs.Reads.{IsCut};
@@ -9,10 +9,9 @@ use crate::reach::{Reached, read_data};
 use crate::segment::{Inner, read_inside};
 use std::alloc::Global;
 use template_compiler_placed_tokens::{Piece, SegmentEnd, Stage, next_piece};
-use template_compiler_places::{Stretch, next_span};
+use template_compiler_tokens::{Stretch, next_span, Token};
 use template_compiler_segments::{Edge, StartFinder};
 use template_compiler_syntax::SyntaxConfig;
-use template_compiler_tokens::Token;
 use template_tree::Span;
 use template_values_errors::ErrorKind;
 

@@ -1,7 +1,7 @@
 // The tokens of a segment, one behind another.
 ghost use Rattle.std.specs.Prelude.{◌≤◌, ◌<◌, ◌+◌, Ok, drop, length};
 ghost use Rattle.std.specs.Str.{IsCharBoundary};
-ghost use Rattle.template_compiler_places.specs.Stretches.{BeginsBy};
+ghost use Rattle.template_compiler_tokens.specs.Stretches.{BeginsBy};
 ghost use Rattle.template_compiler_scanner.specs.Scans.{Scans};
 ghost use Rattle.template_compiler_tokens.specs.declared.token.Token.TheVariants.{Ident};
 ghost use Rattle.template_compiler_placed_tokens.specs.Ends.{IsSegmentEnd};
@@ -13,11 +13,10 @@ use std::alloc::Global;
 use template_compiler_placed_tokens::{
     Found, SegmentEnd, brackets_behind, end_token, next_place_of,
 };
-use template_compiler_places::{Stretch, next_span};
+use template_compiler_tokens::{Stretch, next_span, Token};
 use template_compiler_scanner::{scan_digit, scan_mark, scan_name, scan_token};
 use template_compiler_segments::Sign;
 use template_compiler_syntax::StartMarker;
-use template_compiler_tokens::Token;
 use template_tree::Span;
 use template_values_errors::ErrorKind;
 

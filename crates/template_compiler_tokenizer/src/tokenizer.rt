@@ -5,10 +5,9 @@ use crate::text::template_text;
 use std::alloc::Global;
 use std::marker::Model;
 use template_compiler_placed_tokens::{Piece, Stage, next_piece};
-use template_compiler_places::{Stretch, span_in};
+use template_compiler_tokens::{Stretch, span_in, Token};
 use template_compiler_segments::{Edge, StartFinder};
 use template_compiler_syntax::SyntaxConfig;
-use template_compiler_tokens::Token;
 use template_tree::Span;
 use template_values_errors::{Error, ErrorKind};
 

@@ -7,3 +7,7 @@ pub mod Lexical
 pub mod Steps
 pub mod Blame
 pub mod Places
+pub mod Bytes
+pub mod SourcePlaces
+pub mod Stretches
+pub mod Starts

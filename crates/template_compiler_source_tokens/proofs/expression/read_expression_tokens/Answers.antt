@@ -1,5 +1,5 @@
 use Rattle.std.proofs.Common.{rules, ◌≡◌, ◌<◌, ◌≤◌, [], ◌++◌, length, sym, ap, subst, arith}
-use Rattle.template_compiler_places.proofs.Spans.{span_is}
+use Rattle.template_compiler_tokens.proofs.Spans.{span_is}
 use Rattle.template_compiler_stream.specs.Refusals.{fault_of}
 use Rattle.template_compiler_source_tokens.proofs.Spelling.{GoesOn, token_front, end_front, bad_front}
 use Rattle.template_compiler_source_tokens.proofs.expression.read_expression_tokens.Goals as goal

@@ -1,7 +1,7 @@
 use denote.Shadow.{shadow}
 use denote.Text.{Utf8}
 use Rattle.std.proofs.Common.{List, ℕ, length}
-use Rattle.template_compiler_places.specs.Places.{IsBehind}
+use Rattle.template_compiler_tokens.specs.SourcePlaces.{IsBehind}
 use Rattle.template_compiler_source_tokens.proofs.Spelling.{GoesOn}
 use Rattle.template_compiler_source_tokens.proofs.expression.read_expression_tokens.Given as goal
 

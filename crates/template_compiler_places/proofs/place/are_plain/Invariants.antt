@@ -1,6 +1,0 @@
-use Rattle.std.proofs.Common.{take}
-use Rattle.template_compiler_places.specs.Bytes.{ArePlain}
-use Rattle.template_compiler_places.proofs.place.are_plain.Given as goal
-
-abbrev pub invariant-loop-byte : goal.invariant-loop-byte
-invariant-loop-byte l = ArePlain (take l.byte-index l.initial.bytes)

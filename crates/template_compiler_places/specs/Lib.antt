@@ -1,4 +1,0 @@
-pub mod Bytes
-pub mod Places
-pub mod Stretches
-pub mod Starts
