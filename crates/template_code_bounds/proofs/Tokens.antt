@@ -9,15 +9,15 @@ use Rattle.template_compiler_syntax.specs.declared.StartMarker.TheVariants.{Vari
 use Rattle.template_compiler_syntax.specs.Syntax.{Syntax, IsFilled, IsUsable, IsSet, start_text}
 use Rattle.template_compiler_tokens.specs.Token as token
 use Rattle.template_compiler_tokens.specs.Token.{Token, variable_end}
-use Rattle.template_compiler_segments.specs.Places.{StandsAt, IsLineEnd, stretch, newline_len, is_first_on_line, less_final}
-use Rattle.template_compiler_segments.specs.declared.edges.Edge.{Edge}
-use Rattle.template_compiler_segments.specs.declared.edges.Edge.TheVariants.{Nothing, Beside}
-use Rattle.template_compiler_segments.specs.declared.edges.Sign.{Sign}
-use Rattle.template_compiler_segments.specs.declared.edges.Sign.TheVariants.{Plain, Minus, Plus}
-use Rattle.template_compiler_segments.specs.Segments.{IsNextStart, inside_from, start_sign, IsEnd, bare_end, signed_end, EndsAt, print_end, block_end, line_end, HasInside, ended, blank, token as a_token, no_token, Piece, data_piece, endless_piece, IsSegment, print_segment, block_segment, raw_segment, comment_segment, line_statement_segment, line_comment_segment, IsEndless, endless_print, endless_block, endless_line_statement, endless_raw, endless_comment, HasPieces, no_start, next_start, endless_start}
-use Rattle.template_compiler_segments.specs.Stripping.{stripped_from, stripped_to, with_data, with_stripped, next_edge, stripped}
-use Rattle.template_compiler_segments.specs.Flat.{tokens_of, template_text, IsTokens, source_tokens}
-use Rattle.template_compiler_segments.proofs.Data.{less_blanks_le}
+use Rattle.template_compiler_syntax.specs.Places.{StandsAt, IsLineEnd, stretch, newline_len, is_first_on_line, less_final}
+use Rattle.template_compiler_syntax.specs.declared.edges.Edge.{Edge}
+use Rattle.template_compiler_syntax.specs.declared.edges.Edge.TheVariants.{Nothing, Beside}
+use Rattle.template_compiler_syntax.specs.declared.edges.Sign.{Sign}
+use Rattle.template_compiler_syntax.specs.declared.edges.Sign.TheVariants.{Plain, Minus, Plus}
+use Rattle.template_compiler_syntax.specs.Segments.{IsNextStart, inside_from, start_sign, IsEnd, bare_end, signed_end, EndsAt, print_end, block_end, line_end, HasInside, ended, blank, token as a_token, no_token, Piece, data_piece, endless_piece, IsSegment, print_segment, block_segment, raw_segment, comment_segment, line_statement_segment, line_comment_segment, IsEndless, endless_print, endless_block, endless_line_statement, endless_raw, endless_comment, HasPieces, no_start, next_start, endless_start}
+use Rattle.template_compiler_syntax.specs.Stripping.{stripped_from, stripped_to, with_data, with_stripped, next_edge, stripped}
+use Rattle.template_compiler_syntax.specs.Flat.{tokens_of, template_text, IsTokens, source_tokens}
+use Rattle.template_compiler_syntax.proofs.Data.{less_blanks_le}
 use Rattle.template_compiler_source_tokens.specs.Scoped.{after, is_scoped, taken_words, unscoped}
 use Rattle.template_code_bounds.proofs.Weights.{weight, weight-append, takes_weight}
 

@@ -7,8 +7,8 @@ use Rattle.template_compiler_tokens.specs.Token.{Token, TokenFault, identifier, 
 use Rattle.template_compiler_tokens.specs.Numbers.{is_float, value_of, base_of, digits_at, number_at}
 use Rattle.template_compiler_tokens.specs.Texts.{IsText, closed_text, bad_text, open_text}
 use Rattle.template_compiler_tokens.specs.Lexical.{is_name_part, IsSign, long, short, no_sign, Class, name_class, number_class, text_class, sign_class, class_of, BeginsAs, IsToken, token_at}
-use Rattle.template_compiler_segments.specs.Segments.{is_bad}
-use Rattle.template_compiler_segments.proofs.Bytes.{takes_bytes}
+use Rattle.template_compiler_syntax.specs.Segments.{is_bad}
+use Rattle.template_compiler_syntax.proofs.Bytes.{takes_bytes}
 use Rattle.template_compiler_grammar.specs.Grammar.{IsNameTail, name_end, name_more, IsName, name, IsTexts, texts_end, texts_more}
 use Rattle.template_compiler_grammar.specs.TemplateGrammar.{IsWord, no_word, a_word, IsContext, no_context, with_context, IsMissing, not_ignored, ignored, IsBlockEnd, plain_end, named_end}
 

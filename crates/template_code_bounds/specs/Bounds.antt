@@ -6,7 +6,7 @@ use Rattle.template_tree.specs.Tree.{Expression, Statements}
 use Rattle.template_walk.specs.Blocks.{Block, blocks_in}
 use Rattle.template_compiler_tokens.specs.Token.{Token}
 use Rattle.template_compiler_syntax.specs.Syntax.{Syntax, IsUsable}
-use Rattle.template_compiler_segments.specs.Flat.{IsTokens}
+use Rattle.template_compiler_syntax.specs.Flat.{IsTokens}
 use Rattle.template_compiler_source_tokens.specs.Scoped.{taken_words}
 use Rattle.template_compiler_source_tokens.specs.Spelled.{IsSpelled}
 use Rattle.template_compiler_grammar.specs.Grammar.{IsExpression}

@@ -6,7 +6,7 @@ use Rattle.template_compiler_runnable.proofs.Statements.{template_runs}
 use Rattle.template_compiler_statement_codegen.specs.Listed.{IsRunnableTree, body_in}
 use Rattle.template_compiler_tokens.specs.Token.{Token, TokenFault}
 use Rattle.template_compiler_syntax.specs.Syntax.{Syntax, IsUsable}
-use Rattle.template_compiler_segments.proofs.Theorems.{one_tokens, some_tokens}
+use Rattle.template_compiler_syntax.proofs.Theorems.{one_tokens, some_tokens}
 use Rattle.template_compiler_placed_grammar.specs.TreeReader.{template_of}
 use Rattle.template_compiler_placed_grammar.proofs.TemplateLaws.{tree_complete}
 use Rattle.template_compiler_placed_grammar.proofs.TemplatesSound.{template_sound}

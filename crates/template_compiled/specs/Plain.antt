@@ -3,8 +3,8 @@ use Rattle.std.specs.Prelude.{◌≡◌, ℕ, List, [], ◌∷◌}
 use Rattle.template_values_errors.specs.declared.ErrorKind.{ErrorKind}
 use Rattle.template_tree.specs.Tree.{Statements, raw, no_statements, statements_more}
 use Rattle.template_compiler_syntax.specs.Syntax.{IsUsable}
-use Rattle.template_compiler_segments.specs.Flat.{template_text}
-use Rattle.template_compiler_segments.specs.Segments.{HasNoStart}
+use Rattle.template_compiler_syntax.specs.Flat.{template_text}
+use Rattle.template_compiler_syntax.specs.Segments.{HasNoStart}
 use Rattle.template_compiled.specs.Sources.{Source, HasNoRoom, HasTree, IsRefusedWith, tree_in}
 
 -- the text of a source, without the newline at its end where the syntax does not keep it

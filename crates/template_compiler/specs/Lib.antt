@@ -8,8 +8,8 @@ pub use Rattle.template_compiler_tokens.specs.Left
 pub use Rattle.template_compiler_tokens.specs.Lexical
 pub use Rattle.template_compiler_syntax.specs.Syntax
 pub use Rattle.template_compiler_syntax.specs.Settings
-pub use Rattle.template_compiler_segments.specs.Segments
-pub use Rattle.template_compiler_segments.specs.Flat
+pub use Rattle.template_compiler_syntax.specs.Segments
+pub use Rattle.template_compiler_syntax.specs.Flat
 pub use Rattle.template_compiler_tokenizer.specs.Tokenizer
 pub use Rattle.template_compiler_tokenizer.specs.Stream
 pub use Rattle.template_compiler_tokenizer.specs.Held

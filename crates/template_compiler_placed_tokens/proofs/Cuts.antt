@@ -7,13 +7,13 @@ use Rattle.std.specs.Str.{IsUtf8, IsCharBoundary}
 use Rattle.template_compiler_syntax.specs.Syntax.{Syntax, IsSet, start_text}
 use Rattle.template_compiler_syntax.specs.declared.StartMarker.{StartMarker}
 use Rattle.template_compiler_syntax.specs.declared.StartMarker.TheVariants.{Variable, Block, Comment, LineStatement, LineComment}
-use Rattle.template_compiler_segments.specs.declared.edges.Sign.{Sign}
-use Rattle.template_compiler_segments.specs.Places.{StandsAt, IsLineEnd, newline_len, sign_at, sign_width}
-use Rattle.template_compiler_segments.specs.Segments.{IsEnd, bare_end, signed_end, EndsAt, line_end, inside_from}
+use Rattle.template_compiler_syntax.specs.declared.edges.Sign.{Sign}
+use Rattle.template_compiler_syntax.specs.Places.{StandsAt, IsLineEnd, newline_len, sign_at, sign_width}
+use Rattle.template_compiler_syntax.specs.Segments.{IsEnd, bare_end, signed_end, EndsAt, line_end, inside_from}
 use Rattle.std.specs.Prelude.{Option, None, Some, IfSome, ◌==◌}
 use Rattle.template_compiler_placed_tokens.specs.Finds.{FindsDelimitedEnd, FindsEnd}
-use Rattle.template_compiler_segments.proofs.Searches.{newline_at}
-use Rattle.template_compiler_segments.proofs.Some.{stands_below, set_long}
+use Rattle.template_compiler_syntax.proofs.Searches.{newline_at}
+use Rattle.template_compiler_syntax.proofs.Some.{stands_below, set_long}
 
 -- a text that stands at a place begins with the byte there
 pub stands_first : (s text : List ℕ) (i : ℕ) → IsSet text → StandsAt s i text → slice_index s i ≡ slice_index text 0

@@ -6,15 +6,15 @@ use Rattle.std.specs.Char.{is_ascii_whitespace}
 use Rattle.template_compiler_syntax.specs.declared.StartMarker.{StartMarker}
 use Rattle.template_compiler_syntax.specs.declared.StartMarker.TheVariants.{Variable, Block, Comment, LineStatement, LineComment}
 use Rattle.template_compiler_syntax.specs.Syntax.{Syntax}
-use Rattle.template_compiler_segments.specs.declared.edges.Sign.{Sign}
-use Rattle.template_compiler_segments.specs.declared.edges.Sign.TheVariants.{Plain}
-use Rattle.template_compiler_segments.specs.Places.{sign_at, newline_len}
-use Rattle.template_compiler_segments.specs.Segments.{IsEnd, EndsAt, print_end, block_end, IsOver, Ending, HasInside, ended, blank}
+use Rattle.template_compiler_syntax.specs.declared.edges.Sign.{Sign}
+use Rattle.template_compiler_syntax.specs.declared.edges.Sign.TheVariants.{Plain}
+use Rattle.template_compiler_syntax.specs.Places.{sign_at, newline_len}
+use Rattle.template_compiler_syntax.specs.Segments.{IsEnd, EndsAt, print_end, block_end, IsOver, Ending, HasInside, ended, blank}
 use Rattle.template_compiler_tokens.specs.Token.{Token}
 use Rattle.std.specs.Str.{IsUtf8, IsCharBoundary}
 use Rattle.std.proofs.lemmas.Str.{IsCharBoundary-after_ascii}
-use Rattle.template_compiler_segments.proofs.Pieces.{white_within}
-use Rattle.template_compiler_segments.proofs.Some.{line_has_end}
+use Rattle.template_compiler_syntax.proofs.Pieces.{white_within}
+use Rattle.template_compiler_syntax.proofs.Some.{line_has_end}
 use Rattle.template_compiler_placed_tokens.specs.Finds.{FindsDelimitedEnd, FindsEnd}
 
 pub sign_past : (s : List ℕ) (i : ℕ) → length s ≤ i → sign_at s i ≡ Plain

@@ -7,12 +7,12 @@ use Rattle.std.specs.Str.{IsUtf8, IsCharBoundary}
 use Rattle.template_compiler_syntax.specs.declared.StartMarker.{StartMarker}
 use Rattle.template_compiler_syntax.specs.declared.StartMarker.TheVariants.{Variable, Block, Comment, LineStatement, LineComment}
 use Rattle.template_compiler_syntax.specs.Syntax.{Syntax, IsSet}
-use Rattle.template_compiler_segments.specs.declared.edges.Sign.{Sign}
-use Rattle.template_compiler_segments.specs.declared.edges.Sign.TheVariants.{Plain}
-use Rattle.template_compiler_segments.specs.Places.{sign_of, newline_len}
-use Rattle.template_compiler_segments.specs.Segments.{IsEnd, EndsAt, bare_end, signed_end, line_end}
-use Rattle.template_compiler_segments.proofs.Searches.{newline_at}
-use Rattle.template_compiler_segments.proofs.Some.{line_has_end}
+use Rattle.template_compiler_syntax.specs.declared.edges.Sign.{Sign}
+use Rattle.template_compiler_syntax.specs.declared.edges.Sign.TheVariants.{Plain}
+use Rattle.template_compiler_syntax.specs.Places.{sign_of, newline_len}
+use Rattle.template_compiler_syntax.specs.Segments.{IsEnd, EndsAt, bare_end, signed_end, line_end}
+use Rattle.template_compiler_syntax.proofs.Searches.{newline_at}
+use Rattle.template_compiler_syntax.proofs.Some.{line_has_end}
 use Rattle.template_compiler_placed_tokens.specs.Ends.{IsEndText}
 use Rattle.template_compiler_placed_tokens.specs.Finds.{FindsDelimitedEnd, FindsEnd, FindsOpenEnd, FindsPlainEnd}
 use Rattle.template_compiler_placed_tokens.proofs.Cuts.{stands_first, delimited_cut}

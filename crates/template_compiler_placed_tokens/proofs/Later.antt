@@ -1,13 +1,13 @@
 -- What is known of start markers stays known further on.
 use Rattle.std.proofs.Common.{ℕ, ◌≤◌, List, [], Some, arith}
-use Rattle.template_compiler_segments.specs.declared.edges.Sign.{Sign}
-use Rattle.template_compiler_segments.specs.Segments.{bare_end, signed_end, EndsAt, print_end, block_end, line_end, HasInside, ended, blank}
+use Rattle.template_compiler_syntax.specs.declared.edges.Sign.{Sign}
+use Rattle.template_compiler_syntax.specs.Segments.{bare_end, signed_end, EndsAt, print_end, block_end, line_end, HasInside, ended, blank}
 use Rattle.template_compiler_syntax.specs.declared.StartMarker.{StartMarker}
 use Rattle.template_compiler_syntax.specs.Syntax.{Syntax}
-use Rattle.template_compiler_segments.specs.Known.{IsKnown, Knows}
-use Rattle.template_compiler_segments.specs.declared.starts.Known.{Known}
-use Rattle.template_compiler_segments.specs.declared.starts.Known.TheVariants.{Unsearched, At, Nowhere}
-use Rattle.template_compiler_segments.specs.declared.starts.StartFinder.{StartFinder}
+use Rattle.template_compiler_syntax.specs.Known.{IsKnown, Knows}
+use Rattle.template_compiler_syntax.specs.declared.starts.Known.{Known}
+use Rattle.template_compiler_syntax.specs.declared.starts.Known.TheVariants.{Unsearched, At, Nowhere}
+use Rattle.template_compiler_syntax.specs.declared.starts.StartFinder.{StartFinder}
 
 known_later : (x : Syntax) (s : List ℕ) (from next : ℕ) (k : StartMarker) (known : Known) → from ≤ next → IsKnown x s from k known → IsKnown x s next k known
 known_later x s from next k Unsearched h is = tt

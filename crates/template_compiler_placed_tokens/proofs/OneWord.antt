@@ -15,11 +15,11 @@ use Rattle.template_compiler_tokens.specs.Numbers.{number_at}
 use Rattle.template_compiler_tokens.specs.Lexical.{is_name_start, is_name_part, BeginsAs, Begins, IsToken, token_at, class_of, Class, name_class, number_class, text_class, sign_class}
 use Rattle.template_compiler_tokens.proofs.Ends.{number_or_none}
 use Rattle.template_compiler_tokens.proofs.OneToken.{one_token, some_token}
-use Rattle.template_compiler_segments.specs.declared.edges.Sign.{Sign}
-use Rattle.template_compiler_segments.specs.Segments.{Ending, HasInside, ended, blank, token, only, open_brackets}
-use Rattle.template_compiler_segments.proofs.One.{one_inside}
-use Rattle.template_compiler_segments.proofs.Pieces.{some_inside}
-use Rattle.template_compiler_segments.proofs.Bytes.{takes_bytes}
+use Rattle.template_compiler_syntax.specs.declared.edges.Sign.{Sign}
+use Rattle.template_compiler_syntax.specs.Segments.{Ending, HasInside, ended, blank, token, only, open_brackets}
+use Rattle.template_compiler_syntax.proofs.One.{one_inside}
+use Rattle.template_compiler_syntax.proofs.Pieces.{some_inside}
+use Rattle.template_compiler_syntax.proofs.Bytes.{takes_bytes}
 use Rattle.template_compiler_placed_tokens.specs.Finds.{IsTokenPlace, IsName, FindsEndBehind, FindsWord}
 use Rattle.template_compiler_placed_tokens.proofs.Delimiters.{Lifts}
 use Rattle.template_compiler_placed_tokens.proofs.Cuts.{stands_cut}

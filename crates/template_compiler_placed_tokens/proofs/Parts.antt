@@ -6,12 +6,12 @@ use Rattle.template_compiler_syntax.specs.declared.StartMarker.{StartMarker}
 use Rattle.template_compiler_syntax.specs.declared.StartMarker.TheVariants.{Comment}
 use Rattle.template_compiler_syntax.specs.Syntax.{Syntax, IsUsable, IsSet}
 use Rattle.std.specs.Str.{IsUtf8, IsCharBoundary}
-use Rattle.template_compiler_segments.specs.declared.edges.Edge.{Edge}
-use Rattle.template_compiler_segments.specs.declared.edges.Edge.TheVariants.{Nothing}
-use Rattle.template_compiler_segments.specs.Places.{stretch, StandsAt, IsFirst, IsNowhere, IsLineEnd, is_first_on_line}
+use Rattle.template_compiler_syntax.specs.declared.edges.Edge.{Edge}
+use Rattle.template_compiler_syntax.specs.declared.edges.Edge.TheVariants.{Nothing}
+use Rattle.template_compiler_syntax.specs.Places.{stretch, StandsAt, IsFirst, IsNowhere, IsLineEnd, is_first_on_line}
 use Rattle.std.specs.Prelude.{if◌then◌else◌}
-use Rattle.template_compiler_segments.specs.Segments.{HasNoStart, IsNextStart, IsCommentEnd, inside_from}
-use Rattle.template_compiler_segments.proofs.Some.{stands_below}
+use Rattle.template_compiler_syntax.specs.Segments.{HasNoStart, IsNextStart, IsCommentEnd, inside_from}
+use Rattle.template_compiler_syntax.proofs.Some.{stands_below}
 use Rattle.template_compiler_placed_tokens.specs.Left.{Placed, data_tokens}
 use Rattle.template_compiler_placed_tokens.specs.Reads.{IsRefusedKind, IsStage, IsCut, ReadsPiece}
 use Rattle.template_compiler_placed_tokens.specs.declared.stage.Stage.{Stage}

@@ -12,8 +12,8 @@ use Rattle.template_compiler_tokens.specs.View.{token_of}
 use Rattle.template_compiler_tokens.specs.declared.token.Token.{Token}
 use Rattle.template_compiler_tokens.specs.declared.token.Token.TheVariants.{Plus}
 use Rattle.template_compiler_scanner.specs.Scans.{Scans}
-use Rattle.template_compiler_segments.specs.declared.edges.Sign.{Sign}
-use Rattle.template_compiler_segments.specs.Segments.{EndsAt, is_bad, open_brackets}
+use Rattle.template_compiler_syntax.specs.declared.edges.Sign.{Sign}
+use Rattle.template_compiler_syntax.specs.Segments.{EndsAt, is_bad, open_brackets}
 use Rattle.template_compiler_placed_tokens.specs.Left.{placed, inside_tokens}
 use Rattle.template_compiler_placed_tokens.specs.Finds.{IsTokenPlace, IsNextEnd}
 use Rattle.template_compiler_placed_tokens.specs.Reads.{IsRefusedKind}

@@ -10,17 +10,17 @@ use Rattle.template_compiler_syntax.specs.Syntax.{Syntax, IsUsable}
 use Rattle.template_compiler_tokens.specs.Token.{Token, TokenFault, bad, bad_syntax, template_data}
 use Rattle.template_compiler_tokens.specs.Lexical.{IsToken}
 use Rattle.template_compiler_tokens.proofs.OneToken.{one_token, some_token}
-use Rattle.template_compiler_segments.specs.declared.edges.Edge.{Edge}
-use Rattle.template_compiler_segments.specs.declared.edges.Edge.TheVariants.{Nothing, Beside}
-use Rattle.template_compiler_segments.specs.declared.edges.Sign.{Sign}
-use Rattle.template_compiler_segments.specs.declared.edges.Sign.TheVariants.{Plain, Minus, Plus}
-use Rattle.template_compiler_segments.specs.Places.{stretch, IsFirst, IsNowhere, IsLineEnd, newline_len, is_first_on_line}
-use Rattle.template_compiler_segments.specs.Segments.{HasNoStart, IsNextStart, start_sign, inside_from, EndsAt, IsOver, open_brackets, is_bad, Ending, HasInside, ended, blank, token, no_token, HoldsInside, only, IsRawEnd, comment_sign, IsCommentEnd, Piece, data_piece, endless_piece, IsSegment, print_segment, block_segment, raw_segment, comment_segment, line_statement_segment, line_comment_segment, IsEndless, endless_print, endless_block, endless_line_statement, endless_raw, endless_comment, HasPieces, no_start, next_start, endless_start}
-use Rattle.template_compiler_segments.specs.Stripping.{stripped, stripped_from, stripped_to, with_data, with_stripped, next_edge, less_blanks, past_newline}
-use Rattle.template_compiler_segments.proofs.Bytes.{takes_bytes}
-use Rattle.template_compiler_segments.proofs.One.{one_inside, one_list}
-use Rattle.template_compiler_segments.proofs.Pieces.{some_inside, some_list, begun}
-use Rattle.template_compiler_segments.proofs.Data.{less_blanks_le}
+use Rattle.template_compiler_syntax.specs.declared.edges.Edge.{Edge}
+use Rattle.template_compiler_syntax.specs.declared.edges.Edge.TheVariants.{Nothing, Beside}
+use Rattle.template_compiler_syntax.specs.declared.edges.Sign.{Sign}
+use Rattle.template_compiler_syntax.specs.declared.edges.Sign.TheVariants.{Plain, Minus, Plus}
+use Rattle.template_compiler_syntax.specs.Places.{stretch, IsFirst, IsNowhere, IsLineEnd, newline_len, is_first_on_line}
+use Rattle.template_compiler_syntax.specs.Segments.{HasNoStart, IsNextStart, start_sign, inside_from, EndsAt, IsOver, open_brackets, is_bad, Ending, HasInside, ended, blank, token, no_token, HoldsInside, only, IsRawEnd, comment_sign, IsCommentEnd, Piece, data_piece, endless_piece, IsSegment, print_segment, block_segment, raw_segment, comment_segment, line_statement_segment, line_comment_segment, IsEndless, endless_print, endless_block, endless_line_statement, endless_raw, endless_comment, HasPieces, no_start, next_start, endless_start}
+use Rattle.template_compiler_syntax.specs.Stripping.{stripped, stripped_from, stripped_to, with_data, with_stripped, next_edge, less_blanks, past_newline}
+use Rattle.template_compiler_syntax.proofs.Bytes.{takes_bytes}
+use Rattle.template_compiler_syntax.proofs.One.{one_inside, one_list}
+use Rattle.template_compiler_syntax.proofs.Pieces.{some_inside, some_list, begun}
+use Rattle.template_compiler_syntax.proofs.Data.{less_blanks_le}
 use Rattle.template_compiler_placed_tokens.specs.Left.{Placed, placed, placed_in, inside_of, ending_of, placed_start, placed_of, pieces_at, data_tokens, end_token, behind_ending, inside_tokens}
 use Rattle.template_compiler_placed_tokens.proofs.OnePlaced.{one_placed}
 

@@ -7,11 +7,11 @@ use Rattle.template_compiler_syntax.specs.Syntax.{Syntax}
 use Rattle.template_compiler_syntax.specs.declared.StartMarker.TheVariants.{Block}
 use Rattle.template_compiler_tokens.specs.Token.{Token}
 use Rattle.template_compiler_tokens.specs.Lexical.{is_name_start}
-use Rattle.template_compiler_segments.specs.declared.edges.Sign.{Sign}
-use Rattle.template_compiler_segments.specs.declared.edges.Sign.TheVariants.{Plain}
-use Rattle.template_compiler_segments.specs.declared.edges.Edge.TheVariants.{Beside}
-use Rattle.template_compiler_segments.specs.Segments.{IsEnd, EndsAt, IsOver, Ending, HasInside, HoldsInside, only, IsRawEnd}
-use Rattle.template_compiler_segments.specs.Places.{IsFirst, IsNowhere}
+use Rattle.template_compiler_syntax.specs.declared.edges.Sign.{Sign}
+use Rattle.template_compiler_syntax.specs.declared.edges.Sign.TheVariants.{Plain}
+use Rattle.template_compiler_syntax.specs.declared.edges.Edge.TheVariants.{Beside}
+use Rattle.template_compiler_syntax.specs.Segments.{IsEnd, EndsAt, IsOver, Ending, HasInside, HoldsInside, only, IsRawEnd}
+use Rattle.template_compiler_syntax.specs.Places.{IsFirst, IsNowhere}
 use Rattle.template_compiler_placed_tokens.specs.Left.{placed, end_token, data_tokens, inside_tokens}
 use Rattle.template_compiler_placed_tokens.specs.declared.inside.Found.{Found}
 use Rattle.template_compiler_placed_tokens.specs.declared.inside.Found.TheVariants.{End, Token as Other}

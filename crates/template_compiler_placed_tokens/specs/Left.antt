@@ -5,13 +5,13 @@ use Rattle.template_compiler_syntax.specs.declared.StartMarker.TheVariants.{Vari
 use Rattle.template_compiler_syntax.specs.Syntax.{Syntax}
 use Rattle.template_compiler_tokens.specs.Token.{Token, template_data, variable_start, variable_end, block_start, block_end, bad}
 use Rattle.template_compiler_tokens.proofs.OneToken.{one_token, some_token}
-use Rattle.template_compiler_segments.specs.declared.edges.Edge.{Edge}
-use Rattle.template_compiler_segments.specs.declared.edges.Edge.TheVariants.{Nothing, Beside}
-use Rattle.template_compiler_segments.specs.Places.{stretch}
-use Rattle.template_compiler_segments.specs.Segments.{inside_from, Ending, HasInside, ended, blank, token, no_token, Piece, data_piece, segment, raw_piece, endless_piece}
-use Rattle.template_compiler_segments.specs.Stripping.{stripped}
-use Rattle.template_compiler_segments.proofs.Bytes.{takes_bytes}
-use Rattle.template_compiler_segments.proofs.Pieces.{some_inside, some_list}
+use Rattle.template_compiler_syntax.specs.declared.edges.Edge.{Edge}
+use Rattle.template_compiler_syntax.specs.declared.edges.Edge.TheVariants.{Nothing, Beside}
+use Rattle.template_compiler_syntax.specs.Places.{stretch}
+use Rattle.template_compiler_syntax.specs.Segments.{inside_from, Ending, HasInside, ended, blank, token, no_token, Piece, data_piece, segment, raw_piece, endless_piece}
+use Rattle.template_compiler_syntax.specs.Stripping.{stripped}
+use Rattle.template_compiler_syntax.proofs.Bytes.{takes_bytes}
+use Rattle.template_compiler_syntax.proofs.Pieces.{some_inside, some_list}
 use Rattle.template_compiler_placed_tokens.specs.declared.stage.Stage.{Stage}
 use Rattle.template_compiler_placed_tokens.specs.declared.stage.Stage.TheVariants as stage
 

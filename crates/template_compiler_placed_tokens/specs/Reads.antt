@@ -5,7 +5,7 @@ use Rattle.template_values_errors.specs.declared.ErrorKind.{ErrorKind}
 use Rattle.template_values_errors.specs.declared.ErrorKind.TheVariants.{OutOfMemory}
 use Rattle.template_compiler_syntax.specs.declared.StartMarker.{StartMarker}
 use Rattle.template_compiler_syntax.specs.Syntax.{Syntax}
-use Rattle.template_compiler_segments.specs.Segments.{IsNextStart}
+use Rattle.template_compiler_syntax.specs.Segments.{IsNextStart}
 use Rattle.template_compiler_tokens.specs.Token.{TokenFault, bad}
 use Rattle.template_compiler_tokens.specs.Left.{kind_of}
 use Rattle.template_compiler_tokens.specs.View.{token_of}

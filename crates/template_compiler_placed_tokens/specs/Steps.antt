@@ -7,7 +7,7 @@ use Rattle.template_compiler_placed_tokens.specs.Left.{Placed, placed, data_toke
 use Rattle.template_compiler_placed_tokens.specs.Reads.{IsRefusedKind, ReadsPiece}
 use Rattle.template_compiler_syntax.specs.declared.StartMarker.TheVariants.{Block}
 use Rattle.template_compiler_tokens.specs.Token.{template_data, bad, bad_syntax}
-use Rattle.template_compiler_segments.specs.declared.edges.Edge.TheVariants.{Nothing, Beside}
+use Rattle.template_compiler_syntax.specs.declared.edges.Edge.TheVariants.{Nothing, Beside}
 use Rattle.template_compiler_placed_tokens.specs.declared.data.RawData.{RawData}
 use Rattle.template_compiler_placed_tokens.specs.declared.data.Step.{Step}
 use Rattle.template_compiler_placed_tokens.specs.declared.data.Step.TheVariants.{Reads, Passes, Ends}

@@ -1,22 +1,18 @@
 //! Data, and what begins behind it.
 ghost use Rattle.std.specs.Prelude.{◌≡◌, ◌≤◌, ◌↔◌, ℕ, Some, IsTrue, length, codes};
 ghost use Rattle.std.specs.Str.{IsCharBoundary};
-ghost use Rattle.template_compiler_segments.specs.Segments.{IsNextStart, HasNoStart, HoldsInside, only};
-ghost use Rattle.template_compiler_segments.specs.Known.{Knows};
+ghost use Rattle.template_compiler_syntax.specs.Segments.{IsNextStart, HasNoStart, HoldsInside, only};
+ghost use Rattle.template_compiler_syntax.specs.Known.{Knows};
 ghost use Rattle.template_compiler_syntax.specs.Syntax.{IsUsable};
 ghost use Rattle.template_compiler_placed_tokens.specs.Left.{data_tokens};
 ghost use Rattle.template_compiler_placed_tokens.specs.Steps.{FindsRawData, Steps};
-ghost use Rattle.template_compiler_segments.specs.declared.edges.Edge.{Edge};
+ghost use Rattle.template_compiler_syntax.specs.declared.edges.Edge.{Edge};
 
 use crate::inside::Piece;
 use crate::stage::Stage;
 use crate::starts::inside_from;
 use crate::words::{find_raw_end, only_word};
-use template_compiler_segments::{
-    Edge, Sign, StartFinder, comment_sign, data_start, data_text, find_line_end, find_text,
-    is_first_on_line, newline_len, start_sign,
-};
-use template_compiler_syntax::{StartMarker, SyntaxConfig};
+use template_compiler_syntax::{Edge, Sign, StartFinder, comment_sign, data_start, data_text, find_line_end, find_text, is_first_on_line, newline_len, start_sign, StartMarker, SyntaxConfig};
 use template_compiler_tokens::Token;
 use template_values_errors::ErrorKind;
 

@@ -2,7 +2,7 @@
 ghost use Rattle.std.specs.Prelude.{IfOk, ◌≡◌, ◌≤◌, ◌<◌, ◌^◌, length};
 ghost use Rattle.std.specs.Str.{IsCharBoundary};
 ghost use Rattle.template_compiler_tokens.specs.View.{token_of};
-ghost use Rattle.template_compiler_segments.specs.Segments.{open_brackets};
+ghost use Rattle.template_compiler_syntax.specs.Segments.{open_brackets};
 ghost use Rattle.template_compiler_placed_tokens.specs.Ends.{IsSegmentEnd};
 ghost use Rattle.template_compiler_placed_tokens.specs.Finds.{FindsPlace};
 ghost use Rattle.template_compiler_placed_tokens.specs.Left.{end_token as token_of_end};
@@ -12,8 +12,7 @@ use crate::ends::{SegmentEnd, black_end_at, blank_end_at, is_white_at};
 use crate::stage::Stage;
 use std::alloc::Global;
 use template_compiler_scanner::scan_token;
-use template_compiler_segments::{Edge, Sign};
-use template_compiler_syntax::{StartMarker, SyntaxConfig};
+use template_compiler_syntax::{Edge, Sign, StartMarker, SyntaxConfig};
 use template_compiler_tokens::Token;
 use template_values_errors::ErrorKind;
 

@@ -1,9 +1,9 @@
 //! The next token from a place on.
 ghost use Rattle.std.specs.Prelude.{◌≡◌, IfOk, IfSome};
 ghost use Rattle.std.specs.Str.{IsCharBoundary};
-ghost use Rattle.template_compiler_segments.specs.Known.{Knows};
-ghost use Rattle.template_compiler_segments.specs.Segments.{IsNextStart};
-ghost use Rattle.template_compiler_segments.specs.declared.edges.Edge.{Edge};
+ghost use Rattle.template_compiler_syntax.specs.Known.{Knows};
+ghost use Rattle.template_compiler_syntax.specs.Segments.{IsNextStart};
+ghost use Rattle.template_compiler_syntax.specs.declared.edges.Edge.{Edge};
 ghost use Rattle.template_compiler_placed_tokens.specs.Left.{data_tokens, left_at};
 ghost use Rattle.template_compiler_placed_tokens.specs.Reads.{IsStage};
 ghost use Rattle.template_compiler_placed_tokens.specs.Read.{ReadsOrEnds};
@@ -12,8 +12,7 @@ use crate::data::{Step, data_step, enter};
 use crate::inside::{Piece, next_inside};
 use crate::stage::Stage;
 use std::alloc::Global;
-use template_compiler_segments::{Edge, StartFinder};
-use template_compiler_syntax::{StartMarker, SyntaxConfig};
+use template_compiler_syntax::{Edge, StartFinder, StartMarker, SyntaxConfig};
 use template_values_errors::ErrorKind;
 
 /// The next token from a place in data on, behind what stands on its left; none at the end. Comments are passed.

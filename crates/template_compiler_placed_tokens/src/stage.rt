@@ -1,6 +1,5 @@
 //! Where a tokenizer stands.
-use template_compiler_segments::Edge;
-use template_compiler_syntax::StartMarker;
+use template_compiler_syntax::{Edge, StartMarker};
 
 /// What stands at a tokenizer's place.
 #[derive(Clone, Copy)]

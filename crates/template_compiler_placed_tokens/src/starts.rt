@@ -2,11 +2,10 @@
 ghost use Rattle.std.specs.Prelude.{◌≡◌, ◌≤◌, length};
 ghost use Rattle.std.specs.Str.{IsCharBoundary};
 ghost use Rattle.template_compiler_syntax.specs.Syntax.{start_text, IsSet};
-ghost use Rattle.template_compiler_segments.specs.Places.{StandsAt};
-ghost use Rattle.template_compiler_segments.specs.Segments.{inside_from as the_inside_from};
+ghost use Rattle.template_compiler_syntax.specs.Places.{StandsAt};
+ghost use Rattle.template_compiler_syntax.specs.Segments.{inside_from as the_inside_from};
 
-use template_compiler_segments::start_sign;
-use template_compiler_syntax::{StartMarker, SyntaxConfig};
+use template_compiler_syntax::{start_sign, StartMarker, SyntaxConfig};
 
 /// Where the inside of the segment of the kind begins whose start marker stands at the place.
 pub fn inside_from(source: &str, syntax: &SyntaxConfig, kind: StartMarker, place: usize) -> usize

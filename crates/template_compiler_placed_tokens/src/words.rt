@@ -5,14 +5,13 @@ ghost use Rattle.template_compiler_tokens.specs.Lexical.{Begins};
 ghost use Rattle.template_compiler_tokens.specs.Token.{identifier};
 ghost use Rattle.template_compiler_placed_tokens.specs.Finds.{FindsWord, FindsEndBehind, FindsRawEnd, IsName};
 ghost use Rattle.template_compiler_syntax.specs.Syntax.{IsSet};
-ghost use Rattle.template_compiler_segments.specs.Places.{StandsAt};
-ghost use Rattle.template_compiler_segments.specs.Segments.{inside_from as the_inside_from};
+ghost use Rattle.template_compiler_syntax.specs.Places.{StandsAt};
+ghost use Rattle.template_compiler_syntax.specs.Segments.{inside_from as the_inside_from};
 
 use crate::inside::{Found, next_place};
 use crate::starts::inside_from;
 use template_compiler_scanner::leading_name;
-use template_compiler_segments::{Sign, find_text};
-use template_compiler_syntax::{StartMarker, SyntaxConfig};
+use template_compiler_syntax::{Sign, find_text, StartMarker, SyntaxConfig};
 
 /// The sign of a block's end, and the place behind it, if this name is the block's only word. Its inside begins at the place.
 #[inline(always)]

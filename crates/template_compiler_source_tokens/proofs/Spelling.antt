@@ -12,8 +12,8 @@ use Rattle.template_compiler_tokens.specs.Lexical.{no_sign, Class, name_class, n
 use Rattle.template_compiler_tokens.specs.Texts.{bad_text, open_text}
 use Rattle.template_compiler_tokens.specs.SourcePlaces.{span_between}
 use Rattle.template_compiler_tokens.proofs.OneToken.{one_token, some_token}
-use Rattle.template_compiler_segments.specs.Segments.{is_bad}
-use Rattle.template_compiler_segments.proofs.Bytes.{takes_bytes}
+use Rattle.template_compiler_syntax.specs.Segments.{is_bad}
+use Rattle.template_compiler_syntax.proofs.Bytes.{takes_bytes}
 use Rattle.template_compiler_tokens.specs.View.{token_of}
 use Rattle.template_compiler_tokens.specs.declared.token.Token.{Token}
 use Rattle.template_compiler_scanner.specs.Scans.{Scans}

@@ -5,7 +5,7 @@ use Rattle.template_tree.specs.declared.span.Span.{Span}
 use Rattle.template_compiler_tokens.specs.Token.{Token, TokenFault, bad}
 use Rattle.template_compiler_tokens.specs.Lexical.{Begins}
 use Rattle.template_compiler_tokens.specs.SourcePlaces.{span_between}
-use Rattle.template_compiler_segments.specs.Segments.{is_bad}
+use Rattle.template_compiler_syntax.specs.Segments.{is_bad}
 use Rattle.template_compiler_stream.specs.Spans.{PlacedTokens}
 
 -- a text's tokens, parted by white space; nothing follows what is none

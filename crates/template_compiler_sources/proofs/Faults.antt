@@ -3,8 +3,8 @@ use Rattle.std.proofs.Common.{◌≡◌, ℕ, List, Result, Ok, Err, refl, sym, 
 use Rattle.template_tree.specs.Tree.{Expression, Statement, template, Statements}
 use Rattle.template_compiler_tokens.specs.Token.{Token, TokenFault}
 use Rattle.template_compiler_syntax.specs.Syntax.{Syntax, IsUsable}
-use Rattle.template_compiler_segments.specs.Flat.{IsTokens}
-use Rattle.template_compiler_segments.proofs.Theorems.{one_tokens, some_tokens}
+use Rattle.template_compiler_syntax.specs.Flat.{IsTokens}
+use Rattle.template_compiler_syntax.proofs.Theorems.{one_tokens, some_tokens}
 use Rattle.template_compiler_source_tokens.specs.Scoped.{taken_words}
 use Rattle.template_compiler_source_tokens.specs.Spelled.{IsSpelled}
 use Rattle.template_compiler_source_tokens.proofs.Spelling.{one_spelled, some_spelled}

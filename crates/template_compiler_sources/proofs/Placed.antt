@@ -4,7 +4,7 @@ use Rattle.template_tree.specs.NodePlaces.{Places}
 use Rattle.template_tree.specs.Tree.{Expression, Statement, template}
 use Rattle.template_compiler_tokens.specs.Token.{Token, TokenFault}
 use Rattle.template_compiler_tokens.proofs.Readings.{ok_tree}
-use Rattle.template_compiler_segments.proofs.Theorems.{one_tokens}
+use Rattle.template_compiler_syntax.proofs.Theorems.{one_tokens}
 use Rattle.template_compiler_syntax.specs.Syntax.{Syntax, IsUsable}
 use Rattle.template_compiler_tokenizer.specs.Spans.{words_in}
 use Rattle.template_compiler_tokenizer.proofs.AllTokens.{one_spans, some_spans, words_are}

@@ -20,8 +20,8 @@ use Rattle.template_compiler_source_tokens.specs.Spans.{HoldsTokens, token_spans
 use Rattle.template_compiler_source_tokens.specs.Spelled.{HoldsSpelled, IsSpelled, spelled_spans}
 use Rattle.template_compiler_source_tokens.proofs.Spelling.{one_spelled}
 use Rattle.template_compiler_syntax.specs.Syntax.{Syntax, IsUsable}
-use Rattle.template_compiler_segments.specs.Flat.{IsTokens}
-use Rattle.template_compiler_segments.proofs.Theorems.{one_tokens}
+use Rattle.template_compiler_syntax.specs.Flat.{IsTokens}
+use Rattle.template_compiler_syntax.proofs.Theorems.{one_tokens}
 use Rattle.template_compiler_grammar.specs.TemplateGrammar.{Around, nothing_around}
 use Rattle.template_compiler_placed_grammar.specs.Nodes.{placed, Node}
 use Rattle.template_compiler_placed_grammar.specs.Reader as reader

@@ -3,7 +3,7 @@ use Rattle.std.specs.Prelude.{◌≡◌, ◌≤◌, ◌+◌, ◌⊎◌, ℕ, Lis
 use Rattle.template_compiler_tokens.specs.Token.{Token, bad, bad_escape}
 use Rattle.template_compiler_tokens.specs.Places.{token_count}
 use Rattle.template_compiler_syntax.specs.Syntax.{Syntax}
-use Rattle.template_compiler_segments.specs.Flat.{IsTokens}
+use Rattle.template_compiler_syntax.specs.Flat.{IsTokens}
 use Rattle.template_compiler_source_tokens.specs.Scoped.{taken_words}
 use Rattle.template_compiler_source_tokens.specs.Spelled.{IsSpelled}
 use Rattle.template_compiler_placed_grammar.specs.TreeReader.{template_of}

@@ -6,7 +6,7 @@ use Rattle.template_tree.specs.Tree.{Expression, Statement, template, Statements
 use Rattle.template_compiler_tokens.specs.Token.{Token, TokenFault}
 use Rattle.template_compiler_tokens.specs.Left.{kind_of}
 use Rattle.template_compiler_syntax.specs.Syntax.{Syntax}
-use Rattle.template_compiler_segments.specs.Flat.{IsTokens}
+use Rattle.template_compiler_syntax.specs.Flat.{IsTokens}
 use Rattle.template_compiler_tokenizer.specs.Spans.{Spanned, HasSpans, words_in}
 use Rattle.template_compiler_source_tokens.specs.Scoped.{taken_spans, taken_words}
 use Rattle.template_compiler_source_tokens.specs.Spans.{token_spans}

@@ -3,7 +3,7 @@ ghost use Rattle.std.specs.Prelude.{◌≡◌, ◌≤◌, ◌↔◌, List, Err, 
 ghost use Rattle.template_compiler_placed_grammar.specs.TreeReader.{template_of};
 ghost use Rattle.template_compiler_sources.specs.Ends.{HasTokens, Reaches, ReadsTo};
 ghost use Rattle.template_compiler_sources.specs.Wholes.{expression_alone};
-ghost use Rattle.template_compiler_segments.specs.Flat.{IsTokens};
+ghost use Rattle.template_compiler_syntax.specs.Flat.{IsTokens};
 ghost use Rattle.template_compiler_source_tokens.specs.Scoped.{taken_words};
 ghost use Rattle.template_compiler_source_tokens.specs.Spelled.{IsSpelled};
 ghost use Rattle.template_compiler_stream.specs.Refusals.{fault_of};

@@ -6,17 +6,17 @@ use Rattle.template_compiler_syntax.specs.declared.StartMarker.TheVariants.{Vari
 use Rattle.template_compiler_syntax.specs.Syntax.{Syntax, IsUsable}
 use Rattle.template_compiler_tokens.specs.Token.{Token, template_data, variable_start, variable_end, block_start, block_end, bad, bad_syntax}
 use Rattle.template_compiler_tokens.proofs.OneToken.{one_token, some_token}
-use Rattle.template_compiler_segments.specs.declared.edges.Edge.{Edge}
-use Rattle.template_compiler_segments.specs.declared.edges.Edge.TheVariants.{Nothing, Beside}
-use Rattle.template_compiler_segments.specs.declared.edges.Sign.{Sign}
-use Rattle.template_compiler_segments.specs.declared.edges.Sign.TheVariants.{Plain}
-use Rattle.template_compiler_segments.specs.Places.{stretch}
-use Rattle.template_compiler_segments.specs.Segments.{inside_from, Ending, HasInside, ended, blank, token, no_token, HoldsInside, start_sign, Piece, data_piece, segment, raw_piece, endless_piece, print_segment, block_segment, raw_segment, comment_segment, line_statement_segment, line_comment_segment, endless_print, endless_block, endless_line_statement, endless_raw, endless_comment, HasPieces, no_start, next_start, endless_start}
-use Rattle.template_compiler_segments.specs.Stripping.{stripped, stripped_from, stripped_to, next_edge, with_data}
-use Rattle.template_compiler_segments.specs.Flat.{template_text, IsTokens, source_tokens, tokens_of}
-use Rattle.template_compiler_segments.proofs.One.{one_list}
-use Rattle.template_compiler_segments.proofs.Bytes.{takes_bytes}
-use Rattle.template_compiler_segments.proofs.Pieces.{some_inside, some_list}
+use Rattle.template_compiler_syntax.specs.declared.edges.Edge.{Edge}
+use Rattle.template_compiler_syntax.specs.declared.edges.Edge.TheVariants.{Nothing, Beside}
+use Rattle.template_compiler_syntax.specs.declared.edges.Sign.{Sign}
+use Rattle.template_compiler_syntax.specs.declared.edges.Sign.TheVariants.{Plain}
+use Rattle.template_compiler_syntax.specs.Places.{stretch}
+use Rattle.template_compiler_syntax.specs.Segments.{inside_from, Ending, HasInside, ended, blank, token, no_token, HoldsInside, start_sign, Piece, data_piece, segment, raw_piece, endless_piece, print_segment, block_segment, raw_segment, comment_segment, line_statement_segment, line_comment_segment, endless_print, endless_block, endless_line_statement, endless_raw, endless_comment, HasPieces, no_start, next_start, endless_start}
+use Rattle.template_compiler_syntax.specs.Stripping.{stripped, stripped_from, stripped_to, next_edge, with_data}
+use Rattle.template_compiler_syntax.specs.Flat.{template_text, IsTokens, source_tokens, tokens_of}
+use Rattle.template_compiler_syntax.proofs.One.{one_list}
+use Rattle.template_compiler_syntax.proofs.Bytes.{takes_bytes}
+use Rattle.template_compiler_syntax.proofs.Pieces.{some_inside, some_list}
 use Rattle.template_compiler_placed_tokens.specs.Left.{Placed, tokens_in, end_token, placed_in, inside_of, placed_of, pieces_at, data_tokens}
 use Rattle.template_compiler_tokenizer.specs.Spans.{Spanned, spans_in, words_in, HasSpans, source_spans}
 use Rattle.template_compiler_placed_tokens.proofs.OnePlaced.{one_placed}

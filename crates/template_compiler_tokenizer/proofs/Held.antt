@@ -15,12 +15,12 @@ use Rattle.template_compiler_placed_tokens.specs.Reads.{IsStage, IsRefusedKind, 
 use Rattle.template_compiler_tokenizer.specs.Spans.{Spanned, spanned, spans_in, words_in}
 use Rattle.template_compiler_tokenizer.specs.Tokenizer.{TokenizerView, placed_at, view_of, IsStanding}
 use Rattle.template_compiler_tokens.specs.declared.stretch.Stretch.{Stretch}
-use Rattle.template_compiler_segments.specs.declared.starts.StartFinder.{StartFinder}
+use Rattle.template_compiler_syntax.specs.declared.starts.StartFinder.{StartFinder}
 use Rattle.template_compiler_tokenizer.specs.declared.tokenizer.State.{State}
 use Rattle.template_compiler_tokenizer.specs.declared.tokenizer.State.TheVariants.{Refused}
 use Rattle.template_compiler_tokenizer.specs.declared.all.Standing.{Standing}
 use Rattle.template_compiler_placed_tokens.specs.declared.inside.Piece.{Piece}
-use Rattle.template_compiler_segments.specs.declared.edges.Edge.{Edge}
+use Rattle.template_compiler_syntax.specs.declared.edges.Edge.{Edge}
 use Rattle.template_compiler_placed_tokens.specs.declared.stage.Stage.{Stage}
 use Rattle.template_compiler_placed_tokens.specs.declared.stage.Stage.TheVariants.{Data}
 

@@ -12,12 +12,12 @@ use Rattle.template_compiler_syntax.specs.Syntax.{Syntax}
 use Rattle.template_compiler_syntax.specs.declared.StartMarker.TheVariants.{Block}
 use Rattle.template_compiler_tokens.specs.Token as spec
 use Rattle.template_compiler_tokens.specs.declared.token.Token.{Token}
-use Rattle.template_compiler_segments.specs.declared.edges.Edge.TheVariants.{Nothing, Beside}
-use Rattle.template_compiler_segments.specs.Segments.{IsNextStart, Ending, HasInside, HoldsInside, only}
+use Rattle.template_compiler_syntax.specs.declared.edges.Edge.TheVariants.{Nothing, Beside}
+use Rattle.template_compiler_syntax.specs.Segments.{IsNextStart, Ending, HasInside, HoldsInside, only}
 use Rattle.template_compiler_placed_tokens.specs.Left.{Placed, placed, data_tokens, inside_tokens}
 use Rattle.template_compiler_tokenizer.specs.Held.{HoldsRead, HoldsRefused}
 use Rattle.std.specs.Prelude.{Some, codes}
-use Rattle.template_compiler_segments.specs.declared.edges.Sign.{Sign}
+use Rattle.template_compiler_syntax.specs.declared.edges.Sign.{Sign}
 use Rattle.template_compiler_tokenizer.specs.declared.reach.Raw.{Raw}
 use Rattle.template_compiler_tokenizer.specs.declared.reach.Raw.TheVariants as raw
 use Rattle.template_compiler_tokenizer.specs.declared.reach.Reached.{Reached}

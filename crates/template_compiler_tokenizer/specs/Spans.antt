@@ -8,10 +8,10 @@ use Rattle.template_compiler_tokens.specs.Token as token
 use Rattle.template_compiler_tokens.specs.View.{token_of}
 use Rattle.template_compiler_tokens.specs.declared.token.Token.{Token}
 use Rattle.template_compiler_tokens.specs.SourcePlaces.{span_between}
-use Rattle.template_compiler_segments.specs.declared.edges.Edge.TheVariants.{Nothing}
-use Rattle.template_compiler_segments.specs.Segments.{HasPieces, Piece}
-use Rattle.template_compiler_segments.specs.Stripping.{stripped}
-use Rattle.template_compiler_segments.specs.Flat.{template_text}
+use Rattle.template_compiler_syntax.specs.declared.edges.Edge.TheVariants.{Nothing}
+use Rattle.template_compiler_syntax.specs.Segments.{HasPieces, Piece}
+use Rattle.template_compiler_syntax.specs.Stripping.{stripped}
+use Rattle.template_compiler_syntax.specs.Flat.{template_text}
 use Rattle.template_compiler_placed_tokens.specs.Left.{Placed, placed_of}
 
 -- a token and its span

@@ -5,8 +5,8 @@ use Rattle.template_compiler_syntax.specs.Syntax.{Syntax}
 use Rattle.template_compiler_tokens.specs.Token.{Token}
 use Rattle.template_compiler_tokens.specs.Stretches.{BeginsBy}
 use Rattle.template_compiler_tokens.specs.declared.stretch.Stretch.{Stretch}
-use Rattle.template_compiler_segments.specs.Known.{Knows}
-use Rattle.template_compiler_segments.specs.declared.starts.StartFinder.{StartFinder}
+use Rattle.template_compiler_syntax.specs.Known.{Knows}
+use Rattle.template_compiler_syntax.specs.declared.starts.StartFinder.{StartFinder}
 use Rattle.template_compiler_placed_tokens.specs.Left.{Placed, tokens_in, left_at}
 use Rattle.template_compiler_tokenizer.specs.Spans.{Spanned, spans_in}
 use Rattle.template_compiler_placed_tokens.specs.Reads.{IsStage, IsRefusedKind}

@@ -1,7 +1,7 @@
 // All tokens that are left, in one go.
 ghost use Rattle.std.specs.Prelude.{◌≡◌, ◌∷◌, [], ◌++◌, IfOk, IfSome, MatchResult};
 ghost use Rattle.template_compiler_tokens.specs.Stretches.{BeginsBy};
-ghost use Rattle.template_compiler_segments.specs.Known.{Knows};
+ghost use Rattle.template_compiler_syntax.specs.Known.{Knows};
 ghost use Rattle.template_compiler_tokenizer.specs.Held.{Holds, ReadsAll, ReadsNext, StandsIn, left_of};
 ghost use Rattle.template_compiler_placed_tokens.specs.Reads.{IsCut};
 
@@ -10,8 +10,7 @@ use crate::segment::{Inner, read_inside};
 use std::alloc::Global;
 use template_compiler_placed_tokens::{Piece, SegmentEnd, Stage, next_piece};
 use template_compiler_tokens::{Stretch, next_span, Token};
-use template_compiler_segments::{Edge, StartFinder};
-use template_compiler_syntax::SyntaxConfig;
+use template_compiler_syntax::{Edge, StartFinder, SyntaxConfig};
 use template_tree::Span;
 use template_values_errors::ErrorKind;
 

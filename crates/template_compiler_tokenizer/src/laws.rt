@@ -1,7 +1,7 @@
 //! What the definition of spans gives.
 ghost use Rattle.std.specs.Prelude.{◌≡◌, ℕ, List};
 ghost use Rattle.template_compiler_syntax.specs.Syntax.{Syntax, IsUsable};
-ghost use Rattle.template_compiler_segments.specs.Flat.{IsTokens};
+ghost use Rattle.template_compiler_syntax.specs.Flat.{IsTokens};
 ghost use Rattle.template_compiler_tokenizer.specs.Spans.{Spanned, words_in, HasSpans};
 
 /// The tokens of a source with their spans are one list, and without the spans they are its tokens.

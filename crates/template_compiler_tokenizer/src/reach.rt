@@ -3,9 +3,9 @@ ghost use Rattle.std.specs.Prelude.{◌≡◌, ◌≤◌, ℕ, IsTrue, length};
 ghost use Rattle.std.specs.Str.{IsCharBoundary};
 ghost use Rattle.template_compiler_tokens.specs.Stretches.{BeginsBy};
 ghost use Rattle.template_compiler_tokens.specs.declared.stretch.Stretch.{Stretch};
-ghost use Rattle.template_compiler_segments.specs.Known.{Knows};
-ghost use Rattle.template_compiler_segments.specs.Segments.{HasNoStart, IsNextStart, inside_from as the_inside_from, start_sign as sign_of_start};
-ghost use Rattle.template_compiler_segments.specs.declared.edges.Edge.{Edge};
+ghost use Rattle.template_compiler_syntax.specs.Known.{Knows};
+ghost use Rattle.template_compiler_syntax.specs.Segments.{HasNoStart, IsNextStart, inside_from as the_inside_from, start_sign as sign_of_start};
+ghost use Rattle.template_compiler_syntax.specs.declared.edges.Edge.{Edge};
 ghost use Rattle.template_compiler_syntax.specs.Syntax.{Syntax, IsUsable};
 ghost use Rattle.template_compiler_tokens.specs.Lexical.{Begins};
 ghost use Rattle.template_compiler_tokens.specs.Token.{identifier};
@@ -16,10 +16,7 @@ ghost use Rattle.template_compiler_tokenizer.specs.Reaches.{FindsBlack, HoldsNex
 use crate::all::push;
 use template_compiler_placed_tokens::{inside_from, is_nothing, is_white_at, only_word, raw_data};
 use template_compiler_tokens::{Stretch, next_span, Token};
-use template_compiler_segments::{
-    Edge, Sign, Start, StartFinder, comment_sign, data_between, find_text,
-};
-use template_compiler_syntax::{StartMarker, SyntaxConfig};
+use template_compiler_syntax::{Edge, Sign, Start, StartFinder, comment_sign, data_between, find_text, StartMarker, SyntaxConfig};
 use template_tree::Span;
 use template_values_errors::ErrorKind;
 

@@ -15,8 +15,7 @@ use template_compiler_placed_tokens::{
 };
 use template_compiler_tokens::{Stretch, next_span, Token};
 use template_compiler_scanner::{scan_digit, scan_mark, scan_name, scan_token};
-use template_compiler_segments::Sign;
-use template_compiler_syntax::StartMarker;
+use template_compiler_syntax::{Sign, StartMarker};
 use template_tree::Span;
 use template_values_errors::ErrorKind;
 

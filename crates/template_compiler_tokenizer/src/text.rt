@@ -1,7 +1,7 @@
 // The text of a template in its source.
 ghost use Rattle.std.specs.Prelude.{◌≡◌, ◌<◌, ◌≤◌, length};
-ghost use Rattle.template_compiler_segments.specs.Flat.{template_text as the_template_text};
-ghost use Rattle.template_compiler_segments.specs.Places.{less_final};
+ghost use Rattle.template_compiler_syntax.specs.Flat.{template_text as the_template_text};
+ghost use Rattle.template_compiler_syntax.specs.Places.{less_final};
 
 use template_compiler_syntax::SyntaxConfig;
 

@@ -6,8 +6,7 @@ use std::alloc::Global;
 use std::marker::Model;
 use template_compiler_placed_tokens::{Piece, Stage, next_piece};
 use template_compiler_tokens::{Stretch, span_in, Token};
-use template_compiler_segments::{Edge, StartFinder};
-use template_compiler_syntax::SyntaxConfig;
+use template_compiler_syntax::{Edge, StartFinder, SyntaxConfig};
 use template_tree::Span;
 use template_values_errors::{Error, ErrorKind};
 
@@ -49,7 +48,7 @@ impl<'source> Model for Tokenizer<'source> {
 impl<'source> Tokenizer<'source> {
     ghost use Rattle.std.specs.Prelude.{◌≡◌, ◌∷◌, [], MatchOption, IsOk};
     ghost use Rattle.template_compiler_tokens.specs.Left.{Takes};
-    ghost use Rattle.template_compiler_segments.specs.Flat.{IsTokens};
+    ghost use Rattle.template_compiler_syntax.specs.Flat.{IsTokens};
     ghost use Rattle.template_compiler_tokenizer.specs.Spans.{HasSpans, TakesSpan, words_in};
     ghost use Rattle.template_compiler_tokenizer.specs.Held.{TakesAll, spanned_of};
 

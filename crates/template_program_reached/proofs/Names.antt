@@ -2,7 +2,7 @@
 use Rattle.std.proofs.Common.{◌≡◌, ◌∙◌, ℕ, List, sym, ap, subst}
 use Rattle.template_compiler_tokens.specs.Token.{Token}
 use Rattle.template_compiler_syntax.specs.Syntax.{Syntax}
-use Rattle.template_compiler_segments.specs.Flat.{IsTokens}
+use Rattle.template_compiler_syntax.specs.Flat.{IsTokens}
 use Rattle.template_program_reached.specs.Loaded.{elsewhere, names_from, IsLoading, loading_by}
 
 -- the names in all tokens are those that the source loads by

@@ -3,7 +3,7 @@ use Rattle.std.specs.Prelude.{ℕ, Bool, ◌||◌, if◌then◌else◌, codes, b
 use Rattle.std.specs.List.{Contains}
 use Rattle.template_compiler_tokens.specs.Token.{Token, block_start, block_end, identifier, string}
 use Rattle.template_compiler_syntax.specs.Syntax.{Syntax}
-use Rattle.template_compiler_segments.specs.Flat.{IsTokens}
+use Rattle.template_compiler_syntax.specs.Flat.{IsTokens}
 
 -- the words of the statements that load templates
 abbrev pub is_loading_word : List ℕ → Bool

@@ -1,9 +1,9 @@
 use Rattle.std.proofs.Common.{◌≡◌, ◌+◌, ◌≤◌, ◌∷◌, inl, inr, sym, ◌∙◌, ap, subst, arith, length}
 use Rattle.std.proofs.lemmas.Bool.{false≢true}
-use Rattle.template_compiler_segments.specs.declared.edges.Edge.TheVariants.{Nothing, Beside}
-use Rattle.template_compiler_segments.specs.Places.{stretch}
-use Rattle.template_compiler_segments.specs.Segments.{start_sign}
-use Rattle.template_compiler_segments.specs.Stripping.{stripped_from, stripped_to}
+use Rattle.template_compiler_syntax.specs.declared.edges.Edge.TheVariants.{Nothing, Beside}
+use Rattle.template_compiler_syntax.specs.Places.{stretch}
+use Rattle.template_compiler_syntax.specs.Segments.{start_sign}
+use Rattle.template_compiler_syntax.specs.Stripping.{stripped_from, stripped_to}
 use Rattle.std.specs.Str.{IsCharBoundary}
 use Rattle.template_compiler_tokens.specs.Token.{template_data}
 use Rattle.template_compiler_placed_tokens.specs.Left.{placed, data_tokens}

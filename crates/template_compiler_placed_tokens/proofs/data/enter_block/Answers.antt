@@ -1,7 +1,7 @@
 use Rattle.std.proofs.Common.{Some, subst, ◌∷◌, sym, ◌∙◌, ap, arith}
 use Rattle.template_compiler_syntax.specs.declared.StartMarker.TheVariants.{Block}
 use Rattle.std.specs.Prelude.{codes}
-use Rattle.template_compiler_segments.specs.Segments.{HasInside, only}
+use Rattle.template_compiler_syntax.specs.Segments.{HasInside, only}
 use Rattle.template_compiler_tokens.specs.Token.{block_start}
 use Rattle.template_compiler_placed_tokens.specs.Left.{placed, inside_tokens}
 use Rattle.template_compiler_placed_tokens.proofs.OneWord.{raw_is_name}

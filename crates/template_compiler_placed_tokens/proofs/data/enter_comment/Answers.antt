@@ -2,9 +2,9 @@ use Rattle.std.proofs.Common.{◌+◌, inr, refl, sym, ◌∙◌, ap, subst, ari
 use Rattle.std.specs.Str.{IsUtf8, IsCharBoundary}
 use Rattle.template_compiler_syntax.specs.declared.StartMarker.TheVariants.{Comment}
 use Rattle.template_compiler_tokens.specs.Token.{bad_syntax}
-use Rattle.template_compiler_segments.specs.declared.edges.Edge.TheVariants.{Beside}
-use Rattle.template_compiler_segments.specs.Segments.{comment_sign}
-use Rattle.template_compiler_segments.proofs.Some.{set_long}
+use Rattle.template_compiler_syntax.specs.declared.edges.Edge.TheVariants.{Beside}
+use Rattle.template_compiler_syntax.specs.Segments.{comment_sign}
+use Rattle.template_compiler_syntax.proofs.Some.{set_long}
 use Rattle.template_compiler_placed_tokens.specs.Left.{data_tokens}
 use Rattle.template_compiler_placed_tokens.proofs.Cuts.{stands_cut}
 use Rattle.template_compiler_placed_tokens.proofs.Steps.{at_comment, at_endless_comment}

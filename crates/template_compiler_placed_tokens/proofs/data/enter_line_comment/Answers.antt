@@ -1,13 +1,13 @@
 use Rattle.std.proofs.Common.{◌+◌, sym, ◌∙◌, ap, subst, arith}
 use Rattle.std.specs.Str.{IsCharBoundary}
 use Rattle.template_compiler_syntax.specs.declared.StartMarker.TheVariants.{LineComment}
-use Rattle.template_compiler_segments.specs.declared.edges.Edge.TheVariants.{Beside}
-use Rattle.template_compiler_segments.specs.declared.edges.Sign.TheVariants.{Plain}
-use Rattle.template_compiler_segments.specs.Places.{newline_len, is_first_on_line}
+use Rattle.template_compiler_syntax.specs.declared.edges.Edge.TheVariants.{Beside}
+use Rattle.template_compiler_syntax.specs.declared.edges.Sign.TheVariants.{Plain}
+use Rattle.template_compiler_syntax.specs.Places.{newline_len, is_first_on_line}
 use Rattle.template_compiler_placed_tokens.specs.Left.{data_tokens}
 use Rattle.template_compiler_placed_tokens.proofs.Steps.{at_line_comment}
-use Rattle.template_compiler_segments.specs.Segments.{inside_from}
-use Rattle.template_compiler_segments.proofs.Some.{set_long}
+use Rattle.template_compiler_syntax.specs.Segments.{inside_from}
+use Rattle.template_compiler_syntax.proofs.Some.{set_long}
 use Rattle.template_compiler_placed_tokens.proofs.Cuts.{newline_behind, newline_before}
 use Rattle.template_compiler_placed_tokens.proofs.Parts.{line_first, line_end_le, line_picked, line_left}
 use Rattle.template_compiler_placed_tokens.proofs.data.enter_line_comment.Goals as goal

@@ -3,7 +3,7 @@ use Rattle.std.specs.Str.{IsCharBoundary}
 use Rattle.std.proofs.lemmas.Bool.{false≢true}
 use Rattle.std.proofs.lemmas.Str.{IsCharBoundary-end}
 use Rattle.template_compiler_tokens.specs.Token.{template_data}
-use Rattle.template_compiler_segments.specs.Stripping.{stripped_from}
+use Rattle.template_compiler_syntax.specs.Stripping.{stripped_from}
 use Rattle.template_compiler_placed_tokens.specs.Left.{placed}
 use Rattle.template_compiler_placed_tokens.proofs.Steps.{data_last}
 use Rattle.template_compiler_placed_tokens.proofs.Parts.{data_at_end, data_cut}

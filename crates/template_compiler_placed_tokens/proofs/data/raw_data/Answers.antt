@@ -3,13 +3,13 @@ use Rattle.template_compiler_syntax.specs.declared.StartMarker.TheVariants.{Bloc
 use Rattle.std.specs.Str.{IsCharBoundary}
 use Rattle.template_compiler_tokens.specs.Token.{template_data}
 use Rattle.template_compiler_tokens.proofs.OneToken.{one_token, some_token}
-use Rattle.template_compiler_segments.specs.declared.edges.Edge.TheVariants.{Beside}
-use Rattle.template_compiler_segments.specs.Places.{stretch}
-use Rattle.template_compiler_segments.specs.Segments.{start_sign}
-use Rattle.template_compiler_segments.specs.Stripping.{stripped_from, stripped_to}
-use Rattle.template_compiler_segments.proofs.Bytes.{takes_bytes}
-use Rattle.template_compiler_segments.proofs.Pieces.{ends_ahead}
-use Rattle.template_compiler_segments.proofs.Some.{set_long}
+use Rattle.template_compiler_syntax.specs.declared.edges.Edge.TheVariants.{Beside}
+use Rattle.template_compiler_syntax.specs.Places.{stretch}
+use Rattle.template_compiler_syntax.specs.Segments.{start_sign}
+use Rattle.template_compiler_syntax.specs.Stripping.{stripped_from, stripped_to}
+use Rattle.template_compiler_syntax.proofs.Bytes.{takes_bytes}
+use Rattle.template_compiler_syntax.proofs.Pieces.{ends_ahead}
+use Rattle.template_compiler_syntax.proofs.Some.{set_long}
 use Rattle.template_compiler_placed_tokens.specs.Left.{placed, data_tokens}
 use Rattle.template_compiler_placed_tokens.proofs.Parts.{data_cut}
 use Rattle.template_compiler_placed_tokens.proofs.Steps.{at_raw, at_endless_raw}

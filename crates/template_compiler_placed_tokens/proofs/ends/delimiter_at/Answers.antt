@@ -1,7 +1,7 @@
 use Rattle.std.proofs.Common.{refl, sym, ◌∙◌, inr}
 use Rattle.std.proofs.lemmas.Bool.{false≢true}
-use Rattle.template_compiler_segments.specs.Segments.{bare_end, signed_end}
-use Rattle.template_compiler_segments.proofs.Some.{no_end}
+use Rattle.template_compiler_syntax.specs.Segments.{bare_end, signed_end}
+use Rattle.template_compiler_syntax.proofs.Some.{no_end}
 use Rattle.template_compiler_placed_tokens.proofs.Delimiters.{sign_past}
 use Rattle.template_compiler_placed_tokens.proofs.ends.delimiter_at.Goals as goal
 

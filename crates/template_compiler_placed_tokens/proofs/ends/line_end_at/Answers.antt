@@ -1,6 +1,6 @@
 use Rattle.std.proofs.Common.{◌<◌, ◌+◌, ◌≡◌, inl, inr, ap, arith}
-use Rattle.template_compiler_segments.specs.Segments.{line_end}
-use Rattle.template_compiler_segments.specs.Places.{newline_len}
+use Rattle.template_compiler_syntax.specs.Segments.{line_end}
+use Rattle.template_compiler_syntax.specs.Places.{newline_len}
 use Rattle.template_compiler_placed_tokens.proofs.ends.line_end_at.Goals as goal
 
 pub returns-then-width-gt0 : goal.returns-then-width-gt0

@@ -1,5 +1,5 @@
 use Rattle.std.proofs.Common.{sym, ◌∙◌, ap, arith, ◌∷◌}
-use Rattle.template_compiler_segments.specs.declared.edges.Edge.TheVariants.{Beside}
+use Rattle.template_compiler_syntax.specs.declared.edges.Edge.TheVariants.{Beside}
 use Rattle.template_compiler_tokens.specs.View.{token_of}
 use Rattle.template_compiler_placed_tokens.specs.Left.{placed, data_tokens}
 use Rattle.template_compiler_placed_tokens.proofs.Scanned.{scanned, not_scanned, scanned_cut, open_le}

@@ -1,7 +1,7 @@
 use Rattle.std.proofs.Common.{◌≡◌, ◌-◌, ◌≤◌, length, List}
 use Rattle.std.specs.Str.{IsCharBoundary}
 use Rattle.template_compiler_tokens.specs.Token.{Token}
-use Rattle.template_compiler_segments.specs.Segments.{Ending, HasInside}
+use Rattle.template_compiler_syntax.specs.Segments.{Ending, HasInside}
 use Rattle.template_compiler_placed_tokens.specs.Left.{inside_tokens}
 use Rattle.template_compiler_placed_tokens.proofs.inside.next_place_of.Given as goal
 

@@ -1,6 +1,6 @@
 use Rattle.std.proofs.Common.{◌≡◌, ◌-◌, ◌≤◌, length}
 use Rattle.std.specs.Str.{IsCharBoundary}
-use Rattle.template_compiler_segments.specs.Known.{Knows}
+use Rattle.template_compiler_syntax.specs.Known.{Knows}
 use Rattle.template_compiler_placed_tokens.specs.Left.{data_tokens}
 use Rattle.template_compiler_placed_tokens.proofs.read.next_in_data.Given as goal
 

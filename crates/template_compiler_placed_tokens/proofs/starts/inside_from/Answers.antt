@@ -1,8 +1,8 @@
 use Rattle.std.proofs.Common.{◌+◌, sym, ◌∙◌, ap, subst, length}
 use Rattle.std.specs.Str.{IsUtf8, IsCharBoundary}
 use Rattle.template_compiler_syntax.specs.Syntax.{start_text}
-use Rattle.template_compiler_segments.specs.Places.{sign_width}
-use Rattle.template_compiler_segments.specs.Segments.{start_sign}
+use Rattle.template_compiler_syntax.specs.Places.{sign_width}
+use Rattle.template_compiler_syntax.specs.Segments.{start_sign}
 use Rattle.template_compiler_placed_tokens.proofs.Cuts.{stands_start, inside_cut}
 use Rattle.template_compiler_placed_tokens.proofs.starts.inside_from.Goals as goal
 

@@ -1,5 +1,5 @@
 use Rattle.std.proofs.Common.{ℕ, ◌-◌, ◌<◌, ◌≤◌, length}
-use Rattle.template_compiler_segments.specs.Segments.{IsRawEnd}
+use Rattle.template_compiler_syntax.specs.Segments.{IsRawEnd}
 use Rattle.template_compiler_placed_tokens.proofs.words.find_raw_end.Given as goal
 
 -- no block below `at` ends raw data

@@ -1,5 +1,5 @@
 use Rattle.std.proofs.Common.{◌≤◌, length, ◌∙◌, subst, arith, Ok}
-use Rattle.template_compiler_segments.specs.Known.{Knows}
+use Rattle.template_compiler_syntax.specs.Known.{Knows}
 use Rattle.template_compiler_tokenizer.specs.Held.{HoldsRead, StandsIn, left_of}
 use Rattle.template_compiler_tokenizer.specs.Inner.{ReadsSegment, standing}
 use Rattle.template_compiler_placed_tokens.specs.Left.{left_at}

@@ -1,5 +1,5 @@
 use Rattle.std.proofs.Common.{◌+◌, ◌-◌, length}
-use Rattle.template_compiler_segments.specs.Known.{Knows}
+use Rattle.template_compiler_syntax.specs.Known.{Knows}
 use Rattle.template_compiler_tokenizer.specs.Held.{StandsIn, left_of, HoldsRead}
 use Rattle.template_compiler_tokenizer.specs.Inner.{standing}
 use Rattle.template_compiler_tokenizer.proofs.all.read_all.Given as goal

@@ -3,7 +3,7 @@ use Rattle.std.specs.Str.{IsCharBoundary}
 use Rattle.template_compiler_syntax.specs.Syntax.{Syntax}
 use Rattle.template_compiler_syntax.specs.declared.StartMarker.TheVariants.{Block}
 use Rattle.template_compiler_tokens.specs.Token.{Token}
-use Rattle.template_compiler_segments.specs.Segments.{Ending, HasInside}
+use Rattle.template_compiler_syntax.specs.Segments.{Ending, HasInside}
 use Rattle.template_compiler_placed_tokens.specs.Left.{inside_tokens}
 use Rattle.template_compiler_tokenizer.proofs.reach.behind_white_space.Given as goal
 

@@ -1,9 +1,9 @@
 use Rattle.std.proofs.Common.{◌≡◌, Some, ◌∷◌, sym, ◌∙◌, ap, arith, subst, refl}
 use Rattle.std.specs.Prelude.{codes, None}
 use Rattle.template_compiler_syntax.specs.declared.StartMarker.TheVariants.{Block}
-use Rattle.template_compiler_segments.specs.declared.edges.Edge.TheVariants.{Nothing}
-use Rattle.template_compiler_segments.specs.Segments.{HasInside, only}
-use Rattle.template_compiler_segments.proofs.Some.{set_long}
+use Rattle.template_compiler_syntax.specs.declared.edges.Edge.TheVariants.{Nothing}
+use Rattle.template_compiler_syntax.specs.Segments.{HasInside, only}
+use Rattle.template_compiler_syntax.proofs.Some.{set_long}
 use Rattle.template_compiler_tokens.specs.Token.{block_start}
 use Rattle.template_compiler_placed_tokens.specs.Finds.{FindsWord}
 use Rattle.template_compiler_placed_tokens.specs.Left.{placed, data_tokens, inside_tokens}

@@ -1,8 +1,8 @@
 use Rattle.std.proofs.Common.{◌∷◌, sym, ◌∙◌, ap, arith, subst}
 use Rattle.std.specs.Str.{IsCharBoundary}
 use Rattle.template_compiler_syntax.specs.declared.StartMarker.TheVariants.{Variable}
-use Rattle.template_compiler_segments.specs.declared.edges.Edge.TheVariants.{Nothing}
-use Rattle.template_compiler_segments.proofs.Some.{set_long}
+use Rattle.template_compiler_syntax.specs.declared.edges.Edge.TheVariants.{Nothing}
+use Rattle.template_compiler_syntax.proofs.Some.{set_long}
 use Rattle.template_compiler_tokens.specs.Token.{variable_start}
 use Rattle.template_compiler_placed_tokens.specs.Left.{placed, data_tokens, inside_tokens}
 use Rattle.template_compiler_tokenizer.proofs.Reading.{goes_on_behind, none_held}

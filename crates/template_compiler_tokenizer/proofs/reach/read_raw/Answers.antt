@@ -2,8 +2,8 @@ use Rattle.std.proofs.Common.{◌+◌, ◌<◌, inl, inr, Some, length, sym, ◌
 use Rattle.std.proofs.lemmas.Bool.{cases_lt, false≢true}
 use Rattle.std.specs.Prelude.{codes}
 use Rattle.template_compiler_syntax.specs.declared.StartMarker.TheVariants.{Block}
-use Rattle.template_compiler_segments.specs.declared.edges.Edge.TheVariants.{Nothing, Beside}
-use Rattle.template_compiler_segments.specs.Segments.{HasInside, only}
+use Rattle.template_compiler_syntax.specs.declared.edges.Edge.TheVariants.{Nothing, Beside}
+use Rattle.template_compiler_syntax.specs.Segments.{HasInside, only}
 use Rattle.template_compiler_tokens.specs.Token.{bad_syntax, template_data}
 use Rattle.template_compiler_placed_tokens.specs.Left.{data_tokens}
 use Rattle.template_compiler_placed_tokens.proofs.OneWord.{raw_is_name}

@@ -1,5 +1,0 @@
-pub mod Places
-pub mod Segments
-pub mod Stripping
-pub mod Flat
-pub mod Known

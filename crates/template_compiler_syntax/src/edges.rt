@@ -1,0 +1,90 @@
+//! What stands beside data: the ends of segments, and their signs.
+ghost use Rattle.std.specs.Prelude.{◌≡◌, ◌+◌, ◌≤◌, length};
+ghost use Rattle.template_compiler_syntax.specs.Syntax.{start_text as start_of};
+ghost use Rattle.template_compiler_syntax.specs.Places.{sign_of, sign_at, sign_width};
+ghost use Rattle.template_compiler_syntax.specs.Segments.{comment_sign as sign_of_comment, start_sign as sign_of_start};
+
+use crate::places::rest_from;
+use template_compiler_tokens::last_between;
+use crate::{StartMarker, SyntaxConfig};
+
+/// The sign at an end of a segment.
+#[derive(Clone, Copy, Debug, PartialEq, Eq)]
+pub enum Sign {
+    /// None.
+    Plain,
+    /// `-`: all white space of the data beside it goes.
+    Minus,
+    /// `+`: none goes.
+    Plus,
+}
+
+/// What data has beside it.
+#[derive(Clone, Copy)]
+pub enum Edge {
+    /// Nothing: the source begins or ends.
+    Nothing,
+    /// A segment of the kind, whose end on this side has the sign.
+    Beside(StartMarker, Sign),
+}
+
+impl Sign {
+    /// The sign that stands at a place.
+    pub fn at(bytes: &[u8], place: usize) -> Sign
+        requires { place ≤ length bytes.now }
+        ensures { result ≡ sign_at bytes.now place }
+    {
+        match rest_from(bytes, place) {
+            [b'-', ..] => Sign::Minus,
+            [b'+', ..] => Sign::Plus,
+            _ => Sign::Plain,
+        }
+    }
+
+    // The sign that a byte is.
+    fn of(byte: u8) -> Sign
+        ensures { result ≡ sign_of byte }
+    {
+        match byte {
+            b'-' => Sign::Minus,
+            b'+' => Sign::Plus,
+            _ => Sign::Plain,
+        }
+    }
+
+    /// How many bytes it takes.
+    pub fn width(self) -> usize
+        ensures { result ≡ sign_width self }
+    {
+        match self {
+            Sign::Plain => 0,
+            Sign::Minus | Sign::Plus => 1,
+        }
+    }
+}
+
+/// The sign of the start marker of the kind that stands at a place: that of a print, a block or a comment
+/// stands directly behind it.
+pub fn start_sign(bytes: &[u8], syntax: &SyntaxConfig, kind: StartMarker, place: usize) -> Sign
+    requires { place + length (start_of syntax.now kind) ≤ length bytes.now }
+    ensures { result ≡ sign_of_start syntax.now bytes.now kind place }
+{
+    match kind {
+        StartMarker::Variable | StartMarker::Block | StartMarker::Comment => {
+            Sign::at(bytes, place + syntax.start_text(kind).len())
+        }
+        StartMarker::LineStatement | StartMarker::LineComment => Sign::Plain,
+    }
+}
+
+/// The sign directly before a comment's end at the place, where what is inside begins at the other: the start's own
+/// sign is none of its end.
+pub fn comment_sign(bytes: &[u8], inside: usize, end: usize) -> Sign
+    requires { end ≤ length bytes.now }
+    ensures { result ≡ sign_of_comment bytes.now inside end }
+{
+    match last_between(bytes, inside, end) {
+        Some(byte) => Sign::of(byte),
+        None => Sign::Plain,
+    }
+}
