@@ -22,7 +22,7 @@ pub use Rattle.template_tree.specs.Kinds
 pub use Rattle.template_tree.specs.Places
 pub use Rattle.template_compiler_grammar.specs.Grammar as ExpressionGrammar
 pub use Rattle.template_compiler_grammar.specs.TemplateGrammar
-pub use Rattle.template_compiler_placed_grammar.specs.TreeReader
+pub use Rattle.template_compiler_grammar.specs.TreeReader
 pub use Rattle.template_compiler_tokens.specs.Blame
 pub use Rattle.template_compiler_stream.specs.Left as ReadTokens
 pub use Rattle.template_compiler_stream.specs.Spans as ReadSpans

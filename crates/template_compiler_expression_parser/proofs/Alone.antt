@@ -12,8 +12,8 @@ use Rattle.template_compiler_grammar.specs.Words.{is_word, literal_word, Level, 
 use Rattle.template_compiler_grammar.specs.ReaderParts.{word_tree}
 use Rattle.template_compiler_tokens.specs.Steps.{Read, and_then, stops, all}
 use Rattle.template_compiler_tokens.proofs.Loops.{then_goes, all_stops}
-use Rattle.template_compiler_placed_grammar.specs.Nodes.{Node, node, PlacedLinks, no_placed_links, compared_node}
-use Rattle.template_compiler_placed_grammar.specs.Reader.{Deeper, nothing_deeper, primary_by, part_step, parts_by, unary_by, filter_step, filtered_by, power_behind, power_by, operand_step, binary_of, terms_by, link_behind, link_step, comparison_by, negation_by, operand_by, binary_by, if_behind, expression_by}
+use Rattle.template_compiler_grammar.specs.Nodes.{Node, node, PlacedLinks, no_placed_links, compared_node}
+use Rattle.template_compiler_grammar.specs.Reader.{Deeper, nothing_deeper, primary_by, part_step, parts_by, unary_by, filter_step, filtered_by, power_behind, power_by, operand_step, binary_of, terms_by, link_behind, link_step, comparison_by, negation_by, operand_by, binary_by, if_behind, expression_by}
 use Rattle.template_compiler_stream.specs.Signs.{is_plain, is_end, begins_alone}
 use Rattle.template_compiler_stream.specs.declared.refusal.Refusal.{Refusal}
 use Rattle.template_compiler_expression_parts.specs.Parsed.{Parsed}

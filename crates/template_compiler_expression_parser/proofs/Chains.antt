@@ -4,8 +4,8 @@ use Rattle.template_tree.specs.declared.span.Span.{Span}
 use Rattle.template_compiler_tokens.specs.Places.{next_span}
 use Rattle.template_compiler_tokens.specs.Token.{Token, symbol, pipe}
 use Rattle.template_compiler_tokens.specs.Steps.{all}
-use Rattle.template_compiler_placed_grammar.specs.Nodes.{Node, OptionalNode, given_node}
-use Rattle.template_compiler_placed_grammar.specs.Reader.{deeper, filter_by, chain_step}
+use Rattle.template_compiler_grammar.specs.Nodes.{Node, OptionalNode, given_node}
+use Rattle.template_compiler_grammar.specs.Reader.{deeper, filter_by, chain_step}
 use Rattle.template_compiler_stream.specs.declared.refusal.Refusal.{Refusal}
 use Rattle.template_compiler_stream.specs.Refusals.{Refused}
 use Rattle.template_compiler_stream.specs.Signs.{begins_symbol}

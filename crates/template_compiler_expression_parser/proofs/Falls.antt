@@ -7,9 +7,9 @@ use Rattle.template_compiler_tokens.specs.Token.{Token, TokenFault, symbol, iden
 use Rattle.template_compiler_tokens.specs.Steps.{Read, fault, and_then, Step, goes, stops, fails, under}
 use Rattle.template_compiler_tokens.proofs.Loops.{Shrinks}
 use Rattle.template_compiler_grammar.specs.ReaderParts.{colon_end, begins_closing, separated, unless_closing}
-use Rattle.template_compiler_placed_grammar.specs.Nodes.{placed, Node, and_node, PlacedPairs, and_placed_pair, PlacedArgument, and_placed_written, OptionalNode}
-use Rattle.template_compiler_placed_grammar.specs.Reader.{deeper, expression_by, items_step, pairs_step, named_argument, argument_by, arguments_step, filter_by, chain_step}
-use Rattle.template_compiler_placed_grammar.proofs.Sound.{expression_takes, filter_takes}
+use Rattle.template_compiler_grammar.specs.Nodes.{placed, Node, and_node, PlacedPairs, and_placed_pair, PlacedArgument, and_placed_written, OptionalNode}
+use Rattle.template_compiler_grammar.specs.Reader.{deeper, expression_by, items_step, pairs_step, named_argument, argument_by, arguments_step, filter_by, chain_step}
+use Rattle.template_compiler_grammar.proofs.Sound.{expression_takes, filter_takes}
 
 made_by : (m : Read Node) (make : Node → PlacedArgument) (a : PlacedArgument) (ts us : List Token) →
     ((e : Node) (vs : List Token) → m ≡ Ok (e, vs) → length vs < length ts) → and_then m (λ e vs. Ok (make e, vs)) ≡ Ok (a, us) →

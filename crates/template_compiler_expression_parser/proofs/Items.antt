@@ -4,8 +4,8 @@ use Rattle.template_tree.specs.declared.span.Span.{Span}
 use Rattle.template_compiler_tokens.specs.Token.{Token}
 use Rattle.template_compiler_tokens.specs.Steps.{Read, and_then, Step, goes, stops, under}
 use Rattle.template_compiler_grammar.specs.ReaderParts.{begins_closing, colon_end, separated, unless_closing}
-use Rattle.template_compiler_placed_grammar.specs.Nodes.{Node, Nodes, and_node, PlacedPairs, and_placed_pair, PlacedArgument, PlacedWritten, and_placed_written}
-use Rattle.template_compiler_placed_grammar.specs.Reader.{argument_by, arguments_step, items_step, pairs_step}
+use Rattle.template_compiler_grammar.specs.Nodes.{Node, Nodes, and_node, PlacedPairs, and_placed_pair, PlacedArgument, PlacedWritten, and_placed_written}
+use Rattle.template_compiler_grammar.specs.Reader.{argument_by, arguments_step, items_step, pairs_step}
 use Rattle.template_compiler_stream.specs.declared.refusal.Refusal.{Refusal}
 use Rattle.template_compiler_stream.specs.declared.refusal.Refusal.TheVariants as refusals
 use Rattle.template_compiler_stream.specs.Refusals.{Refused, fault_of}

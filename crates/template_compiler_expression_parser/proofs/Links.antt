@@ -5,9 +5,9 @@ use Rattle.template_tree.specs.declared.operators.CompareOpKind.{CompareOpKind}
 use Rattle.template_tree.specs.declared.operators.CompareOpKind.TheVariants as comparisons
 use Rattle.template_compiler_tokens.specs.Token.{Token, TokenFault, bad, identifier}
 use Rattle.template_compiler_grammar.specs.Words.{begins_word, is_word, comparison_operator}
-use Rattle.template_compiler_placed_grammar.specs.Nodes.{Node, PlacedLinks, and_placed_link}
+use Rattle.template_compiler_grammar.specs.Nodes.{Node, PlacedLinks, and_placed_link}
 use Rattle.template_compiler_tokens.specs.Steps.{Read, fault, Step, goes, stops, fails, under}
-use Rattle.template_compiler_placed_grammar.specs.Reader.{link_behind, link_step, not_in_link}
+use Rattle.template_compiler_grammar.specs.Reader.{link_behind, link_step, not_in_link}
 use Rattle.template_compiler_stream.specs.declared.refusal.Refusal.{Refusal}
 use Rattle.template_compiler_stream.specs.declared.refusal.Refusal.TheVariants as refusals
 use Rattle.template_compiler_stream.specs.Left.{passed}

@@ -11,9 +11,9 @@ use Rattle.template_compiler_tokens.specs.Token.{Token, Symbol, identifier, symb
 use Rattle.template_compiler_tokens.specs.Steps.{Read, and_then, stops, all}
 use Rattle.template_compiler_tokens.proofs.Loops.{then_goes, then_fails, all_stops}
 use Rattle.template_compiler_grammar.specs.Words.{begins_word, is_word, Level, factors, texts, terms, conjunction, disjunction}
-use Rattle.template_compiler_placed_grammar.specs.Nodes.{Node, node, PlacedLinks, no_placed_links, compared_node}
-use Rattle.template_compiler_placed_grammar.specs.Reader.{Deeper, primary_by, part_step, parts_by, up_to, unary_by, filter_step, filtered_by, power_behind, power_by, operand_step, binary_of, terms_by, link_behind, link_step, comparison_by, negation_by, operand_by, binary_by, if_behind, expression_by}
-use Rattle.template_compiler_placed_grammar.specs.Views.{node_of}
+use Rattle.template_compiler_grammar.specs.Nodes.{Node, node, PlacedLinks, no_placed_links, compared_node}
+use Rattle.template_compiler_grammar.specs.Reader.{Deeper, primary_by, part_step, parts_by, up_to, unary_by, filter_step, filtered_by, power_behind, power_by, operand_step, binary_of, terms_by, link_behind, link_step, comparison_by, negation_by, operand_by, binary_by, if_behind, expression_by}
+use Rattle.template_compiler_grammar.specs.Views.{node_of}
 use Rattle.template_compiler_stream.specs.Refusals.{Refused}
 use Rattle.template_compiler_stream.specs.Signs.{next_symbol, next_word, next_operator, begins_symbol}
 use Rattle.template_compiler_stream.specs.declared.refusal.Refusal.{Refusal}

@@ -11,9 +11,9 @@ use Rattle.template_compiler_tokens.specs.Token.{Token, colon}
 use Rattle.template_compiler_tokens.specs.Steps.{Read}
 use Rattle.template_compiler_tokens.proofs.Loops.{then_goes}
 use Rattle.template_compiler_grammar.specs.ReaderParts.{bracket_end}
-use Rattle.template_compiler_placed_grammar.specs.Nodes.{Node, given_node, node, placed}
-use Rattle.template_compiler_placed_grammar.specs.Reader.{bound_by, subscript_behind, subscript_by}
-use Rattle.template_compiler_placed_grammar.specs.Views.{node_of}
+use Rattle.template_compiler_grammar.specs.Nodes.{Node, given_node, node, placed}
+use Rattle.template_compiler_grammar.specs.Reader.{bound_by, subscript_behind, subscript_by}
+use Rattle.template_compiler_grammar.specs.Views.{node_of}
 use Rattle.template_compiler_stream.specs.declared.refusal.Refusal.{Refusal}
 use Rattle.template_compiler_stream.specs.Signs.{begins_symbol}
 use Rattle.template_compiler_expression_parts.specs.Parsed.{Parsed}

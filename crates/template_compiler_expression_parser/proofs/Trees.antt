@@ -6,11 +6,11 @@ use Rattle.template_tree.specs.declared.expressions.Expr.{Expr}
 use Rattle.template_tree.specs.declared.span.Span.{Span}
 use Rattle.template_compiler_tokens.specs.Token.{Token}
 use Rattle.template_compiler_tokens.specs.Steps.{Read}
-use Rattle.template_compiler_placed_grammar.specs.Nodes.{Node, OptionalNode, bare}
-use Rattle.template_compiler_placed_grammar.specs.Reader.{expression_at, condition_at, filter_at, filter_chain_at}
-use Rattle.template_compiler_placed_grammar.specs.TreeReader as trees
-use Rattle.template_compiler_placed_grammar.proofs.Readings.{bare_reads, bare_fails}
-use Rattle.template_compiler_placed_grammar.proofs.Sound.{expression_erased, condition_erased, filter_erased, filter_chain_erased}
+use Rattle.template_compiler_grammar.specs.Nodes.{Node, OptionalNode, bare}
+use Rattle.template_compiler_grammar.specs.Reader.{expression_at, condition_at, filter_at, filter_chain_at}
+use Rattle.template_compiler_grammar.specs.TreeReader as trees
+use Rattle.template_compiler_grammar.proofs.Readings.{bare_reads, bare_fails}
+use Rattle.template_compiler_grammar.proofs.Sound.{expression_erased, condition_erased, filter_erased, filter_chain_erased}
 use Rattle.template_compiler_stream.specs.declared.refusal.Refusal.{Refusal}
 use Rattle.template_compiler_stream.specs.declared.refusal.Refusal.TheVariants as refusals
 use Rattle.template_compiler_expression_parts.specs.Parsed.{Parsed, ParsedAs, ParsedOptional}

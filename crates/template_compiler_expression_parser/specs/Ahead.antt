@@ -4,8 +4,8 @@ use Rattle.std.specs.Option.{option_map_or}
 use Rattle.template_compiler_tokens.specs.Token.{Token, Symbol, plus, minus, mul, div, floor_div, modulo, tilde, eq, ne, gt, gte, lt, lte, dot, bracket_open, paren_open, pipe, pow}
 use Rattle.template_compiler_tokens.specs.Steps.{Read, and_then, all}
 use Rattle.template_compiler_grammar.specs.Words.{begins_word, factors, texts, terms, conjunction, disjunction}
-use Rattle.template_compiler_placed_grammar.specs.Nodes.{Node, node, compared_node, no_placed_links}
-use Rattle.template_compiler_placed_grammar.specs.Reader.{Deeper, unary_by, filter_step, power_behind, operand_by, operand_step, link_step, terms_by, up_to}
+use Rattle.template_compiler_grammar.specs.Nodes.{Node, node, compared_node, no_placed_links}
+use Rattle.template_compiler_grammar.specs.Reader.{Deeper, unary_by, filter_step, power_behind, operand_by, operand_step, link_step, terms_by, up_to}
 use Rattle.template_tree.specs.Tree.{unary}
 use Rattle.template_tree.specs.NodePlaces.{one}
 use Rattle.template_tree.specs.declared.operators.UnaryOpKind.TheVariants as unaries

@@ -5,9 +5,9 @@ ghost use Rattle.template_compiler_expression_parts.specs.Parsed.{Parsed, Parsed
 ghost use Rattle.template_compiler_stream.specs.Signs.{level_of, symbol_of};
 ghost use Rattle.template_compiler_expression_parser.specs.Ahead.{HasNoFilter, HasNoLink, HasNoOperator, begins_sign, choices_from, comparison_from, is_filter_sign, is_link_sign, is_link_word, is_part_sign, is_sum_sign, negative_from, operators_from, sum_from};
 ghost use Rattle.template_compiler_grammar.specs.ReaderParts.{colon_end, paren_end};
-ghost use Rattle.template_compiler_placed_grammar.specs.Reader.{link_behind, argument_by, arguments_by, arguments_step, binary_by, bound_by, deeper, else_behind, expression_by, filter_by, filter_step, if_behind, is_by, items_step, link_step, list_by, map_by, negation_by, not_in_link, operand_by, operand_step, optional_arguments_by, paren_by, part_step, parts_by, pairs_step, power_behind, power_by, primary_by, slice_by, step_by, subscript_by, terms_by, test_arguments_by, test_by, through_next, unary_by, up_to};
-ghost use Rattle.template_compiler_placed_grammar.specs.Nodes.{first_node, given_node, no_placed_links, no_placed_pairs, no_placed_written, node};
-ghost use Rattle.template_compiler_placed_grammar.specs.Views.{node_of, nodes_in, optional_node_in, placed_argument_of, placed_arguments_in, placed_links_in};
+ghost use Rattle.template_compiler_grammar.specs.Reader.{link_behind, argument_by, arguments_by, arguments_step, binary_by, bound_by, deeper, else_behind, expression_by, filter_by, filter_step, if_behind, is_by, items_step, link_step, list_by, map_by, negation_by, not_in_link, operand_by, operand_step, optional_arguments_by, paren_by, part_step, parts_by, pairs_step, power_behind, power_by, primary_by, slice_by, step_by, subscript_by, terms_by, test_arguments_by, test_by, through_next, unary_by, up_to};
+ghost use Rattle.template_compiler_grammar.specs.Nodes.{first_node, given_node, no_placed_links, no_placed_pairs, no_placed_written, node};
+ghost use Rattle.template_compiler_grammar.specs.Views.{node_of, nodes_in, optional_node_in, placed_argument_of, placed_arguments_in, placed_links_in};
 ghost use Rattle.template_tree.specs.ExpressionPlaces.{places_of};
 ghost use Rattle.template_tree.specs.NodePlaces.{parts_more};
 ghost use Rattle.template_compiler_grammar.specs.Words.{disjunction};
@@ -48,7 +48,7 @@ pub(crate) fn expression<'source>(
 
 // Behind the first operand of an expression: those of `and` and of `or`, and the branches.
 #[cycle(parser)]
-#[tactic(auto, unfolding(template_compiler_tokens::specs::Steps::and_then, template_compiler_placed_grammar::specs::Reader::if_behind, template_compiler_placed_grammar::specs::Reader::deeper))]
+#[tactic(auto, unfolding(template_compiler_tokens::specs::Steps::and_then, template_compiler_grammar::specs::Reader::if_behind, template_compiler_grammar::specs::Reader::deeper))]
 #[inline(never)]
 fn choice<'source>(
     alloc: Global,
@@ -73,7 +73,7 @@ fn choice<'source>(
 
 // Behind `if`: the condition, and the other branch where there is one.
 #[cycle(parser)]
-#[tactic(auto, unfolding(template_compiler_tokens::specs::Steps::and_then, template_compiler_placed_grammar::specs::Reader::else_behind, template_compiler_placed_grammar::specs::Reader::deeper))]
+#[tactic(auto, unfolding(template_compiler_tokens::specs::Steps::and_then, template_compiler_grammar::specs::Reader::else_behind, template_compiler_grammar::specs::Reader::deeper))]
 #[inline(never)]
 fn branches<'source>(
     alloc: Global,
@@ -98,7 +98,7 @@ fn branches<'source>(
 
 // Operands with the operators of a level between them. Most are alone, and go through no level below.
 #[cycle(parser)]
-#[tactic(auto, unfolding(template_compiler_tokens::specs::Steps::and_then, template_compiler_placed_grammar::specs::Reader::binary_by, template_compiler_placed_grammar::specs::Reader::binary_of))]
+#[tactic(auto, unfolding(template_compiler_tokens::specs::Steps::and_then, template_compiler_grammar::specs::Reader::binary_by, template_compiler_grammar::specs::Reader::binary_of))]
 pub(crate) fn binary<'source>(
     alloc: Global,
     tokens: &mut TokenStream<'source>,
@@ -145,7 +145,7 @@ fn operands<'source>(
 }
 
 #[cycle(parser)]
-#[tactic(auto, unfolding(template_compiler_placed_grammar::specs::Reader::operand_by, template_compiler_placed_grammar::specs::Reader::binary_by))]
+#[tactic(auto, unfolding(template_compiler_grammar::specs::Reader::operand_by, template_compiler_grammar::specs::Reader::binary_by))]
 #[inline(always)]
 fn operand<'source>(
     alloc: Global,
@@ -235,7 +235,7 @@ fn is_sum_sign(sign: Sign) -> bool
 
 // A `not`, or an unary with operators behind it, comparisons the loosest. Most have none.
 #[cycle(parser)]
-#[tactic(auto, unfolding(template_compiler_tokens::specs::Steps::and_then, template_compiler_placed_grammar::specs::Reader::negation_by, template_compiler_placed_grammar::specs::Reader::deeper))]
+#[tactic(auto, unfolding(template_compiler_tokens::specs::Steps::and_then, template_compiler_grammar::specs::Reader::negation_by, template_compiler_grammar::specs::Reader::deeper))]
 fn negation<'source>(
     alloc: Global,
     tokens: &mut TokenStream<'source>,
@@ -393,7 +393,7 @@ fn next_link<'source>(
 
 // Behind a comparison: its right side.
 #[cycle(parser)]
-#[tactic(auto, using(template_compiler_placed_grammar::proofs::Pushes::placed_links_push), unfolding(template_compiler_tokens::specs::Steps::under, template_compiler_placed_grammar::specs::Reader::link_behind, template_compiler_placed_grammar::specs::Reader::terms_by, template_compiler_placed_grammar::specs::Reader::binary_by, template_compiler_placed_grammar::specs::Reader::operand_by))]
+#[tactic(auto, using(template_compiler_grammar::proofs::Pushes::placed_links_push), unfolding(template_compiler_tokens::specs::Steps::under, template_compiler_grammar::specs::Reader::link_behind, template_compiler_grammar::specs::Reader::terms_by, template_compiler_grammar::specs::Reader::binary_by, template_compiler_grammar::specs::Reader::operand_by))]
 fn put_link<'source>(
     alloc: Global,
     tokens: &mut TokenStream<'source>,
@@ -416,7 +416,7 @@ fn put_link<'source>(
 
 // Behind the `not` of a `not in`.
 #[cycle(parser)]
-#[tactic(auto, unfolding(template_compiler_tokens::specs::Steps::under, template_compiler_placed_grammar::specs::Reader::link_behind, template_compiler_placed_grammar::specs::Reader::not_in_link))]
+#[tactic(auto, unfolding(template_compiler_tokens::specs::Steps::under, template_compiler_grammar::specs::Reader::link_behind, template_compiler_grammar::specs::Reader::not_in_link))]
 fn next_not_in<'source>(
     alloc: Global,
     tokens: &mut TokenStream<'source>,
@@ -456,7 +456,7 @@ fn power<'source>(
 
 // Filters and tests behind an unary, and a power behind these.
 #[cycle(parser)]
-#[tactic(auto, unfolding(template_compiler_tokens::specs::Steps::and_then, template_compiler_placed_grammar::specs::Reader::power_behind, template_compiler_placed_grammar::specs::Reader::deeper))]
+#[tactic(auto, unfolding(template_compiler_tokens::specs::Steps::and_then, template_compiler_grammar::specs::Reader::power_behind, template_compiler_grammar::specs::Reader::deeper))]
 #[inline(always)]
 fn power_behind<'source>(
     alloc: Global,
@@ -538,7 +538,7 @@ fn filters<'source>(
 }
 
 #[cycle(parser)]
-#[tactic(auto, using(template_compiler_expression_parts::proofs::Rounds::filter_none), unfolding(template_compiler_tokens::specs::Steps::under, template_compiler_placed_grammar::specs::Reader::filter_step))]
+#[tactic(auto, using(template_compiler_expression_parts::proofs::Rounds::filter_none), unfolding(template_compiler_tokens::specs::Steps::under, template_compiler_grammar::specs::Reader::filter_step))]
 #[inline(always)]
 fn next_filter<'source>(
     alloc: Global,
@@ -563,7 +563,7 @@ fn next_filter<'source>(
 
 // Behind `|`: a filter, with the parts of its result.
 #[cycle(parser)]
-#[tactic(auto, unfolding(template_compiler_tokens::specs::Steps::and_then, template_compiler_placed_grammar::specs::Reader::parts_by))]
+#[tactic(auto, unfolding(template_compiler_tokens::specs::Steps::and_then, template_compiler_grammar::specs::Reader::parts_by))]
 #[inline(never)]
 fn piped<'source>(
     alloc: Global,
@@ -583,7 +583,7 @@ fn piped<'source>(
 
 // A filter's name and its arguments.
 #[cycle(parser)]
-#[tactic(auto, unfolding(template_compiler_tokens::specs::Steps::and_then, template_compiler_placed_grammar::specs::Reader::filter_by))]
+#[tactic(auto, unfolding(template_compiler_tokens::specs::Steps::and_then, template_compiler_grammar::specs::Reader::filter_by))]
 pub(crate) fn filter<'source>(
     alloc: Global,
     tokens: &mut TokenStream<'source>,
@@ -602,7 +602,7 @@ pub(crate) fn filter<'source>(
 
 // Arguments in parentheses, where a `(` stands next.
 #[cycle(parser)]
-#[tactic(auto, using(template_compiler_expression_parts::proofs::Nothing::no_arguments_list), unfolding(template_compiler_placed_grammar::specs::Reader::optional_arguments_by, template_compiler_placed_grammar::specs::Reader::deeper))]
+#[tactic(auto, using(template_compiler_expression_parts::proofs::Nothing::no_arguments_list), unfolding(template_compiler_grammar::specs::Reader::optional_arguments_by, template_compiler_grammar::specs::Reader::deeper))]
 fn optional_arguments<'source>(
     alloc: Global,
     tokens: &mut TokenStream<'source>,
@@ -641,7 +641,7 @@ fn asked<'source>(
 
 // A test's name and its arguments, with the parts behind it.
 #[cycle(parser)]
-#[tactic(auto, unfolding(template_compiler_tokens::specs::Steps::and_then, template_compiler_placed_grammar::specs::Reader::test_by))]
+#[tactic(auto, unfolding(template_compiler_tokens::specs::Steps::and_then, template_compiler_grammar::specs::Reader::test_by))]
 fn test<'source>(
     alloc: Global,
     tokens: &mut TokenStream<'source>,
@@ -664,7 +664,7 @@ fn test<'source>(
 
 // A test with one argument, which stands without parentheses.
 #[cycle(parser)]
-#[tactic(auto, unfolding(template_compiler_tokens::specs::Steps::and_then, template_compiler_placed_grammar::specs::Reader::test_arguments_by))]
+#[tactic(auto, unfolding(template_compiler_tokens::specs::Steps::and_then, template_compiler_grammar::specs::Reader::test_arguments_by))]
 #[inline(never)]
 fn bare_test<'source>(
     alloc: Global,
@@ -695,7 +695,7 @@ fn bare_test<'source>(
 
 // A test with arguments in parentheses, or with none.
 #[cycle(parser)]
-#[tactic(auto, unfolding(template_compiler_tokens::specs::Steps::and_then, template_compiler_placed_grammar::specs::Reader::test_arguments_by, template_compiler_placed_grammar::specs::Reader::parts_by))]
+#[tactic(auto, unfolding(template_compiler_tokens::specs::Steps::and_then, template_compiler_grammar::specs::Reader::test_arguments_by, template_compiler_grammar::specs::Reader::parts_by))]
 #[inline(never)]
 fn plain_test<'source>(
     alloc: Global,
@@ -725,7 +725,7 @@ fn plain_test<'source>(
 
 // A minus, or a primary with its parts. Many have none.
 #[cycle(parser)]
-#[tactic(auto, unfolding(template_compiler_tokens::specs::Steps::and_then, template_compiler_placed_grammar::specs::Reader::unary_by, template_compiler_placed_grammar::specs::Reader::deeper))]
+#[tactic(auto, unfolding(template_compiler_tokens::specs::Steps::and_then, template_compiler_grammar::specs::Reader::unary_by, template_compiler_grammar::specs::Reader::deeper))]
 #[inline(always)]
 fn unary<'source>(
     alloc: Global,
@@ -808,7 +808,7 @@ fn parts<'source>(
 }
 
 #[cycle(parser)]
-#[tactic(auto, using(template_compiler_expression_parts::proofs::Rounds::part_none), unfolding(template_compiler_tokens::specs::Steps::under, template_compiler_placed_grammar::specs::Reader::part_step, template_compiler_placed_grammar::specs::Reader::deeper))]
+#[tactic(auto, using(template_compiler_expression_parts::proofs::Rounds::part_none), unfolding(template_compiler_tokens::specs::Steps::under, template_compiler_grammar::specs::Reader::part_step, template_compiler_grammar::specs::Reader::deeper))]
 #[inline(always)]
 fn next_part<'source>(
     alloc: Global,
@@ -856,7 +856,7 @@ fn call<'source>(
 
 // Behind the `[` of an item or a slice.
 #[cycle(parser)]
-#[tactic(auto, using(template_compiler_expression_parts::proofs::Nothing::a_key, template_compiler_expression_parts::proofs::Nothing::no_key), unfolding(template_compiler_tokens::specs::Steps::and_then, template_compiler_placed_grammar::specs::Reader::subscript_by, template_compiler_placed_grammar::specs::Reader::subscript_behind))]
+#[tactic(auto, using(template_compiler_expression_parts::proofs::Nothing::a_key, template_compiler_expression_parts::proofs::Nothing::no_key), unfolding(template_compiler_tokens::specs::Steps::and_then, template_compiler_grammar::specs::Reader::subscript_by, template_compiler_grammar::specs::Reader::subscript_behind))]
 fn subscript<'source>(
     alloc: Global,
     tokens: &mut TokenStream<'source>,
@@ -882,7 +882,7 @@ fn subscript<'source>(
 
 // Behind the first colon of a slice.
 #[cycle(parser)]
-#[tactic(auto, unfolding(template_compiler_tokens::specs::Steps::and_then, template_compiler_placed_grammar::specs::Reader::slice_by))]
+#[tactic(auto, unfolding(template_compiler_tokens::specs::Steps::and_then, template_compiler_grammar::specs::Reader::slice_by))]
 #[inline(never)]
 fn slice<'source>(
     alloc: Global,
@@ -905,7 +905,7 @@ fn slice<'source>(
 
 // A bound of a slice, where it is not left out.
 #[cycle(parser)]
-#[tactic(auto, unfolding(template_compiler_tokens::specs::Steps::and_then, template_compiler_placed_grammar::specs::Reader::bound_by))]
+#[tactic(auto, unfolding(template_compiler_tokens::specs::Steps::and_then, template_compiler_grammar::specs::Reader::bound_by))]
 fn bound<'source>(
     alloc: Global,
     tokens: &mut TokenStream<'source>,
@@ -924,7 +924,7 @@ fn bound<'source>(
 
 // The step of a slice, where a second colon stands next.
 #[cycle(parser)]
-#[tactic(auto, using(template_compiler_expression_parts::proofs::Nothing::no_step), unfolding(template_compiler_placed_grammar::specs::Reader::step_by))]
+#[tactic(auto, using(template_compiler_expression_parts::proofs::Nothing::no_step), unfolding(template_compiler_grammar::specs::Reader::step_by))]
 fn step<'source>(
     alloc: Global,
     tokens: &mut TokenStream<'source>,
@@ -942,7 +942,7 @@ fn step<'source>(
 }
 
 #[cycle(parser)]
-#[tactic(auto, using(template_compiler_expression_parts::proofs::Nothing::no_bracket_opens), unfolding(template_compiler_placed_grammar::specs::Reader::primary_by, template_compiler_placed_grammar::specs::Reader::deeper))]
+#[tactic(auto, using(template_compiler_expression_parts::proofs::Nothing::no_bracket_opens), unfolding(template_compiler_grammar::specs::Reader::primary_by, template_compiler_grammar::specs::Reader::deeper))]
 #[inline(always)]
 fn primary<'source>(
     alloc: Global,
@@ -967,7 +967,7 @@ fn primary<'source>(
 
 // Behind `(`.
 #[cycle(parser)]
-#[tactic(auto, using(template_compiler_expression_parts::proofs::Nothing::not_empty, template_compiler_expression_parts::proofs::Nothing::no_tuple), unfolding(template_compiler_tokens::specs::Steps::and_then, template_compiler_placed_grammar::specs::Reader::paren_by, template_compiler_placed_grammar::specs::Reader::paren_behind, template_compiler_placed_grammar::specs::Reader::items_by))]
+#[tactic(auto, using(template_compiler_expression_parts::proofs::Nothing::not_empty, template_compiler_expression_parts::proofs::Nothing::no_tuple), unfolding(template_compiler_tokens::specs::Steps::and_then, template_compiler_grammar::specs::Reader::paren_by, template_compiler_grammar::specs::Reader::paren_behind, template_compiler_grammar::specs::Reader::items_by))]
 #[inline(never)]
 fn paren<'source>(
     alloc: Global,
@@ -1015,7 +1015,7 @@ fn tuple<'source>(
 
 // Behind the `[` of a list.
 #[cycle(parser)]
-#[tactic(auto, unfolding(template_compiler_tokens::specs::Steps::and_then, template_compiler_placed_grammar::specs::Reader::list_by, template_compiler_placed_grammar::specs::Reader::items_by))]
+#[tactic(auto, unfolding(template_compiler_tokens::specs::Steps::and_then, template_compiler_grammar::specs::Reader::list_by, template_compiler_grammar::specs::Reader::items_by))]
 #[inline(never)]
 fn list<'source>(
     alloc: Global,
@@ -1056,7 +1056,7 @@ fn items<'source>(
 }
 
 #[cycle(parser)]
-#[tactic(auto, using(template_compiler_placed_grammar::proofs::Pushes::nodes_push, crate::proofs::Items::closing_stops, crate::proofs::Items::item_goes, crate::proofs::Items::item_refused, crate::proofs::Items::item_unseparated))]
+#[tactic(auto, using(template_compiler_grammar::proofs::Pushes::nodes_push, crate::proofs::Items::closing_stops, crate::proofs::Items::item_goes, crate::proofs::Items::item_refused, crate::proofs::Items::item_unseparated))]
 fn next_item<'source>(
     alloc: Global,
     tokens: &mut TokenStream<'source>,
@@ -1082,7 +1082,7 @@ fn next_item<'source>(
 
 // Behind the `{` of a map.
 #[cycle(parser)]
-#[tactic(auto, unfolding(template_compiler_tokens::specs::Steps::and_then, template_compiler_placed_grammar::specs::Reader::map_by, template_compiler_placed_grammar::specs::Reader::pairs_by))]
+#[tactic(auto, unfolding(template_compiler_tokens::specs::Steps::and_then, template_compiler_grammar::specs::Reader::map_by, template_compiler_grammar::specs::Reader::pairs_by))]
 #[inline(never)]
 fn map<'source>(
     alloc: Global,
@@ -1171,7 +1171,7 @@ fn key<'source>(
 
 // Behind the `(` of arguments.
 #[cycle(parser)]
-#[tactic(auto, unfolding(template_compiler_tokens::specs::Steps::and_then, template_compiler_placed_grammar::specs::Reader::arguments_by))]
+#[tactic(auto, unfolding(template_compiler_tokens::specs::Steps::and_then, template_compiler_grammar::specs::Reader::arguments_by))]
 fn arguments<'source>(
     alloc: Global,
     tokens: &mut TokenStream<'source>,
@@ -1237,7 +1237,7 @@ fn next_argument<'source>(
 }
 
 #[cycle(parser)]
-#[tactic(auto, using(template_compiler_expression_parts::proofs::Nothing::not_named), unfolding(template_compiler_tokens::specs::Steps::and_then, template_compiler_placed_grammar::specs::Reader::argument_by, template_compiler_placed_grammar::specs::Reader::named_argument))]
+#[tactic(auto, using(template_compiler_expression_parts::proofs::Nothing::not_named), unfolding(template_compiler_tokens::specs::Steps::and_then, template_compiler_grammar::specs::Reader::argument_by, template_compiler_grammar::specs::Reader::named_argument))]
 fn argument<'source>(
     alloc: Global,
     tokens: &mut TokenStream<'source>,

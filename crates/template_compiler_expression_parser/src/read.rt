@@ -1,9 +1,9 @@
 //! What the parser of statements reads of expressions. Each function takes the nesting levels that are left, and takes the
 //! tokens of what it reads off the stream. Where it refuses, nothing is said of the tokens that are left.
 ghost use Rattle.template_compiler_expression_parts.specs.Parsed.{Parsed, ParsedAs, ParsedOptional};
-ghost use Rattle.template_compiler_placed_grammar.specs.Reader.{expression_at, condition_at, filter_at, filter_chain_at};
-ghost use Rattle.template_compiler_placed_grammar.specs.TreeReader as trees;
-ghost use Rattle.template_compiler_placed_grammar.specs.Views.{optional_node_in};
+ghost use Rattle.template_compiler_grammar.specs.Reader.{expression_at, condition_at, filter_at, filter_chain_at};
+ghost use Rattle.template_compiler_grammar.specs.TreeReader as trees;
+ghost use Rattle.template_compiler_grammar.specs.Views.{optional_node_in};
 ghost use Rattle.template_tree.specs.View.{expression_of, optional_in};
 ghost use Rattle.std.specs.Prelude.{◌≡◌};
 
@@ -17,7 +17,7 @@ use template_tree::Expr;
 /// # Errors
 ///
 /// The fault of the token that does not fit, or want of memory.
-#[tactic(auto, unfolding(template_compiler_placed_grammar::specs::Reader::expression_at))]
+#[tactic(auto, unfolding(template_compiler_grammar::specs::Reader::expression_at))]
 pub fn read_expression<'source>(
     alloc: Global,
     tokens: &mut TokenStream<'source>,
@@ -35,7 +35,7 @@ pub fn read_expression<'source>(
 /// # Errors
 ///
 /// The fault of the token that does not fit, or want of memory.
-#[tactic(auto, unfolding(template_compiler_placed_grammar::specs::Reader::condition_at))]
+#[tactic(auto, unfolding(template_compiler_grammar::specs::Reader::condition_at))]
 pub fn read_condition<'source>(
     alloc: Global,
     tokens: &mut TokenStream<'source>,
@@ -53,7 +53,7 @@ pub fn read_condition<'source>(
 /// # Errors
 ///
 /// The fault of the token that does not fit, or want of memory.
-#[tactic(auto, unfolding(template_compiler_placed_grammar::specs::Reader::filter_at))]
+#[tactic(auto, unfolding(template_compiler_grammar::specs::Reader::filter_at))]
 pub fn read_filter<'source>(
     alloc: Global,
     tokens: &mut TokenStream<'source>,
@@ -87,7 +87,7 @@ pub fn read_filter_chain<'source>(
     chain(alloc, tokens, left, value)
 }
 
-#[tactic(auto, using(crate::proofs::Chains::chain_more, crate::proofs::Chains::chain_falls, crate::proofs::Chains::chain_ends, crate::proofs::Chains::chain_fails_at), unfolding(template_compiler_placed_grammar::specs::Reader::filter_chain_at, template_compiler_placed_grammar::specs::Reader::filter_chain_by))]
+#[tactic(auto, using(crate::proofs::Chains::chain_more, crate::proofs::Chains::chain_falls, crate::proofs::Chains::chain_ends, crate::proofs::Chains::chain_fails_at), unfolding(template_compiler_grammar::specs::Reader::filter_chain_at, template_compiler_grammar::specs::Reader::filter_chain_by))]
 fn chain<'source>(
     alloc: Global,
     tokens: &mut TokenStream<'source>,

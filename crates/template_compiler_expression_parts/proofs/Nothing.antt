@@ -6,8 +6,8 @@ use Rattle.template_compiler_tokens.specs.Token.{Token, TokenFault, symbol, iden
 use Rattle.template_compiler_tokens.specs.Steps.{Read, fault, and_then, goes, fails}
 use Rattle.template_compiler_grammar.specs.ReaderParts.{paren_end, bracket_end, brace_end, colon_end, begins_closing, separated}
 use Rattle.template_tree.specs.declared.span.Span.{Span}
-use Rattle.template_compiler_placed_grammar.specs.Nodes.{placed, Node, node, no_node, given_node, PlacedArguments, no_placed_arguments, PlacedWritten}
-use Rattle.template_compiler_placed_grammar.specs.Reader.{Deeper, nothing_deeper, few_arguments, primary_by, optional_arguments_by, paren_behind, paren_by, step_by, item_by, subscript_behind, named_argument, argument_by, through_next}
+use Rattle.template_compiler_grammar.specs.Nodes.{placed, Node, node, no_node, given_node, PlacedArguments, no_placed_arguments, PlacedWritten}
+use Rattle.template_compiler_grammar.specs.Reader.{Deeper, nothing_deeper, few_arguments, primary_by, optional_arguments_by, paren_behind, paren_by, step_by, item_by, subscript_behind, named_argument, argument_by, through_next}
 use Rattle.template_compiler_stream.specs.declared.refusal.Refusal.{Refusal}
 use Rattle.template_compiler_stream.specs.Signs.{begins_symbol}
 use Rattle.template_compiler_stream.specs.Skips.{begins_keyword}

@@ -6,11 +6,11 @@ use Rattle.template_compiler_tokens.specs.Token.{Token, bad_syntax}
 use Rattle.template_tree.specs.declared.span.Span.{Span}
 use Rattle.template_tree.specs.NodePlaces.{at, parts_more}
 use Rattle.template_tree.specs.ExpressionPlaces.{places_of, places_in, places_of_argument, places_in_arguments, places_in_links}
-use Rattle.template_compiler_placed_grammar.specs.DerivedNodes.{and_place}
-use Rattle.template_compiler_placed_grammar.specs.Nodes.{placed, placed_in_order, Node, node, compared_node, PlacedWritten}
-use Rattle.template_compiler_placed_grammar.specs.Reader.{few_arguments}
-use Rattle.template_compiler_placed_grammar.specs.Views.{node_of, placed_arguments_in, placed_links_in}
-use Rattle.template_compiler_placed_grammar.proofs.Pushes.{placed_arguments_append}
+use Rattle.template_compiler_grammar.specs.DerivedNodes.{and_place}
+use Rattle.template_compiler_grammar.specs.Nodes.{placed, placed_in_order, Node, node, compared_node, PlacedWritten}
+use Rattle.template_compiler_grammar.specs.Reader.{few_arguments}
+use Rattle.template_compiler_grammar.specs.Views.{node_of, placed_arguments_in, placed_links_in}
+use Rattle.template_compiler_grammar.proofs.Pushes.{placed_arguments_append}
 use Rattle.template_tree.specs.Tree.{expressions_more, links_more, chain, arguments_more}
 use Rattle.template_tree.specs.View.{expression_of, expressions_in, links_in, argument_of, arguments_in}
 use Rattle.template_tree.specs.declared.calls.CallArg.{CallArg}

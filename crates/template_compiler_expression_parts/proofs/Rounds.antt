@@ -14,9 +14,9 @@ use Rattle.template_compiler_stream.specs.declared.refusal.Refusal.TheVariants a
 use Rattle.template_compiler_stream.specs.Refusals.{Refused, fault_of}
 use Rattle.template_tree.specs.declared.span.Span.{Span}
 use Rattle.template_compiler_tokens.specs.Places.{next_span}
-use Rattle.template_compiler_placed_grammar.specs.Nodes.{placed, Node, node, OptionalNode, given_node, binary_node}
-use Rattle.template_compiler_placed_grammar.specs.Reader.{Deeper, dot_part, operand_behind, operand_step, part_step, is_by, test_by, filter_by, filter_step, chain_step, up_to}
-use Rattle.template_compiler_placed_grammar.specs.Views.{node_of}
+use Rattle.template_compiler_grammar.specs.Nodes.{placed, Node, node, OptionalNode, given_node, binary_node}
+use Rattle.template_compiler_grammar.specs.Reader.{Deeper, dot_part, operand_behind, operand_step, part_step, is_by, test_by, filter_by, filter_step, chain_step, up_to}
+use Rattle.template_compiler_grammar.specs.Views.{node_of}
 use Rattle.template_tree.specs.View.{expression_of}
 use Rattle.template_tree.specs.ExpressionPlaces.{places_of}
 use Rattle.template_tree.specs.NodePlaces.{Places, at, parts_more, one}

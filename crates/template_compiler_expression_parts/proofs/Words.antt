@@ -8,8 +8,8 @@ use Rattle.template_tree.specs.declared.expressions.Expr.{Expr}
 use Rattle.template_tree.specs.NodePlaces.{no_parts}
 use Rattle.template_compiler_tokens.specs.Places.{next_span}
 use Rattle.template_compiler_grammar.specs.ReaderParts.{word_tree}
-use Rattle.template_compiler_placed_grammar.specs.Nodes.{node}
-use Rattle.template_compiler_placed_grammar.specs.Reader.{nothing_deeper, primary_by}
+use Rattle.template_compiler_grammar.specs.Nodes.{node}
+use Rattle.template_compiler_grammar.specs.Reader.{nothing_deeper, primary_by}
 use Rattle.template_compiler_grammar.specs.Words.{literal_word}
 use Rattle.template_compiler_stream.specs.Left.{passed}
 use Rattle.template_compiler_stream.specs.Signs.{next_word}

@@ -11,9 +11,9 @@ use Rattle.template_values_model.specs.Val.{int, text}
 use Rattle.template_compiler_tokens.specs.Steps.{Read, fault, and_then, Step, goes, stops, fails, all}
 use Rattle.template_compiler_grammar.specs.Words.{literal_word}
 use Rattle.template_compiler_grammar.specs.ReaderParts.{text_step, word_tree}
-use Rattle.template_compiler_placed_grammar.specs.Nodes.{placed, Node, node, OptionalNode, PlacedPairs, PlacedArgument, PlacedWritten}
-use Rattle.template_compiler_placed_grammar.specs.Reader.{up_to}
-use Rattle.template_compiler_placed_grammar.specs.Views.{node_of, optional_node_in}
+use Rattle.template_compiler_grammar.specs.Nodes.{placed, Node, node, OptionalNode, PlacedPairs, PlacedArgument, PlacedWritten}
+use Rattle.template_compiler_grammar.specs.Reader.{up_to}
+use Rattle.template_compiler_grammar.specs.Views.{node_of, optional_node_in}
 use Rattle.template_compiler_stream.specs.Refusals.{Refused, fault_of}
 use Rattle.template_compiler_expression_parts.specs.declared.behind.Behind.{Behind}
 use Rattle.template_compiler_expression_parts.specs.declared.behind.Behind.TheVariants.{Goes, Stops}

@@ -1,7 +1,7 @@
 //! What repetitions put together.
 ghost use Rattle.std.specs.Prelude.{◌≡◌, IfOk, [], ◌∷◌, ◌++◌};
-ghost use Rattle.template_compiler_placed_grammar.specs.Nodes.{and_placed_pair, and_placed_written};
-ghost use Rattle.template_compiler_placed_grammar.specs.Views.{node_of, placed_argument_of};
+ghost use Rattle.template_compiler_grammar.specs.Nodes.{and_placed_pair, and_placed_written};
+ghost use Rattle.template_compiler_grammar.specs.Views.{node_of, placed_argument_of};
 ghost use Rattle.template_compiler_expression_parts.specs.Parsed.{paired_in, written_in};
 
 use std::alloc::AllocError;

@@ -2,8 +2,8 @@
 ghost use Rattle.std.specs.Prelude.{◌≡◌, true, List};
 ghost use Rattle.template_compiler_expression_parts.specs.Parsed.{IsDeeper, Parsed, ParsedAs, Separated, written_in};
 ghost use Rattle.template_compiler_grammar.specs.ReaderParts.{brace_end, bracket_end, colon_end, paren_end, separated};
-ghost use Rattle.template_compiler_placed_grammar.specs.Reader.{few_arguments};
-ghost use Rattle.template_compiler_placed_grammar.specs.Views.{node_of, placed_arguments_in};
+ghost use Rattle.template_compiler_grammar.specs.Reader.{few_arguments};
+ghost use Rattle.template_compiler_grammar.specs.Views.{node_of, placed_arguments_in};
 ghost use Rattle.template_tree.specs.declared.span.Span.{Span};
 ghost use Rattle.template_compiler_tokens.specs.Steps.{and_then};
 ghost use Rattle.template_compiler_tokens.specs.Token.{Token};

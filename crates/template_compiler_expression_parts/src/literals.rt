@@ -4,9 +4,9 @@ ghost use Rattle.std.specs.Cow.{cow_str_bytes};
 ghost use Rattle.template_compiler_expression_parts.specs.Parsed.{Parsed, ParsedAs, WentOn, dotted_by, literal_at};
 ghost use Rattle.template_compiler_stream.specs.declared.refusal.Refusal.TheVariants as refusals;
 ghost use Rattle.template_compiler_grammar.specs.ReaderParts.{dotted_step, name_of, text_step, word_tree};
-ghost use Rattle.template_compiler_placed_grammar.specs.Nodes.{node};
-ghost use Rattle.template_compiler_placed_grammar.specs.Reader.{dot_part, nothing_deeper, primary_by, up_to};
-ghost use Rattle.template_compiler_placed_grammar.specs.Views.{node_of};
+ghost use Rattle.template_compiler_grammar.specs.Nodes.{node};
+ghost use Rattle.template_compiler_grammar.specs.Reader.{dot_part, nothing_deeper, primary_by, up_to};
+ghost use Rattle.template_compiler_grammar.specs.Views.{node_of};
 ghost use Rattle.template_tree.specs.ExpressionPlaces.{places_of};
 ghost use Rattle.template_tree.specs.NodePlaces.{at, no_parts, one, parts_more};
 ghost use Rattle.template_compiler_grammar.specs.Trees.{dotted};
@@ -83,7 +83,7 @@ fn parts(tokens: &mut TokenStream, name: String) -> Result<String, AllocError>
 /// # Errors
 ///
 /// The fault of the token that is none of these, or want of memory.
-#[tactic(auto, unfolding(template_compiler_placed_grammar::specs::Reader::primary_by))]
+#[tactic(auto, unfolding(template_compiler_grammar::specs::Reader::primary_by))]
 #[inline(always)]
 pub fn literal<'source>(
     alloc: Global,
@@ -106,7 +106,7 @@ pub fn literal<'source>(
 }
 
 // A large number, or adjacent texts.
-#[tactic(auto, unfolding(template_compiler_placed_grammar::specs::Reader::primary_by))]
+#[tactic(auto, unfolding(template_compiler_grammar::specs::Reader::primary_by))]
 #[inline(never)]
 fn other_literal<'source>(
     alloc: Global,
@@ -233,7 +233,7 @@ fn adjacent(tokens: &mut TokenStream, first: String) -> Result<String, AllocErro
 /// # Errors
 ///
 /// The fault of the token that is neither a name nor a number, or want of memory.
-#[tactic(auto, unfolding(template_compiler_placed_grammar::specs::Reader::dot_part))]
+#[tactic(auto, unfolding(template_compiler_grammar::specs::Reader::dot_part))]
 pub fn attribute<'source>(
     alloc: Global,
     tokens: &mut TokenStream<'source>,

@@ -1,8 +1,8 @@
 //! The trees of comparisons and of tests.
 ghost use Rattle.std.specs.Prelude.{◌≡◌, [], ◌∷◌, IfOk};
 ghost use Rattle.std.specs.Cow.{cow_str_bytes};
-ghost use Rattle.template_compiler_placed_grammar.specs.Nodes.{compared_node, tested_node};
-ghost use Rattle.template_compiler_placed_grammar.specs.Views.{node_of, placed_arguments_in, placed_links_in};
+ghost use Rattle.template_compiler_grammar.specs.Nodes.{compared_node, tested_node};
+ghost use Rattle.template_compiler_grammar.specs.Views.{node_of, placed_arguments_in, placed_links_in};
 
 use std::alloc::{AllocError, Global};
 use std::borrow::CowStr;

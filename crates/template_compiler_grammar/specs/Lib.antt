@@ -7,3 +7,14 @@ pub mod TemplateWords
 pub mod TemplateTrees
 pub mod TemplateGrammar
 pub mod TemplateReaderParts
+pub mod Nodes
+pub mod Reader
+pub mod TemplateNodes
+pub mod TemplateReader
+pub mod TreeReader
+pub mod TreeStatements
+pub mod Views
+pub mod DerivedNodes
+pub mod DerivedExpressions
+pub mod DerivedParts
+pub mod DerivedStatements

@@ -1,5 +1,5 @@
 -- Parts of the reader that need no places: names and texts, what must stand behind something, and where lists end. The reader
--- itself stands in `template_compiler_placed_grammar`.
+-- itself stands in `template_compiler_grammar`.
 use Rattle.std.specs.Prelude.{ℕ, Bool, true, false, if◌then◌else◌, List, [], ◌∷◌, ◌++◌, Option, None, Some, Ok, Err}
 use Rattle.template_values_model.specs.Val.{Val}
 use Rattle.template_tree.specs.Tree.{Expression, variable, constant}

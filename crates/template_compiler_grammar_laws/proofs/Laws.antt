@@ -4,11 +4,11 @@ use Rattle.template_tree.specs.Tree.{Expression}
 use Rattle.template_compiler_tokens.specs.Token.{Token}
 use Rattle.template_compiler_grammar.specs.Ends.{Ends}
 use Rattle.template_compiler_tokens.specs.Steps.{Read}
-use Rattle.template_compiler_placed_grammar.specs.TreeReader.{expression_at}
+use Rattle.template_compiler_grammar.specs.TreeReader.{expression_at}
 use Rattle.template_compiler_grammar.specs.Grammar.{IsExpression}
 use Rattle.template_compiler_tokens.proofs.Readings.{ok_tree, ok_rest}
-use Rattle.template_compiler_placed_grammar.proofs.Laws.{tree_complete}
-use Rattle.template_compiler_placed_grammar.proofs.Sound.{expression_sound}
+use Rattle.template_compiler_grammar.proofs.Laws.{tree_complete}
+use Rattle.template_compiler_grammar.proofs.Sound.{expression_sound}
 
 pub one_expression : (d : ℕ) (ts us vs : List Token) (e f : Expression) →
     IsExpression d ts e us → Ends us → IsExpression d ts f vs → Ends vs → (e ≡ f) × (us ≡ vs)

@@ -3,9 +3,9 @@ use Rattle.std.proofs.Common.{◌≡◌, ◌⊎◌, inl, inr, List, Result, Ok, 
 use Rattle.template_tree.specs.Tree.{Statements}
 use Rattle.template_compiler_tokens.specs.Token.{Token, TokenFault}
 use Rattle.template_compiler_grammar.specs.TemplateGrammar.{IsTemplate}
-use Rattle.template_compiler_placed_grammar.specs.TreeReader.{template_of}
-use Rattle.template_compiler_placed_grammar.proofs.TemplateLaws.{tree_complete}
-use Rattle.template_compiler_placed_grammar.proofs.TemplatesSound.{template_sound}
+use Rattle.template_compiler_grammar.specs.TreeReader.{template_of}
+use Rattle.template_compiler_grammar.proofs.TemplateLaws.{tree_complete}
+use Rattle.template_compiler_grammar.proofs.TemplatesSound.{template_sound}
 
 pub one_template : (ts : List Token) (ss us : Statements) → IsTemplate ts ss → IsTemplate ts us → ss ≡ us
 one_template ts ss us x y = let same = sym (tree_complete ts ss x) ∙ tree_complete ts us y in cc

@@ -4,7 +4,7 @@
 ghost use Rattle.std.specs.Prelude.{◌≡◌, ℕ, ◌⊎◌, List, [], Ok, Err};
 ghost use Rattle.template_compiler_grammar.specs.Ends.{Ends};
 ghost use Rattle.template_compiler_grammar.specs.Grammar.{IsExpression};
-ghost use Rattle.template_compiler_placed_grammar.specs.TreeReader.{expression_at};
+ghost use Rattle.template_compiler_grammar.specs.TreeReader.{expression_at};
 ghost use Rattle.template_compiler_tokens.specs.Blame.{Blamed};
 ghost use Rattle.template_compiler_tokens.specs.Token.{Token, TokenFault};
 ghost use Rattle.template_tree.specs.Tree.{Expression};

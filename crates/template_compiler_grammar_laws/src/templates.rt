@@ -3,7 +3,7 @@
 ghost use Rattle.std.specs.Prelude.{◌≡◌, ◌⊎◌, List, Ok, Err};
 ghost use Rattle.template_compiler_tokens.specs.Blame.{Blamed};
 ghost use Rattle.template_compiler_grammar.specs.TemplateGrammar.{IsTemplate};
-ghost use Rattle.template_compiler_placed_grammar.specs.TreeReader.{template_of};
+ghost use Rattle.template_compiler_grammar.specs.TreeReader.{template_of};
 ghost use Rattle.template_compiler_tokens.specs.Token.{Token, TokenFault};
 ghost use Rattle.template_tree.specs.Tree.{Statements};
 

@@ -8,7 +8,7 @@ use Rattle.template_compiler_syntax.proofs.Theorems.{one_tokens, some_tokens}
 use Rattle.template_compiler_source_tokens.specs.Scoped.{taken_words}
 use Rattle.template_compiler_source_tokens.specs.Spelled.{IsSpelled}
 use Rattle.template_compiler_source_tokens.proofs.Spelling.{one_spelled, some_spelled}
-use Rattle.template_compiler_placed_grammar.specs.TreeReader.{template_of}
+use Rattle.template_compiler_grammar.specs.TreeReader.{template_of}
 use Rattle.template_compiler_sources.specs.Source.{IsSource, IsFaulty, IsExpressionSource, IsFaultyExpression}
 use Rattle.template_compiler_sources.specs.Wholes.{expression_alone}
 use Rattle.template_compiler_sources.proofs.Sources.{faulty_expression, faulty_source, found_expression, found_source}

@@ -14,12 +14,12 @@ use Rattle.template_compiler_source_tokens.specs.Spelled.{IsSpelled, spelled_spa
 use Rattle.template_compiler_source_tokens.proofs.LeftOut.{words_taken}
 use Rattle.template_compiler_source_tokens.proofs.Spelling.{one_spelled, one_spelling}
 use Rattle.template_compiler_grammar.specs.TemplateGrammar.{IsTemplate}
-use Rattle.template_compiler_placed_grammar.specs.Nodes.{placed, Node}
-use Rattle.template_compiler_placed_grammar.specs.Reader.{expression_at}
-use Rattle.template_compiler_placed_grammar.specs.TemplateNodes.{PlacedStatement, PlacedTemplate}
-use Rattle.template_compiler_placed_grammar.specs.TemplateReader.{template_of}
-use Rattle.template_compiler_placed_grammar.proofs.Complete.{expression_complete}
-use Rattle.template_compiler_placed_grammar.proofs.TemplatesComplete.{template_complete}
+use Rattle.template_compiler_grammar.specs.Nodes.{placed, Node}
+use Rattle.template_compiler_grammar.specs.Reader.{expression_at}
+use Rattle.template_compiler_grammar.specs.TemplateNodes.{PlacedStatement, PlacedTemplate}
+use Rattle.template_compiler_grammar.specs.TemplateReader.{template_of}
+use Rattle.template_compiler_grammar.proofs.Complete.{expression_complete}
+use Rattle.template_compiler_grammar.proofs.TemplatesComplete.{template_complete}
 use Rattle.template_compiler_sources.specs.Source.{IsSource, source_of, IsPlacedSource, placed_source, IsExpressionSource, expression_source, IsPlacedExpressionSource, placed_expression_source}
 
 template_or : PlacedTemplate → Result PlacedTemplate TokenFault → PlacedTemplate

@@ -11,18 +11,18 @@ use Rattle.template_compiler_tokens.specs.View.{token_of}
 use Rattle.template_compiler_tokens.specs.declared.token.Token.{Token as Scanned}
 use Rattle.template_compiler_stream.specs.Refusals.{fault_of}
 use Rattle.template_compiler_stream.specs.declared.refusal.Fault.{Fault}
-use Rattle.template_compiler_placed_grammar.specs.Nodes.{bare}
-use Rattle.template_compiler_placed_grammar.specs.Reader.{binary_by, binary_of, comparison_by, expression_by, filtered_by, negation_by, operand_by, power_by, primary_by, terms_by, unary_by}
-use Rattle.template_compiler_placed_grammar.specs.Reader as reader
-use Rattle.template_compiler_placed_grammar.specs.TemplateNodes.{bare_template}
-use Rattle.template_compiler_placed_grammar.specs.TemplateReader.{statement_step, statements_at, statements_by, template_behind}
-use Rattle.template_compiler_placed_grammar.specs.TreeReader.{expression_at, template_of}
-use Rattle.template_compiler_placed_grammar.specs.TemplateReader as placed_reader
+use Rattle.template_compiler_grammar.specs.Nodes.{bare}
+use Rattle.template_compiler_grammar.specs.Reader.{binary_by, binary_of, comparison_by, expression_by, filtered_by, negation_by, operand_by, power_by, primary_by, terms_by, unary_by}
+use Rattle.template_compiler_grammar.specs.Reader as reader
+use Rattle.template_compiler_grammar.specs.TemplateNodes.{bare_template}
+use Rattle.template_compiler_grammar.specs.TemplateReader.{statement_step, statements_at, statements_by, template_behind}
+use Rattle.template_compiler_grammar.specs.TreeReader.{expression_at, template_of}
+use Rattle.template_compiler_grammar.specs.TemplateReader as placed_reader
 use Rattle.template_compiler_sources.specs.Ends.{ReadsTo}
 use Rattle.template_compiler_sources.specs.Wholes.{ParsedTemplate, expression_alone}
 use Rattle.template_compiler_sources.specs.declared.prefixes.Text.{Text}
 use Rattle.template_compiler_sources.specs.declared.prefixes.Text.TheVariants as texts
-use Rattle.template_compiler_placed_grammar.proofs.TemplateLaws.{read_bare}
+use Rattle.template_compiler_grammar.proofs.TemplateLaws.{read_bare}
 use Rattle.template_compiler_sources.proofs.Sources.{fails_bare}
 
 -- whether a reader came to the mark

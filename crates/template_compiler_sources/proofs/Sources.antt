@@ -23,16 +23,16 @@ use Rattle.template_compiler_syntax.specs.Syntax.{Syntax, IsUsable}
 use Rattle.template_compiler_syntax.specs.Flat.{IsTokens}
 use Rattle.template_compiler_syntax.proofs.Theorems.{one_tokens}
 use Rattle.template_compiler_grammar.specs.TemplateGrammar.{Around, nothing_around}
-use Rattle.template_compiler_placed_grammar.specs.Nodes.{placed, Node}
-use Rattle.template_compiler_placed_grammar.specs.Reader as reader
-use Rattle.template_compiler_placed_grammar.specs.TemplateNodes.{PlacedStatement, PlacedStatements, PlacedTemplate, bare_template}
-use Rattle.template_compiler_placed_grammar.specs.TemplateReader as placed_reader
-use Rattle.template_compiler_placed_grammar.specs.Views.{statement_node_of}
-use Rattle.template_compiler_placed_grammar.specs.TreeReader.{expression_at, template_of}
-use Rattle.template_compiler_placed_grammar.proofs.Laws.{expression_sound_placed, tree_complete as expression_complete}
-use Rattle.template_compiler_placed_grammar.proofs.Sound.{expression_sound}
-use Rattle.template_compiler_placed_grammar.proofs.TemplateLaws.{template_sound_placed, tree_complete as template_complete, read_bare}
-use Rattle.template_compiler_placed_grammar.proofs.TemplatesSound.{template_erased, template_sound}
+use Rattle.template_compiler_grammar.specs.Nodes.{placed, Node}
+use Rattle.template_compiler_grammar.specs.Reader as reader
+use Rattle.template_compiler_grammar.specs.TemplateNodes.{PlacedStatement, PlacedStatements, PlacedTemplate, bare_template}
+use Rattle.template_compiler_grammar.specs.TemplateReader as placed_reader
+use Rattle.template_compiler_grammar.specs.Views.{statement_node_of}
+use Rattle.template_compiler_grammar.specs.TreeReader.{expression_at, template_of}
+use Rattle.template_compiler_grammar.proofs.Laws.{expression_sound_placed, tree_complete as expression_complete}
+use Rattle.template_compiler_grammar.proofs.Sound.{expression_sound}
+use Rattle.template_compiler_grammar.proofs.TemplateLaws.{template_sound_placed, tree_complete as template_complete, read_bare}
+use Rattle.template_compiler_grammar.proofs.TemplatesSound.{template_erased, template_sound}
 use Rattle.template_compiler_stream.specs.Spans.{PlacedTokens}
 use Rattle.template_compiler_tokenizer.specs.Spans.{Spanned as PlacedToken, HasSpans, words_in}
 use Rattle.template_compiler_grammar.specs.TemplateTrees.{are_distinct, blocks_among}

@@ -6,7 +6,7 @@ use Rattle.template_compiler_syntax.specs.Syntax.{Syntax}
 use Rattle.template_compiler_syntax.specs.Flat.{IsTokens}
 use Rattle.template_compiler_source_tokens.specs.Scoped.{taken_words}
 use Rattle.template_compiler_source_tokens.specs.Spelled.{IsSpelled}
-use Rattle.template_compiler_placed_grammar.specs.TreeReader.{template_of}
+use Rattle.template_compiler_grammar.specs.TreeReader.{template_of}
 use Rattle.template_compiler_sources.specs.Wholes.{expression_alone}
 use Rattle.template_compiler_sources.specs.declared.prefixes.Text.{Text}
 use Rattle.template_compiler_sources.specs.declared.prefixes.Text.TheVariants as texts

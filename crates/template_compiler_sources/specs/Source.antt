@@ -13,11 +13,11 @@ use Rattle.template_compiler_source_tokens.specs.Spans.{token_spans}
 use Rattle.template_compiler_source_tokens.specs.Spelled.{IsSpelled, spelled_spans}
 use Rattle.template_compiler_grammar.specs.Grammar.{IsExpression}
 use Rattle.template_compiler_grammar.specs.TemplateGrammar.{IsTemplate}
-use Rattle.template_compiler_placed_grammar.specs.TreeReader.{template_of}
-use Rattle.template_compiler_placed_grammar.specs.DerivedExpressions.{expression_places}
-use Rattle.template_compiler_placed_grammar.specs.DerivedStatements.{template_places}
-use Rattle.template_compiler_placed_grammar.specs.Nodes.{placed, Node}
-use Rattle.template_compiler_placed_grammar.specs.TemplateNodes.{PlacedStatement}
+use Rattle.template_compiler_grammar.specs.TreeReader.{template_of}
+use Rattle.template_compiler_grammar.specs.DerivedExpressions.{expression_places}
+use Rattle.template_compiler_grammar.specs.DerivedStatements.{template_places}
+use Rattle.template_compiler_grammar.specs.Nodes.{placed, Node}
+use Rattle.template_compiler_grammar.specs.TemplateNodes.{PlacedStatement}
 use Rattle.template_compiler_sources.specs.Wholes.{expression_alone}
 
 -- the source's tokens are the template's statements, where the syntax has it without the word `scoped` behind a block's name

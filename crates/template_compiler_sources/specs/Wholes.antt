@@ -11,11 +11,11 @@ use Rattle.template_tree_statements.specs.declared.statements.Template.{Template
 use Rattle.template_tree_statements.specs.declared.statements.Stmt.{Stmt, Template as Whole}
 use Rattle.template_compiler_tokens.specs.Token.{Token, TokenFault}
 use Rattle.template_compiler_tokens.specs.Steps.{Read, fault}
-use Rattle.template_compiler_placed_grammar.specs.TreeReader.{expression_at}
-use Rattle.template_compiler_placed_grammar.specs.Nodes.{placed}
-use Rattle.template_compiler_placed_grammar.specs.TemplateNodes.{PlacedTemplate}
-use Rattle.template_compiler_placed_grammar.specs.TreeStatements.{places_of_statements}
-use Rattle.template_compiler_placed_grammar.specs.Views.{statement_node_of}
+use Rattle.template_compiler_grammar.specs.TreeReader.{expression_at}
+use Rattle.template_compiler_grammar.specs.Nodes.{placed}
+use Rattle.template_compiler_grammar.specs.TemplateNodes.{PlacedTemplate}
+use Rattle.template_compiler_grammar.specs.TreeStatements.{places_of_statements}
+use Rattle.template_compiler_grammar.specs.Views.{statement_node_of}
 use Rattle.template_compiler_stream.specs.Refusals.{fault_of}
 use Rattle.template_compiler_stream.specs.declared.refusal.Refusal.{Refusal}
 use Rattle.template_compiler_stream.specs.declared.refusal.Refusal.TheVariants as refusals

@@ -2,8 +2,8 @@
 ghost use Rattle.std.specs.Prelude.{◌≡◌, ◌≤◌, ◌^◌, [], length, IfOk, IfErr, IsErrAnd, Ok};
 ghost use Rattle.template_compiler_sources.specs.Source.{IsAlone, IsExpressionSource, IsPlacedExpressionSource, RefusesExpression};
 ghost use Rattle.template_compiler_sources.specs.Wholes.{ParsedExpression, expression_alone};
-ghost use Rattle.template_compiler_placed_grammar.specs.Reader.{expression_at};
-ghost use Rattle.template_compiler_placed_grammar.specs.Views.{node_of};
+ghost use Rattle.template_compiler_grammar.specs.Reader.{expression_at};
+ghost use Rattle.template_compiler_grammar.specs.Views.{node_of};
 ghost use Rattle.template_tree.specs.View.{expression_of};
 ghost use Rattle.template_values_errors.specs.declared.ErrorKind.TheVariants.{TooLarge};
 

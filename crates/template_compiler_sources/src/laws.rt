@@ -1,7 +1,7 @@
 //! What the definitions of a source's tree with its places, and of its fault, give.
 ghost use Rattle.std.specs.Prelude.{◌≡◌, ℕ, List};
-ghost use Rattle.template_compiler_placed_grammar.specs.Nodes.{placed, Node};
-ghost use Rattle.template_compiler_placed_grammar.specs.TemplateNodes.{PlacedStatement};
+ghost use Rattle.template_compiler_grammar.specs.Nodes.{placed, Node};
+ghost use Rattle.template_compiler_grammar.specs.TemplateNodes.{PlacedStatement};
 ghost use Rattle.template_compiler_sources.specs.Source.{IsExpressionSource, IsFaulty, IsFaultyExpression, IsPlacedExpressionSource, IsPlacedSource, IsSource};
 ghost use Rattle.template_compiler_syntax.specs.Syntax.{Syntax, IsUsable};
 ghost use Rattle.template_compiler_tokens.specs.Token.{TokenFault};

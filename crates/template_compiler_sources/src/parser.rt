@@ -20,7 +20,7 @@ pub struct Parser<'source> {
 
 impl<'source> Parser<'source> {
     ghost use Rattle.std.specs.Prelude.{◌≡◌, ◌∷◌, [], None, IfOk, IfErr, IsOk, MatchOption, Err};
-    ghost use Rattle.template_compiler_placed_grammar.specs.Views.{node_of, statement_node_of};
+    ghost use Rattle.template_compiler_grammar.specs.Views.{node_of, statement_node_of};
     ghost use Rattle.template_tree.specs.View.{expression_of};
     ghost use Rattle.template_tree_statements.specs.View.{statement_of};
     ghost use Rattle.template_compiler_sources.specs.Source.{IsExpressionSource, IsPlacedExpressionSource, IsPlacedSource, IsSource, RefusesExpression, RefusesSource};

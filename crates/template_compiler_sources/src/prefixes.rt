@@ -1,6 +1,6 @@
 //! Readings of the first tokens of a source, for as many of them as it takes to find the one that a reading ends at.
 ghost use Rattle.std.specs.Prelude.{◌≡◌, ◌≤◌, ◌↔◌, List, Err, IfOk, IsTrue, length, map, min, take};
-ghost use Rattle.template_compiler_placed_grammar.specs.TreeReader.{template_of};
+ghost use Rattle.template_compiler_grammar.specs.TreeReader.{template_of};
 ghost use Rattle.template_compiler_sources.specs.Ends.{HasTokens, Reaches, ReadsTo};
 ghost use Rattle.template_compiler_sources.specs.Wholes.{expression_alone};
 ghost use Rattle.template_compiler_syntax.specs.Flat.{IsTokens};

@@ -3,8 +3,8 @@ ghost use Rattle.std.specs.Prelude.{◌≡◌, ◌≤◌, ◌^◌, length, IfOk,
 ghost use Rattle.template_compiler_sources.specs.Source.{IsAlone, IsPlacedSource, IsSource, RefusesSource};
 ghost use Rattle.template_values_errors.specs.declared.ErrorKind.TheVariants.{TooLarge};
 ghost use Rattle.template_compiler_sources.specs.Wholes.{ParsedTemplate};
-ghost use Rattle.template_compiler_placed_grammar.specs.TemplateReader.{template_of};
-ghost use Rattle.template_compiler_placed_grammar.specs.Views.{statement_node_of};
+ghost use Rattle.template_compiler_grammar.specs.TemplateReader.{template_of};
+ghost use Rattle.template_compiler_grammar.specs.Views.{statement_node_of};
 ghost use Rattle.template_tree_statements.specs.View.{statement_of};
 
 use crate::prefixes::Text;

@@ -1,6 +1,6 @@
 //! The statements of a whole template.
 ghost use Rattle.std.specs.Prelude.{◌≡◌, [], IfOk};
-ghost use Rattle.template_compiler_placed_grammar.specs.TemplateReader.{template_of};
+ghost use Rattle.template_compiler_grammar.specs.TemplateReader.{template_of};
 ghost use Rattle.template_compiler_sources.specs.Wholes.{ParsedWhole};
 ghost use Rattle.template_compiler_tokens.specs.Places.{stretch};
 
@@ -16,7 +16,7 @@ use template_tree_statements::Stmt;
 pub(crate) const MAX_DEPTH: u32 = 150;
 
 // Reads all tokens as the statements of a template.
-#[tactic(auto, unfolding(template_compiler_placed_grammar::specs::TemplateReader::template_of, template_compiler_placed_grammar::specs::TemplateReader::template_behind))]
+#[tactic(auto, unfolding(template_compiler_grammar::specs::TemplateReader::template_of, template_compiler_grammar::specs::TemplateReader::template_behind))]
 pub(crate) fn read_template<'source>(
     alloc: Global,
     tokens: &mut TokenStream<'source>,

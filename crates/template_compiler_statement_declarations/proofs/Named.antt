@@ -7,7 +7,7 @@ use Rattle.template_compiler_stream.specs.Signs.{begins_symbol, next_word}
 use Rattle.template_compiler_stream.specs.Skips.{SkipsSign}
 use Rattle.template_compiler_grammar.specs.TemplateWords.{is_reserved}
 use Rattle.template_compiler_grammar.specs.TemplateReaderParts.{tag_end, word_by}
-use Rattle.template_compiler_placed_grammar.specs.TemplateReader.{Here}
+use Rattle.template_compiler_grammar.specs.TemplateReader.{Here}
 use Rattle.template_compiler_statement_declarations.specs.Heads.{block_head, declared_head, macro_head}
 
 pub block_here : (in_macro : Bool) (n : List ℕ) (ts : List Token) → Some n ≡ next_word ts →

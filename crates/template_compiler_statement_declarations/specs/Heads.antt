@@ -15,11 +15,11 @@ use Rattle.template_compiler_grammar.specs.TemplateWords.{is_reserved}
 use Rattle.template_compiler_grammar.specs.TemplateTrees.{is_block_body}
 use Rattle.template_compiler_grammar.specs.TemplateGrammar.{Around, block_around}
 use Rattle.template_compiler_grammar.specs.TemplateReaderParts.{expect_assign, tag_end, begins_values, word_by, only_call, block_end_by}
-use Rattle.template_compiler_placed_grammar.specs.Nodes.{Node, OptionalNode, no_node}
-use Rattle.template_compiler_placed_grammar.specs.Reader.{up_to}
-use Rattle.template_compiler_placed_grammar.specs.TemplateNodes.{PlacedParameters, PlacedStatement, PlacedStatements, block_node, set_block_node}
-use Rattle.template_compiler_placed_grammar.specs.TemplateReader.{Here, target_by, more_targets_by, optional_parameters_by, set_values, body_by}
-use Rattle.template_compiler_placed_grammar.specs.Views.{statement_node_of}
+use Rattle.template_compiler_grammar.specs.Nodes.{Node, OptionalNode, no_node}
+use Rattle.template_compiler_grammar.specs.Reader.{up_to}
+use Rattle.template_compiler_grammar.specs.TemplateNodes.{PlacedParameters, PlacedStatement, PlacedStatements, block_node, set_block_node}
+use Rattle.template_compiler_grammar.specs.TemplateReader.{Here, target_by, more_targets_by, optional_parameters_by, set_values, body_by}
+use Rattle.template_compiler_grammar.specs.Views.{statement_node_of}
 use Rattle.template_compiler_statement_makers.specs.Begun.{set_block_of}
 use Rattle.template_compiler_statement_values.specs.Written.{placed_parameters_of}
 use Rattle.template_compiler_statement_declarations.specs.declared.blocks.BlockHead.{BlockHead}

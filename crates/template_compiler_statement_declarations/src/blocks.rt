@@ -4,7 +4,7 @@ ghost use Rattle.template_compiler_statement_declarations.specs.Heads.{block_hea
 ghost use Rattle.template_compiler_statement_makers.specs.Listed.{statement_nodes_in, statements_in};
 ghost use Rattle.template_compiler_statement_parts.specs.Parsed.{ParsedAs};
 ghost use Rattle.template_compiler_grammar.specs.TemplateTrees.{is_block_body};
-ghost use Rattle.template_compiler_placed_grammar.specs.Views.{statement_node_of};
+ghost use Rattle.template_compiler_grammar.specs.Views.{statement_node_of};
 ghost use Rattle.template_tree_statements.specs.declared.statements.Stmt.TheVariants as statements;
 
 use std::alloc::Global;

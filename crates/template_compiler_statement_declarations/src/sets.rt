@@ -3,8 +3,8 @@ ghost use Rattle.std.specs.Prelude.{◌≡◌};
 ghost use Rattle.template_compiler_statement_declarations.specs.Heads.{set_block_head, set_head, set_head_of, set_targets};
 ghost use Rattle.template_compiler_statement_makers.specs.Begun.{set_block_of};
 ghost use Rattle.template_compiler_statement_parts.specs.Parsed.{ParsedAs};
-ghost use Rattle.template_compiler_placed_grammar.specs.TemplateReader.{here, set_values};
-ghost use Rattle.template_compiler_placed_grammar.specs.Views.{node_of, statement_node_of};
+ghost use Rattle.template_compiler_grammar.specs.TemplateReader.{here, set_values};
+ghost use Rattle.template_compiler_grammar.specs.Views.{node_of, statement_node_of};
 ghost use Rattle.template_tree_statements.specs.declared.statements.Stmt.TheVariants as statements;
 
 use std::alloc::Global;
@@ -36,7 +36,7 @@ pub enum SetHead<'source> {
 /// # Errors
 ///
 /// The fault of the token that does not fit, or want of memory.
-#[tactic(auto, unfolding(template_compiler_tokens::specs::Steps::and_then, template_compiler_placed_grammar::specs::TemplateReader::here, template_compiler_placed_grammar::specs::TemplateReader::here_by))]
+#[tactic(auto, unfolding(template_compiler_tokens::specs::Steps::and_then, template_compiler_grammar::specs::TemplateReader::here, template_compiler_grammar::specs::TemplateReader::here_by))]
 pub fn read_set<'source, R: ReadsExpressions>(
     alloc: Global,
     tokens: &mut TokenStream<'source>,
@@ -56,7 +56,7 @@ pub fn read_set<'source, R: ReadsExpressions>(
 }
 
 // A `set` behind its first target, which begins at `start`: further targets, and the value behind `=`.
-#[tactic(auto, using(template_compiler_statement_parts::proofs::Again::assign_again), unfolding(template_compiler_tokens::specs::Steps::and_then, template_compiler_placed_grammar::specs::TemplateReader::here, template_compiler_placed_grammar::specs::TemplateReader::here_by))]
+#[tactic(auto, using(template_compiler_statement_parts::proofs::Again::assign_again), unfolding(template_compiler_tokens::specs::Steps::and_then, template_compiler_grammar::specs::TemplateReader::here, template_compiler_grammar::specs::TemplateReader::here_by))]
 fn read_set_targets<'source, R: ReadsExpressions>(
     alloc: Global,
     tokens: &mut TokenStream<'source>,
@@ -75,7 +75,7 @@ fn read_set_targets<'source, R: ReadsExpressions>(
     read_set_value::<R>(alloc, tokens, left, target, span)
 }
 
-#[tactic(auto, using(template_compiler_statement_parts::proofs::Again::tag_end_again), unfolding(template_compiler_tokens::specs::Steps::and_then, template_compiler_placed_grammar::specs::TemplateReader::here, template_compiler_placed_grammar::specs::TemplateReader::here_by, template_compiler_placed_grammar::specs::TemplateReader::set_values))]
+#[tactic(auto, using(template_compiler_statement_parts::proofs::Again::tag_end_again), unfolding(template_compiler_tokens::specs::Steps::and_then, template_compiler_grammar::specs::TemplateReader::here, template_compiler_grammar::specs::TemplateReader::here_by, template_compiler_grammar::specs::TemplateReader::set_values))]
 fn read_set_value<'source, R: ReadsExpressions>(
     alloc: Global,
     tokens: &mut TokenStream<'source>,
@@ -98,7 +98,7 @@ fn read_set_value<'source, R: ReadsExpressions>(
 }
 
 // The head of a set block, behind its target.
-#[tactic(auto, using(template_compiler_statement_parts::proofs::Again::tag_end_again), unfolding(template_compiler_tokens::specs::Steps::and_then, template_compiler_placed_grammar::specs::TemplateReader::here, template_compiler_placed_grammar::specs::TemplateReader::here_by))]
+#[tactic(auto, using(template_compiler_statement_parts::proofs::Again::tag_end_again), unfolding(template_compiler_tokens::specs::Steps::and_then, template_compiler_grammar::specs::TemplateReader::here, template_compiler_grammar::specs::TemplateReader::here_by))]
 fn read_set_block<'source, R: ReadsExpressions>(
     alloc: Global,
     tokens: &mut TokenStream<'source>,

@@ -6,8 +6,8 @@ use Rattle.template_tree.specs.declared.span.Span.{Span}
 use Rattle.template_compiler_tokens.specs.Steps.{Read, and_then}
 use Rattle.template_compiler_tokens.specs.Token.{Token, bad_syntax}
 use Rattle.template_compiler_grammar.specs.TemplateReaderParts.{tag_end}
-use Rattle.template_compiler_placed_grammar.specs.Reader.{up_to}
-use Rattle.template_compiler_placed_grammar.specs.TemplateNodes.{PlacedStatement, statement_node}
+use Rattle.template_compiler_grammar.specs.Reader.{up_to}
+use Rattle.template_compiler_grammar.specs.TemplateNodes.{PlacedStatement, statement_node}
 
 -- a statement that stands inside a loop alone, behind its word
 abbrev pub loop_end_by : List Span → Bool → Statement → Span → List Token → Read PlacedStatement

@@ -1,8 +1,8 @@
 //! Statements about other templates.
 ghost use Rattle.std.specs.Prelude.{◌≡◌};
 ghost use Rattle.template_compiler_statement_parts.specs.Parsed.{ParsedAs};
-ghost use Rattle.template_compiler_placed_grammar.specs.TemplateReader.{extends_by, from_by, here, import_statement_by, include_by};
-ghost use Rattle.template_compiler_placed_grammar.specs.Views.{statement_node_of};
+ghost use Rattle.template_compiler_grammar.specs.TemplateReader.{extends_by, from_by, here, import_statement_by, include_by};
+ghost use Rattle.template_compiler_grammar.specs.Views.{statement_node_of};
 ghost use Rattle.template_tree_statements.specs.declared.statements.Stmt.TheVariants as statements;
 
 use std::alloc::Global;
@@ -19,7 +19,7 @@ use template_tree_statements::{Extends, FromImport, Import, Include};
 /// # Errors
 ///
 /// The fault of the token that does not fit, or want of memory.
-#[tactic(auto, using(template_compiler_statement_parts::proofs::Again::tag_end_again, template_compiler_statement_parts::proofs::Again::word_again, template_compiler_statement_parts::proofs::Again::context_again), unfolding(template_compiler_tokens::specs::Steps::and_then, template_compiler_placed_grammar::specs::TemplateReader::here, template_compiler_placed_grammar::specs::TemplateReader::here_by, template_compiler_placed_grammar::specs::TemplateReader::import_statement_by))]
+#[tactic(auto, using(template_compiler_statement_parts::proofs::Again::tag_end_again, template_compiler_statement_parts::proofs::Again::word_again, template_compiler_statement_parts::proofs::Again::context_again), unfolding(template_compiler_tokens::specs::Steps::and_then, template_compiler_grammar::specs::TemplateReader::here, template_compiler_grammar::specs::TemplateReader::here_by, template_compiler_grammar::specs::TemplateReader::import_statement_by))]
 pub fn read_import<'source, R: ReadsExpressions>(
     alloc: Global,
     tokens: &mut TokenStream<'source>,
@@ -45,7 +45,7 @@ pub fn read_import<'source, R: ReadsExpressions>(
 /// # Errors
 ///
 /// The fault of the token that does not fit, or want of memory.
-#[tactic(auto, using(template_compiler_statement_parts::proofs::Again::tag_end_again, template_compiler_statement_parts::proofs::Again::word_again, template_compiler_statement_parts::proofs::Again::context_again), unfolding(template_compiler_tokens::specs::Steps::and_then, template_compiler_placed_grammar::specs::TemplateReader::here, template_compiler_placed_grammar::specs::TemplateReader::here_by, template_compiler_placed_grammar::specs::TemplateReader::from_by))]
+#[tactic(auto, using(template_compiler_statement_parts::proofs::Again::tag_end_again, template_compiler_statement_parts::proofs::Again::word_again, template_compiler_statement_parts::proofs::Again::context_again), unfolding(template_compiler_tokens::specs::Steps::and_then, template_compiler_grammar::specs::TemplateReader::here, template_compiler_grammar::specs::TemplateReader::here_by, template_compiler_grammar::specs::TemplateReader::from_by))]
 pub fn read_from<'source, R: ReadsExpressions>(
     alloc: Global,
     tokens: &mut TokenStream<'source>,
@@ -71,7 +71,7 @@ pub fn read_from<'source, R: ReadsExpressions>(
 /// # Errors
 ///
 /// The fault of the token that does not fit, or want of memory.
-#[tactic(auto, using(template_compiler_statement_parts::proofs::Again::tag_end_again), unfolding(template_compiler_tokens::specs::Steps::and_then, template_compiler_placed_grammar::specs::TemplateReader::here, template_compiler_placed_grammar::specs::TemplateReader::here_by, template_compiler_placed_grammar::specs::TemplateReader::extends_by))]
+#[tactic(auto, using(template_compiler_statement_parts::proofs::Again::tag_end_again), unfolding(template_compiler_tokens::specs::Steps::and_then, template_compiler_grammar::specs::TemplateReader::here, template_compiler_grammar::specs::TemplateReader::here_by, template_compiler_grammar::specs::TemplateReader::extends_by))]
 pub fn read_extends<'source, R: ReadsExpressions>(
     alloc: Global,
     tokens: &mut TokenStream<'source>,
@@ -93,7 +93,7 @@ pub fn read_extends<'source, R: ReadsExpressions>(
 /// # Errors
 ///
 /// The fault of the token that does not fit, or want of memory.
-#[tactic(auto, using(template_compiler_statement_parts::proofs::Again::tag_end_again), unfolding(template_compiler_tokens::specs::Steps::and_then, template_compiler_placed_grammar::specs::TemplateReader::here, template_compiler_placed_grammar::specs::TemplateReader::here_by, template_compiler_placed_grammar::specs::TemplateReader::include_by))]
+#[tactic(auto, using(template_compiler_statement_parts::proofs::Again::tag_end_again), unfolding(template_compiler_tokens::specs::Steps::and_then, template_compiler_grammar::specs::TemplateReader::here, template_compiler_grammar::specs::TemplateReader::here_by, template_compiler_grammar::specs::TemplateReader::include_by))]
 pub fn read_include<'source, R: ReadsExpressions>(
     alloc: Global,
     tokens: &mut TokenStream<'source>,

@@ -6,10 +6,10 @@ use Rattle.template_tree.specs.declared.expressions.Expr.{Expr}
 use Rattle.template_tree.specs.declared.span.Span.{Span}
 use Rattle.template_compiler_tokens.specs.Token.{Token}
 use Rattle.template_compiler_grammar.specs.Grammar.{IsFilterChain, chain_end, chain_more}
-use Rattle.template_compiler_placed_grammar.specs.Reader.{filter_chain_at}
-use Rattle.template_compiler_placed_grammar.specs.Views.{optional_node_in}
-use Rattle.template_compiler_placed_grammar.proofs.Readings.{tree_of}
-use Rattle.template_compiler_placed_grammar.proofs.Sound.{filter_chain_both}
+use Rattle.template_compiler_grammar.specs.Reader.{filter_chain_at}
+use Rattle.template_compiler_grammar.specs.Views.{optional_node_in}
+use Rattle.template_compiler_grammar.proofs.Readings.{tree_of}
+use Rattle.template_compiler_grammar.proofs.Sound.{filter_chain_both}
 
 none_left : {d : ℕ} {v f : Optional} {ts us : List Token} → IsFilterChain d v ts f us → (e : Expression) → v ≡ given e → f ≡ absent → ⊥
 none_left (chain_end {value = v}) e h k = cc

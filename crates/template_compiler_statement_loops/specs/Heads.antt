@@ -6,10 +6,10 @@ use Rattle.template_compiler_tokens.specs.Token.{Token}
 use Rattle.template_compiler_tokens.specs.Steps.{Read, and_then}
 use Rattle.template_compiler_grammar.specs.TemplateGrammar.{Around, loop_around}
 use Rattle.template_compiler_grammar.specs.TemplateReaderParts.{expect_word, tag_end, word_by}
-use Rattle.template_compiler_placed_grammar.specs.Nodes.{Node, OptionalNode, no_node, given_node}
-use Rattle.template_compiler_placed_grammar.specs.Reader.{up_to}
-use Rattle.template_compiler_placed_grammar.specs.TemplateNodes.{PlacedAssignments, PlacedStatement, for_node}
-use Rattle.template_compiler_placed_grammar.specs.TemplateReader.{Here, targets_by, loop_filter_by, assignments_by, else_by}
+use Rattle.template_compiler_grammar.specs.Nodes.{Node, OptionalNode, no_node, given_node}
+use Rattle.template_compiler_grammar.specs.Reader.{up_to}
+use Rattle.template_compiler_grammar.specs.TemplateNodes.{PlacedAssignments, PlacedStatement, for_node}
+use Rattle.template_compiler_grammar.specs.TemplateReader.{Here, targets_by, loop_filter_by, assignments_by, else_by}
 
 -- a loop: its target, what it goes over, the condition on its items, and whether it is recursive
 abbrev pub in_head : List Span → Here → Node → List Token → Read (Node × Node × OptionalNode × Bool)

@@ -3,9 +3,9 @@ ghost use Rattle.std.specs.Prelude.{◌≡◌, [], IfOk};
 ghost use Rattle.template_compiler_statement_loops.specs.Heads.{expression_head, filter_head, with_head};
 ghost use Rattle.template_compiler_statement_parts.specs.Parsed.{ParsedAs, ParsedNode};
 ghost use Rattle.template_compiler_grammar.specs.TemplateReaderParts.{tag_end};
-ghost use Rattle.template_compiler_placed_grammar.specs.Nodes.{given_node};
-ghost use Rattle.template_compiler_placed_grammar.specs.TemplateReader.{here};
-ghost use Rattle.template_compiler_placed_grammar.specs.Views.{node_of, placed_assignments_in};
+ghost use Rattle.template_compiler_grammar.specs.Nodes.{given_node};
+ghost use Rattle.template_compiler_grammar.specs.TemplateReader.{here};
+ghost use Rattle.template_compiler_grammar.specs.Views.{node_of, placed_assignments_in};
 
 use std::alloc::Global;
 use template_compiler_statement_parts::expect_tag_end;
@@ -16,7 +16,7 @@ use template_tree_statements::{AutoEscape, FilterBlock, IfCond};
 
 // An expression, and the end of its tag.
 #[inline(always)]
-#[tactic(auto, using(template_compiler_statement_parts::proofs::Again::tag_end_again), unfolding(template_compiler_tokens::specs::Steps::and_then, template_compiler_placed_grammar::specs::TemplateReader::here, template_compiler_placed_grammar::specs::TemplateReader::here_by))]
+#[tactic(auto, using(template_compiler_statement_parts::proofs::Again::tag_end_again), unfolding(template_compiler_tokens::specs::Steps::and_then, template_compiler_grammar::specs::TemplateReader::here, template_compiler_grammar::specs::TemplateReader::here_by))]
 fn read_only_expression<'source, R: ReadsExpressions>(
     alloc: Global,
     tokens: &mut TokenStream<'source>,
@@ -100,7 +100,7 @@ pub fn read_branch<'source, R: ReadsExpressions>(
 /// # Errors
 ///
 /// The fault of the token that does not fit, or want of memory.
-#[tactic(auto, using(crate::proofs::Filters::filters_given), unfolding(template_compiler_tokens::specs::Steps::and_then, template_compiler_placed_grammar::specs::TemplateReader::here, template_compiler_placed_grammar::specs::TemplateReader::here_by))]
+#[tactic(auto, using(crate::proofs::Filters::filters_given), unfolding(template_compiler_tokens::specs::Steps::and_then, template_compiler_grammar::specs::TemplateReader::here, template_compiler_grammar::specs::TemplateReader::here_by))]
 pub fn read_filter_block<'source, R: ReadsExpressions>(
     alloc: Global,
     tokens: &mut TokenStream<'source>,

@@ -3,8 +3,8 @@ ghost use Rattle.std.specs.Prelude.{◌≡◌, [], IfOk};
 ghost use Rattle.template_compiler_statement_loops.specs.Heads.{for_head, in_end, in_head};
 ghost use Rattle.template_compiler_statement_makers.specs.Begun.{loop_head};
 ghost use Rattle.template_compiler_statement_parts.specs.Parsed.{ParsedAs};
-ghost use Rattle.template_compiler_placed_grammar.specs.TemplateReader.{here};
-ghost use Rattle.template_compiler_placed_grammar.specs.Views.{node_of, optional_node_in};
+ghost use Rattle.template_compiler_grammar.specs.TemplateReader.{here};
+ghost use Rattle.template_compiler_grammar.specs.Views.{node_of, optional_node_in};
 
 use std::alloc::Global;
 use template_compiler_statement_parts::{expect_tag_end, expect_word, read_flag, read_targets};
@@ -23,7 +23,7 @@ use template_tree_statements::ForLoop;
 /// # Errors
 ///
 /// The fault of the token that does not fit, or want of memory.
-#[tactic(auto, using(template_compiler_statement_parts::proofs::Again::word_again), unfolding(template_compiler_tokens::specs::Steps::and_then, template_compiler_placed_grammar::specs::TemplateReader::here, template_compiler_placed_grammar::specs::TemplateReader::here_by))]
+#[tactic(auto, using(template_compiler_statement_parts::proofs::Again::word_again), unfolding(template_compiler_tokens::specs::Steps::and_then, template_compiler_grammar::specs::TemplateReader::here, template_compiler_grammar::specs::TemplateReader::here_by))]
 pub fn read_for<'source, R: ReadsExpressions>(
     alloc: Global,
     tokens: &mut TokenStream<'source>,
@@ -42,7 +42,7 @@ pub fn read_for<'source, R: ReadsExpressions>(
 }
 
 // The head of a loop, behind its `in`.
-#[tactic(auto, unfolding(template_compiler_tokens::specs::Steps::and_then, template_compiler_placed_grammar::specs::TemplateReader::here, template_compiler_placed_grammar::specs::TemplateReader::here_by))]
+#[tactic(auto, unfolding(template_compiler_tokens::specs::Steps::and_then, template_compiler_grammar::specs::TemplateReader::here, template_compiler_grammar::specs::TemplateReader::here_by))]
 fn read_in<'source, R: ReadsExpressions>(
     alloc: Global,
     tokens: &mut TokenStream<'source>,

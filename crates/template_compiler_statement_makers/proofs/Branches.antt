@@ -7,9 +7,9 @@ use Rattle.template_tree_statements.specs.declared.statements.IfCond.{IfCond}
 use Rattle.template_tree_statements.specs.declared.statements.Stmt.{Stmt}
 use Rattle.template_compiler_tokens.specs.Places.{until}
 use Rattle.template_compiler_grammar.specs.TemplateTrees.{branches_more}
-use Rattle.template_compiler_placed_grammar.specs.Nodes.{placed}
-use Rattle.template_compiler_placed_grammar.specs.TemplateNodes.{PlacedStatements, and_placed_branch, and_placed_statement, branched_node, condition_node, no_placed_statements}
-use Rattle.template_compiler_placed_grammar.specs.Views.{statement_node_of}
+use Rattle.template_compiler_grammar.specs.Nodes.{placed}
+use Rattle.template_compiler_grammar.specs.TemplateNodes.{PlacedStatements, and_placed_branch, and_placed_statement, branched_node, condition_node, no_placed_statements}
+use Rattle.template_compiler_grammar.specs.Views.{statement_node_of}
 use Rattle.template_compiler_statement_makers.specs.Branches.{branch_in, branches_in}
 use Rattle.template_compiler_statement_makers.specs.Listed.{statement_nodes_in}
 

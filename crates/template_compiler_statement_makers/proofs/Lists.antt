@@ -8,10 +8,10 @@ use Rattle.template_tree_statements.specs.declared.statements.EmitRaw.{EmitRaw a
 use Rattle.template_tree_statements.specs.declared.statements.CallBlock.{CallBlock' as called}
 use Rattle.template_tree_statements.specs.declared.statements.Stmt.{Stmt, EmitRaw, CallBlock'}
 use Rattle.template_compiler_grammar.specs.TemplateTrees.{is_blank}
-use Rattle.template_compiler_placed_grammar.specs.Nodes.{placed}
-use Rattle.template_compiler_placed_grammar.specs.TemplateNodes.{and_placed_statement}
-use Rattle.template_compiler_placed_grammar.specs.TreeStatements.{statement_places}
-use Rattle.template_compiler_placed_grammar.specs.Views.{statement_node_of}
+use Rattle.template_compiler_grammar.specs.Nodes.{placed}
+use Rattle.template_compiler_grammar.specs.TemplateNodes.{and_placed_statement}
+use Rattle.template_compiler_grammar.specs.TreeStatements.{statement_places}
+use Rattle.template_compiler_grammar.specs.Views.{statement_node_of}
 use Rattle.template_compiler_statement_makers.specs.Listed.{statement_nodes_in}
 use Rattle.template_compiler_statement_makers.specs.Blank.{is_blank_statement}
 

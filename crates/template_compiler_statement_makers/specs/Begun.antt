@@ -7,9 +7,9 @@ use Rattle.template_tree.specs.declared.span.Spanned.{Spanned}
 use Rattle.template_tree_statements.specs.declared.statements.ForLoop.{ForLoop}
 use Rattle.template_tree_statements.specs.declared.statements.Macro.{Macro}
 use Rattle.template_tree_statements.specs.declared.statements.SetBlock.{SetBlock}
-use Rattle.template_compiler_placed_grammar.specs.Nodes.{Node, OptionalNode, placed}
-use Rattle.template_compiler_placed_grammar.specs.TemplateNodes.{PlacedParameters}
-use Rattle.template_compiler_placed_grammar.specs.Views.{node_of, optional_node_in}
+use Rattle.template_compiler_grammar.specs.Nodes.{Node, OptionalNode, placed}
+use Rattle.template_compiler_grammar.specs.TemplateNodes.{PlacedParameters}
+use Rattle.template_compiler_grammar.specs.Views.{node_of, optional_node_in}
 
 -- a loop: its target, what it goes over, the condition on its items, and whether it is recursive
 abbrev pub loop_head : Box (Spanned ForLoop) → Node × Node × OptionalNode × Bool

@@ -8,9 +8,9 @@ use Rattle.template_tree.specs.declared.span.Span.{Span}
 use Rattle.template_tree.specs.declared.span.Spanned.{Spanned}
 use Rattle.template_tree_statements.specs.declared.statements.IfCond.{IfCond}
 use Rattle.template_compiler_grammar.specs.TemplateTrees.{Branches, no_branches, branches_more}
-use Rattle.template_compiler_placed_grammar.specs.Nodes.{placed}
-use Rattle.template_compiler_placed_grammar.specs.TemplateNodes.{PlacedBranch, PlacedBranches}
-use Rattle.template_compiler_placed_grammar.specs.TreeStatements.{places_of_statements}
+use Rattle.template_compiler_grammar.specs.Nodes.{placed}
+use Rattle.template_compiler_grammar.specs.TemplateNodes.{PlacedBranch, PlacedBranches}
+use Rattle.template_compiler_grammar.specs.TreeStatements.{places_of_statements}
 use Rattle.template_compiler_statement_makers.specs.Listed.{statements_in}
 
 -- a condition with its body; what stands for the other case comes later

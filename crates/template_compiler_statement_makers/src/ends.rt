@@ -1,8 +1,8 @@
 //! Statements of their heads and their bodies. A head with its body is one node more at most.
 ghost use Rattle.std.specs.Prelude.{◌≡◌, ◌∷◌, [], IfOk};
-ghost use Rattle.template_compiler_placed_grammar.specs.Nodes.{given_node};
-ghost use Rattle.template_compiler_placed_grammar.specs.TemplateNodes.{auto_escape_node, branched_node, condition_node, filter_block_node, for_node, set_block_node};
-ghost use Rattle.template_compiler_placed_grammar.specs.Views.{node_of, statement_node_of};
+ghost use Rattle.template_compiler_grammar.specs.Nodes.{given_node};
+ghost use Rattle.template_compiler_grammar.specs.TemplateNodes.{auto_escape_node, branched_node, condition_node, filter_block_node, for_node, set_block_node};
+ghost use Rattle.template_compiler_grammar.specs.Views.{node_of, statement_node_of};
 ghost use Rattle.template_compiler_statement_makers.specs.Begun.{loop_head, set_block_of};
 ghost use Rattle.template_compiler_statement_makers.specs.Branches.{branch_in, branches_in};
 ghost use Rattle.template_compiler_statement_makers.specs.Listed.{statement_nodes_in};

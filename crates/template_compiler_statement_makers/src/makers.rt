@@ -1,8 +1,8 @@
 //! Makers of the nodes of statements with a body: each takes two allocations at most, and drops its parts where one is
 //! refused.
 ghost use Rattle.std.specs.Prelude.{◌≡◌, IfOk};
-ghost use Rattle.template_compiler_placed_grammar.specs.TemplateNodes.{block_node, call_block_node, condition_node, macro_node, with_node};
-ghost use Rattle.template_compiler_placed_grammar.specs.Views.{placed_assignments_in, statement_node_of};
+ghost use Rattle.template_compiler_grammar.specs.TemplateNodes.{block_node, call_block_node, condition_node, macro_node, with_node};
+ghost use Rattle.template_compiler_grammar.specs.Views.{placed_assignments_in, statement_node_of};
 ghost use Rattle.template_compiler_statement_makers.specs.Begun.{declared_in};
 ghost use Rattle.template_compiler_statement_makers.specs.Branches.{branch_in};
 ghost use Rattle.template_compiler_statement_makers.specs.Listed.{statement_nodes_in};

@@ -10,10 +10,10 @@ use Rattle.template_compiler_stream.specs.declared.refusal.Refusal.TheVariants a
 use Rattle.template_compiler_stream.specs.Refusals.{Refused}
 use Rattle.template_compiler_grammar.specs.TemplateGrammar.{Around, loop_around}
 use Rattle.template_compiler_grammar.specs.TemplateReaderParts.{begins_tag, expect_tag, tag_end}
-use Rattle.template_compiler_placed_grammar.specs.Nodes.{Node, OptionalNode, placed}
-use Rattle.template_compiler_placed_grammar.specs.Reader.{up_to}
-use Rattle.template_compiler_placed_grammar.specs.TemplateNodes.{PlacedBranch, PlacedBranches, PlacedStatement, PlacedStatements, branched_node, condition_node, for_node, no_placed_branches, no_placed_statements, set_block_node}
-use Rattle.template_compiler_placed_grammar.specs.TemplateReader.{Here, body_by, branch_by, branch_step, else_by, for_by, if_by, set_by}
+use Rattle.template_compiler_grammar.specs.Nodes.{Node, OptionalNode, placed}
+use Rattle.template_compiler_grammar.specs.Reader.{up_to}
+use Rattle.template_compiler_grammar.specs.TemplateNodes.{PlacedBranch, PlacedBranches, PlacedStatement, PlacedStatements, branched_node, condition_node, for_node, no_placed_branches, no_placed_statements, set_block_node}
+use Rattle.template_compiler_grammar.specs.TemplateReader.{Here, body_by, branch_by, branch_step, else_by, for_by, if_by, set_by}
 use Rattle.template_compiler_statement_declarations.specs.Heads.{set_head, set_over, set_rest, set_whole}
 use Rattle.template_compiler_statement_loops.specs.Heads.{expression_head, for_head, for_rest}
 use Rattle.template_tree_statements.specs.declared.statements.Stmt.{Stmt}

@@ -6,15 +6,15 @@ use Rattle.template_tree.specs.declared.span.Span.{Span}
 use Rattle.template_compiler_tokens.specs.Places.{next_span, token_count}
 use Rattle.template_compiler_tokens.specs.Token.{Token, template_data, variable_start, block_start, identifier}
 use Rattle.template_compiler_tokens.specs.Steps.{and_then, fault, goes, stops, under}
-use Rattle.template_compiler_placed_grammar.proofs.Last.{stands_alone}
+use Rattle.template_compiler_grammar.proofs.Last.{stands_alone}
 use Rattle.template_compiler_stream.specs.Left.{passed}
 use Rattle.template_compiler_stream.specs.Signs.{next_word}
 use Rattle.template_compiler_stream.specs.Tags.{begins_variable_start, next_text}
 use Rattle.template_compiler_statement_parts.specs.Tags.{next_tag}
 use Rattle.template_compiler_grammar.specs.TemplateGrammar.{Around}
 use Rattle.template_compiler_grammar.specs.TemplateReaderParts.{begins_tag, expect_tag, expect_word, opening, tag_end}
-use Rattle.template_compiler_placed_grammar.specs.TemplateNodes.{PlacedBranches, and_placed_branch, PlacedStatements, and_placed_statement, no_placed_statements, statement_node}
-use Rattle.template_compiler_placed_grammar.specs.TemplateReader.{Here, branch_by, branch_step, else_by, opened_step, print_by, statement_step}
+use Rattle.template_compiler_grammar.specs.TemplateNodes.{PlacedBranches, and_placed_branch, PlacedStatements, and_placed_statement, no_placed_statements, statement_node}
+use Rattle.template_compiler_grammar.specs.TemplateReader.{Here, branch_by, branch_step, else_by, opened_step, print_by, statement_step}
 
 module _ (spans : List Span) (r : Here) (p : Around) where
   -- statements

@@ -7,8 +7,8 @@ use Rattle.template_compiler_tokens.proofs.Loops.{under_goes}
 use Rattle.template_compiler_stream.specs.declared.refusal.Refusal.{Refusal}
 use Rattle.template_compiler_stream.specs.declared.refusal.Refusal.TheVariants as refusals
 use Rattle.template_compiler_stream.specs.Refusals.{Refused}
-use Rattle.template_compiler_placed_grammar.specs.TemplateNodes.{PlacedStatement, PlacedStatements, and_placed_statement}
-use Rattle.template_compiler_placed_grammar.specs.Views.{statement_node_of}
+use Rattle.template_compiler_grammar.specs.TemplateNodes.{PlacedStatement, PlacedStatements, and_placed_statement}
+use Rattle.template_compiler_grammar.specs.Views.{statement_node_of}
 use Rattle.template_compiler_statement_makers.specs.Listed.{statement_nodes_in}
 use Rattle.template_compiler_statement_makers.proofs.Lists.{statement_nodes_push}
 use Rattle.template_compiler_statement_parts.specs.Parsed.{RefusedStep}

@@ -6,10 +6,10 @@ use Rattle.template_compiler_tokens.specs.Token.{Token}
 use Rattle.template_compiler_tokens.specs.Steps.{Read, Step, goes, under, and_then, all}
 use Rattle.template_tree.specs.declared.span.Span.{Span}
 use Rattle.template_compiler_grammar.specs.TemplateGrammar.{Around}
-use Rattle.template_compiler_placed_grammar.specs.TemplateNodes.{PlacedBranch, PlacedStatement, PlacedStatements, and_placed_statement, if_node, no_placed_branches}
-use Rattle.template_compiler_placed_grammar.specs.Reader.{up_to}
-use Rattle.template_compiler_placed_grammar.specs.TemplateReader.{Here, branch_step, else_by}
-use Rattle.template_compiler_placed_grammar.specs.Views.{statement_node_of}
+use Rattle.template_compiler_grammar.specs.TemplateNodes.{PlacedBranch, PlacedStatement, PlacedStatements, and_placed_statement, if_node, no_placed_branches}
+use Rattle.template_compiler_grammar.specs.Reader.{up_to}
+use Rattle.template_compiler_grammar.specs.TemplateReader.{Here, branch_step, else_by}
+use Rattle.template_compiler_grammar.specs.Views.{statement_node_of}
 use Rattle.template_compiler_stream.specs.declared.refusal.Refusal.{Refusal}
 use Rattle.template_compiler_statement_makers.specs.Listed.{statement_nodes_in}
 use Rattle.template_compiler_statement_parts.specs.Parsed.{ParsedAs, RefusedStep}

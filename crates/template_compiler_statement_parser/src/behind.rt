@@ -1,8 +1,8 @@
 //! Statements that are put behind others, where nothing stands in them that calls itself.
 ghost use Rattle.std.specs.Prelude.{◌≡◌, IfErr, OnOk};
-ghost use Rattle.template_compiler_placed_grammar.specs.TemplateNodes.{and_placed_statement, statement_node};
-ghost use Rattle.template_compiler_placed_grammar.specs.TemplateReader.{here, opened_by, print_by};
-ghost use Rattle.template_compiler_placed_grammar.specs.Views.{statement_node_of};
+ghost use Rattle.template_compiler_grammar.specs.TemplateNodes.{and_placed_statement, statement_node};
+ghost use Rattle.template_compiler_grammar.specs.TemplateReader.{here, opened_by, print_by};
+ghost use Rattle.template_compiler_grammar.specs.Views.{statement_node_of};
 ghost use Rattle.template_compiler_statement_makers.specs.Listed.{statement_nodes_in};
 ghost use Rattle.template_compiler_statement_makers.specs.Surroundings.{around_of};
 ghost use Rattle.template_compiler_statement_parser.specs.Bodies.{PutBehind};

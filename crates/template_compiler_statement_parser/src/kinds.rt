@@ -3,7 +3,7 @@ ghost use Rattle.std.specs.Prelude.{◌≡◌};
 ghost use Rattle.template_compiler_statement_makers.specs.Surroundings.{around_of, opening_of};
 ghost use Rattle.template_compiler_statement_parser.specs.Bodies.{ParsedStatement};
 ghost use Rattle.template_compiler_statement_parser.specs.Kinds.{kind_opening, leaf_opening};
-ghost use Rattle.template_compiler_placed_grammar.specs.TemplateReader.{here, opened_by};
+ghost use Rattle.template_compiler_grammar.specs.TemplateReader.{here, opened_by};
 
 use std::alloc::Global;
 use template_compiler_statement_leaves as leaves;
@@ -72,7 +72,7 @@ pub(crate) fn kind_of(opening: Opening) -> Kind
 }
 
 /// A statement without a body, behind the word that begins it.
-#[tactic(auto, unfolding(template_compiler_placed_grammar::specs::TemplateReader::opened_by, template_compiler_placed_grammar::specs::TemplateReader::in_loop))]
+#[tactic(auto, unfolding(template_compiler_grammar::specs::TemplateReader::opened_by, template_compiler_grammar::specs::TemplateReader::in_loop))]
 pub(crate) fn read_leaf<'source, R: ReadsExpressions>(
     alloc: Global,
     tokens: &mut TokenStream<'source>,

@@ -11,9 +11,9 @@ ghost use Rattle.template_compiler_statement_parser.specs.Kinds.{parent_opening}
 ghost use Rattle.template_compiler_statement_makers.specs.Surroundings.{around_of, opening_of};
 ghost use Rattle.template_compiler_stream.specs.Left.{passed};
 ghost use Rattle.template_compiler_grammar.specs.TemplateReaderParts.{expect_tag, opening};
-ghost use Rattle.template_compiler_placed_grammar.specs.TemplateNodes.{no_placed_branches};
-ghost use Rattle.template_compiler_placed_grammar.specs.TemplateReader.{autoescape_by, block_by, branch_by, branch_step, call_by, deeper_body, else_by, filter_block_by, for_by, here, if_by, macro_by, opened_by, opened_step, set_by, statement_step, statements_at, with_by};
-ghost use Rattle.template_compiler_placed_grammar.specs.Views.{statement_node_of};
+ghost use Rattle.template_compiler_grammar.specs.TemplateNodes.{no_placed_branches};
+ghost use Rattle.template_compiler_grammar.specs.TemplateReader.{autoescape_by, block_by, branch_by, branch_step, call_by, deeper_body, else_by, filter_block_by, for_by, here, if_by, macro_by, opened_by, opened_step, set_by, statement_step, statements_at, with_by};
+ghost use Rattle.template_compiler_grammar.specs.Views.{statement_node_of};
 ghost use Rattle.template_tree_statements.specs.declared.statements.Stmt.TheVariants as statements;
 ghost use Rattle.template_compiler_statement_makers.specs.Listed.{statement_nodes_in};
 
@@ -34,7 +34,7 @@ use template_tree_statements::{
 
 // A body, one nesting level deeper, into its place, which is empty.
 #[cycle(statements)]
-#[tactic(auto, unfolding(template_compiler_placed_grammar::specs::TemplateReader::deeper_body))]
+#[tactic(auto, unfolding(template_compiler_grammar::specs::TemplateReader::deeper_body))]
 fn read_body<'source, R: ReadsExpressions>(
     alloc: Global,
     tokens: &mut TokenStream<'source>,
@@ -59,7 +59,7 @@ fn read_body<'source, R: ReadsExpressions>(
 /// # Errors
 ///
 /// The fault of the token that does not fit, or want of memory.
-#[tactic(auto, unfolding(template_compiler_placed_grammar::specs::TemplateReader::statements_at, template_compiler_placed_grammar::specs::TemplateReader::statements_by))]
+#[tactic(auto, unfolding(template_compiler_grammar::specs::TemplateReader::statements_at, template_compiler_grammar::specs::TemplateReader::statements_by))]
 pub fn read_statements<'source, R: ReadsExpressions>(
     alloc: Global,
     tokens: &mut TokenStream<'source>,
@@ -131,7 +131,7 @@ fn next_statement<'source, R: ReadsExpressions>(
 
 // The statement that the word of the next tag begins.
 #[cycle(statements)]
-#[tactic(auto, unfolding(template_compiler_tokens::specs::Steps::under, template_compiler_placed_grammar::specs::TemplateReader::opened_step))]
+#[tactic(auto, unfolding(template_compiler_tokens::specs::Steps::under, template_compiler_grammar::specs::TemplateReader::opened_step))]
 fn next_tag<'source, R: ReadsExpressions>(
     alloc: Global,
     tokens: &mut TokenStream<'source>,
@@ -212,7 +212,7 @@ fn put_parent<'source, R: ReadsExpressions>(
 }
 
 #[cycle(statements)]
-#[tactic(auto, unfolding(template_compiler_placed_grammar::specs::TemplateReader::opened_by))]
+#[tactic(auto, unfolding(template_compiler_grammar::specs::TemplateReader::opened_by))]
 fn read_parent<'source, R: ReadsExpressions>(
     alloc: Global,
     tokens: &mut TokenStream<'source>,

@@ -1,7 +1,7 @@
 -- What the proofs open of the reader, each for the part that it names.
 use Rattle.template_compiler_tokens.specs.Steps.{and_then, under}
 use Rattle.template_compiler_grammar.specs.TemplateReaderParts.{block_end_by, expect_tag, missing_behind, missing_by, more_step, word_by}
-use Rattle.template_compiler_placed_grammar.specs.TemplateReader.{alias_by, import_by, one_target_by, target_by}
+use Rattle.template_compiler_grammar.specs.TemplateReader.{alias_by, import_by, one_target_by, target_by}
 
 unfoldable pub tag_read : Unit {0}
 unfolding and_then expect_tag

@@ -13,12 +13,12 @@ use Rattle.template_compiler_tokens.proofs.Loops.{all_goes, all_stops}
 use Rattle.template_compiler_grammar.specs.TemplateWords.{is_reserved}
 use Rattle.template_compiler_grammar.specs.Words.{begins_word}
 use Rattle.template_compiler_grammar.specs.TemplateReaderParts.{more_step}
-use Rattle.template_compiler_placed_grammar.specs.Nodes.{Node, first_node, given_node, no_node, node, placed}
-use Rattle.template_compiler_placed_grammar.specs.Reader.{up_to}
-use Rattle.template_compiler_placed_grammar.specs.TemplateNodes.{PlacedImports, and_placed_import, unpacked_node}
-use Rattle.template_compiler_placed_grammar.specs.TemplateReader.{alias_by, inner_targets, more_targets_by, one_target_by, path_by, path_step, stored_by, target_by, targets_by}
-use Rattle.template_compiler_placed_grammar.specs.Views.{node_of}
-use Rattle.template_compiler_placed_grammar.proofs.TemplatesSound.{paths_fall}
+use Rattle.template_compiler_grammar.specs.Nodes.{Node, first_node, given_node, no_node, node, placed}
+use Rattle.template_compiler_grammar.specs.Reader.{up_to}
+use Rattle.template_compiler_grammar.specs.TemplateNodes.{PlacedImports, and_placed_import, unpacked_node}
+use Rattle.template_compiler_grammar.specs.TemplateReader.{alias_by, inner_targets, more_targets_by, one_target_by, path_by, path_step, stored_by, target_by, targets_by}
+use Rattle.template_compiler_grammar.specs.Views.{node_of}
+use Rattle.template_compiler_grammar.proofs.TemplatesSound.{paths_fall}
 use Rattle.template_compiler_stream.specs.Left.{passed}
 use Rattle.template_compiler_statement_parts.proofs.Standing.{no_more}
 use Rattle.template_compiler_stream.specs.Signs.{begins_symbol, next_word, second_word}

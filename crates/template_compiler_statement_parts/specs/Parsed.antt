@@ -8,9 +8,9 @@ use Rattle.template_compiler_stream.specs.Refusals.{Refused, fault_of}
 use Rattle.template_compiler_stream.specs.declared.refusal.Refusal.{Refusal}
 use Rattle.template_compiler_stream.specs.declared.refusal.Refusal.TheVariants as refusals
 use Rattle.template_tree.specs.declared.span.Span.{Span}
-use Rattle.template_compiler_placed_grammar.specs.Nodes.{Node}
-use Rattle.template_compiler_placed_grammar.specs.TemplateReader.{path_step}
-use Rattle.template_compiler_placed_grammar.specs.Views.{node_of}
+use Rattle.template_compiler_grammar.specs.Nodes.{Node}
+use Rattle.template_compiler_grammar.specs.TemplateReader.{path_step}
+use Rattle.template_compiler_grammar.specs.Views.{node_of}
 
 -- a result, by what contracts see of it
 abbrev pub ParsedAs : {A B : Type 0} → (B → A) → Read A → List Token → Result B Refusal → Type 0

@@ -3,9 +3,9 @@ ghost use Rattle.std.specs.Prelude.{◌≡◌};
 ghost use Rattle.template_compiler_tokens.specs.Steps.{and_then, all};
 ghost use Rattle.template_compiler_statement_parts.specs.Parsed.{ParsedAs, SteppedTo, ParsedInto};
 ghost use Rattle.template_compiler_grammar.specs.TemplateReaderParts.{more_step};
-ghost use Rattle.template_compiler_placed_grammar.specs.TemplateNodes.{no_placed_imports};
-ghost use Rattle.template_compiler_placed_grammar.specs.TemplateReader.{import_by};
-ghost use Rattle.template_compiler_placed_grammar.specs.Views.{placed_imports_in};
+ghost use Rattle.template_compiler_grammar.specs.TemplateNodes.{no_placed_imports};
+ghost use Rattle.template_compiler_grammar.specs.TemplateReader.{import_by};
+ghost use Rattle.template_compiler_grammar.specs.Views.{placed_imports_in};
 
 use crate::growth::put;
 use crate::names::read_stored;

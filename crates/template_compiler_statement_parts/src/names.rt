@@ -1,7 +1,7 @@
 //! Names that may be stored.
 ghost use Rattle.std.specs.Prelude.{◌≡◌};
 ghost use Rattle.template_compiler_statement_parts.specs.Parsed.{ParsedNode};
-ghost use Rattle.template_compiler_placed_grammar.specs.TemplateReader.{stored_by};
+ghost use Rattle.template_compiler_grammar.specs.TemplateReader.{stored_by};
 ghost use Rattle.template_compiler_grammar.specs.TemplateWords.{is_reserved};
 
 use template_compiler_stream::{Fault, Refusal, TokenStream};

@@ -2,9 +2,9 @@
 ghost use Rattle.std.specs.Prelude.{◌≡◌, IfOk};
 ghost use Rattle.template_compiler_statement_parts.specs.Parsed.{ParsedInto, ParsedNode, PassesPart, SteppedTo};
 ghost use Rattle.template_compiler_grammar.specs.TemplateReaderParts.{more_step};
-ghost use Rattle.template_compiler_placed_grammar.specs.TemplateNodes.{unpacked_node};
-ghost use Rattle.template_compiler_placed_grammar.specs.TemplateReader.{inner_targets, more_targets_by, one_target_by, path_by, path_step, stored_by, target_by, targets_by};
-ghost use Rattle.template_compiler_placed_grammar.specs.Views.{node_of, nodes_in};
+ghost use Rattle.template_compiler_grammar.specs.TemplateNodes.{unpacked_node};
+ghost use Rattle.template_compiler_grammar.specs.TemplateReader.{inner_targets, more_targets_by, one_target_by, path_by, path_step, stored_by, target_by, targets_by};
+ghost use Rattle.template_compiler_grammar.specs.Views.{node_of, nodes_in};
 ghost use Rattle.template_compiler_stream.specs.Signs.{begins_symbol};
 ghost use Rattle.template_compiler_tokens.specs.Places.{next_span};
 ghost use Rattle.template_compiler_tokens.specs.Steps.{all, and_then};
@@ -47,7 +47,7 @@ pub fn read_target<'source>(
 // Targets in parentheses are one nesting level deeper.
 #[cycle(targets)]
 #[inline(never)]
-#[tactic(auto, unfolding(template_compiler_placed_grammar::specs::TemplateReader::inner_targets))]
+#[tactic(auto, unfolding(template_compiler_grammar::specs::TemplateReader::inner_targets))]
 fn read_inner_targets<'source>(
     alloc: Global,
     tokens: &mut TokenStream<'source>,
@@ -71,7 +71,7 @@ fn read_inner_targets<'source>(
 /// The fault of the token that does not fit, or want of memory.
 #[cycle(targets)]
 #[inline(always)]
-#[tactic(auto, unfolding(template_compiler_tokens::specs::Steps::and_then, template_compiler_placed_grammar::specs::TemplateReader::targets_by))]
+#[tactic(auto, unfolding(template_compiler_tokens::specs::Steps::and_then, template_compiler_grammar::specs::TemplateReader::targets_by))]
 pub fn read_targets<'source>(
     alloc: Global,
     tokens: &mut TokenStream<'source>,
@@ -117,7 +117,7 @@ pub fn read_more_targets<'source>(
 // The targets behind the first one, where a comma stands next.
 #[cycle(targets)]
 #[inline(never)]
-#[tactic(auto, unfolding(template_compiler_tokens::specs::Steps::and_then, template_compiler_placed_grammar::specs::TemplateReader::more_targets_by))]
+#[tactic(auto, unfolding(template_compiler_tokens::specs::Steps::and_then, template_compiler_grammar::specs::TemplateReader::more_targets_by))]
 fn several_targets<'source>(
     alloc: Global,
     tokens: &mut TokenStream<'source>,
@@ -197,7 +197,7 @@ fn begins_more<'source>(tokens: &TokenStream<'source>) -> bool
 
 // A name, with the attributes behind it where it may have some.
 #[inline(always)]
-#[tactic(auto, unfolding(template_compiler_tokens::specs::Steps::and_then, template_compiler_placed_grammar::specs::TemplateReader::path_by))]
+#[tactic(auto, unfolding(template_compiler_tokens::specs::Steps::and_then, template_compiler_grammar::specs::TemplateReader::path_by))]
 fn read_path_target<'source>(
     alloc: Global,
     tokens: &mut TokenStream<'source>,

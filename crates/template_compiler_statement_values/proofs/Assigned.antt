@@ -8,10 +8,10 @@ use Rattle.template_compiler_stream.specs.declared.refusal.Refusal.{Refusal}
 use Rattle.template_compiler_stream.specs.declared.refusal.Refusal.TheVariants as refusals
 use Rattle.template_compiler_statement_parts.specs.Parsed.{ParsedInto}
 use Rattle.template_compiler_grammar.specs.TemplateReaderParts.{expect_assign}
-use Rattle.template_compiler_placed_grammar.specs.Nodes.{Node}
-use Rattle.template_compiler_placed_grammar.specs.Reader.{expression_at}
-use Rattle.template_compiler_placed_grammar.specs.TemplateNodes.{PlacedAssignments, and_placed_assignment}
-use Rattle.template_compiler_placed_grammar.specs.TemplateReader.{assignment_by, here, here_by, inner_targets, target_by}
+use Rattle.template_compiler_grammar.specs.Nodes.{Node}
+use Rattle.template_compiler_grammar.specs.Reader.{expression_at}
+use Rattle.template_compiler_grammar.specs.TemplateNodes.{PlacedAssignments, and_placed_assignment}
+use Rattle.template_compiler_grammar.specs.TemplateReader.{assignment_by, here, here_by, inner_targets, target_by}
 use Rattle.template_compiler_statement_parts.proofs.Again.{again, assign_again, unit}
 
 pub assignment_is : (spans : List Span) (left : ℕ) (gs : PlacedAssignments) (ts us vs ws : List Token) (t e : Node) →

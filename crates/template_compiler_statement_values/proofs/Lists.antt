@@ -5,9 +5,9 @@ use Rattle.template_tree.specs.Tree.{tuple_literal}
 use Rattle.template_tree.specs.ExpressionPlaces.{places_of, places_in}
 use Rattle.template_tree.specs.NodePlaces.{at}
 use Rattle.template_tree.specs.declared.span.Span.{Span}
-use Rattle.template_compiler_placed_grammar.specs.Nodes.{placed}
-use Rattle.template_compiler_placed_grammar.specs.TemplateNodes.{together_node}
-use Rattle.template_compiler_placed_grammar.specs.Views.{node_of, nodes_in}
+use Rattle.template_compiler_grammar.specs.Nodes.{placed}
+use Rattle.template_compiler_grammar.specs.TemplateNodes.{together_node}
+use Rattle.template_compiler_grammar.specs.Views.{node_of, nodes_in}
 use Rattle.std.proofs.lemmas.Bool.Decides.{nat_tests}
 use Rattle.template_tree.specs.View.{expression_of, expressions_in}
 use Rattle.template_tree.specs.declared.expressions.Expr.{Expr}

@@ -1,7 +1,7 @@
 -- What the proofs open of the reader, each for the part that it names.
 use Rattle.template_compiler_tokens.specs.Steps.{and_then, under}
 use Rattle.template_compiler_grammar.specs.TemplateReaderParts.{more_step}
-use Rattle.template_compiler_placed_grammar.specs.TemplateReader.{assignment_by, assignments_by, default_by, here, here_by, loop_filter_by, optional_parameters_by, parameter_by, parameters_by, value_by}
+use Rattle.template_compiler_grammar.specs.TemplateReader.{assignment_by, assignments_by, default_by, here, here_by, loop_filter_by, optional_parameters_by, parameter_by, parameters_by, value_by}
 
 unfoldable pub optional_read : Unit {0}
 unfolding here here_by optional_parameters_by

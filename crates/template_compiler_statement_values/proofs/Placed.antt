@@ -6,10 +6,10 @@ use Rattle.template_compiler_tokens.specs.Steps.{Read, and_then, all}
 use Rattle.template_compiler_grammar.specs.TemplateReaderParts.{is_nothing, more_step}
 use Rattle.template_compiler_grammar.specs.ReaderParts.{paren_end}
 use Rattle.template_compiler_grammar.specs.Words.{begins_word}
-use Rattle.template_compiler_placed_grammar.specs.Nodes.{Node, given_node, no_node}
-use Rattle.template_compiler_placed_grammar.specs.Reader.{expression_at}
-use Rattle.template_compiler_placed_grammar.specs.TemplateNodes.{PlacedParameters, and_placed_plain, no_placed_assignments, no_placed_parameters}
-use Rattle.template_compiler_placed_grammar.specs.TemplateReader.{Here, assignment_by, assignments_by, deeper_parameters, default_by, loop_filter_by, optional_parameters_by, parameter_by, parameters_by}
+use Rattle.template_compiler_grammar.specs.Nodes.{Node, given_node, no_node}
+use Rattle.template_compiler_grammar.specs.Reader.{expression_at}
+use Rattle.template_compiler_grammar.specs.TemplateNodes.{PlacedParameters, and_placed_plain, no_placed_assignments, no_placed_parameters}
+use Rattle.template_compiler_grammar.specs.TemplateReader.{Here, assignment_by, assignments_by, deeper_parameters, default_by, loop_filter_by, optional_parameters_by, parameter_by, parameters_by}
 use Rattle.template_compiler_stream.specs.Signs.{begins_symbol}
 use Rattle.template_compiler_stream.specs.Tags.{begins_block_end}
 

@@ -2,8 +2,8 @@
 use Rattle.template_tree.specs.View.{expressions_in}
 use Rattle.template_tree.specs.ExpressionPlaces.{places_in}
 use Rattle.template_compiler_grammar.specs.TemplateTrees.{Parameters as Declared}
-use Rattle.template_compiler_placed_grammar.specs.Nodes.{placed}
-use Rattle.template_compiler_placed_grammar.specs.TemplateNodes.{PlacedParameters}
+use Rattle.template_compiler_grammar.specs.Nodes.{placed}
+use Rattle.template_compiler_grammar.specs.TemplateNodes.{PlacedParameters}
 use Rattle.template_compiler_statement_values.specs.declared.parameters.Parameters.{Parameters}
 
 abbrev pub parameters_of : Parameters → Declared

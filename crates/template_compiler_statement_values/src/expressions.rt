@@ -1,7 +1,7 @@
 //! What statements read of expressions.
 ghost use Rattle.std.specs.Prelude.{◌≡◌};
-ghost use Rattle.template_compiler_placed_grammar.specs.Reader.{condition_at, expression_at, filter_at, filter_chain_at};
-ghost use Rattle.template_compiler_placed_grammar.specs.Views.{node_of, optional_node_in};
+ghost use Rattle.template_compiler_grammar.specs.Reader.{condition_at, expression_at, filter_at, filter_chain_at};
+ghost use Rattle.template_compiler_grammar.specs.Views.{node_of, optional_node_in};
 ghost use Rattle.template_compiler_statement_parts.specs.Parsed.{ParsedAs};
 
 use std::alloc::Global;

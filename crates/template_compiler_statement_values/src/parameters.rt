@@ -3,9 +3,9 @@ ghost use Rattle.std.specs.Prelude.{◌≡◌, [], ◌∷◌};
 ghost use Rattle.template_compiler_statement_parts.specs.Parsed.{ParsedAs, SteppedTo, ParsedInto};
 ghost use Rattle.template_compiler_statement_values.specs.Written.{parameters_of, placed_parameters_of};
 ghost use Rattle.template_compiler_grammar.specs.TemplateReaderParts.{is_nothing, more_step};
-ghost use Rattle.template_compiler_placed_grammar.specs.Reader.{expression_at};
-ghost use Rattle.template_compiler_placed_grammar.specs.TemplateNodes.{no_placed_parameters};
-ghost use Rattle.template_compiler_placed_grammar.specs.TemplateReader.{deeper_parameters, here, optional_parameters_by, parameter_by, parameters_by};
+ghost use Rattle.template_compiler_grammar.specs.Reader.{expression_at};
+ghost use Rattle.template_compiler_grammar.specs.TemplateNodes.{no_placed_parameters};
+ghost use Rattle.template_compiler_grammar.specs.TemplateReader.{deeper_parameters, here, optional_parameters_by, parameter_by, parameters_by};
 ghost use Rattle.template_compiler_tokens.specs.Steps.{all};
 
 use crate::expressions::ReadsExpressions;
@@ -65,7 +65,7 @@ pub fn read_optional_parameters<'source, R: ReadsExpressions>(
 /// # Errors
 ///
 /// The fault of the token that does not fit, or want of memory.
-#[tactic(auto, unfolding(template_compiler_placed_grammar::specs::TemplateReader::deeper_parameters))]
+#[tactic(auto, unfolding(template_compiler_grammar::specs::TemplateReader::deeper_parameters))]
 pub fn read_deeper_parameters<'source, R: ReadsExpressions>(
     alloc: Global,
     tokens: &mut TokenStream<'source>,

@@ -2,10 +2,10 @@
 ghost use Rattle.std.specs.Prelude.{◌≡◌, IfOk};
 ghost use Rattle.template_compiler_statement_parts.specs.Parsed.{ParsedAs, ParsedInto, ParsedNode, SteppedTo};
 ghost use Rattle.template_compiler_grammar.specs.TemplateReaderParts.{more_step};
-ghost use Rattle.template_compiler_placed_grammar.specs.Reader.{expression_at};
-ghost use Rattle.template_compiler_placed_grammar.specs.TemplateNodes.{together_node};
-ghost use Rattle.template_compiler_placed_grammar.specs.TemplateReader.{assignment_by, assignments_by, here, loop_filter_by, value_by, values_by};
-ghost use Rattle.template_compiler_placed_grammar.specs.Views.{node_of, nodes_in, optional_node_in, placed_assignments_in};
+ghost use Rattle.template_compiler_grammar.specs.Reader.{expression_at};
+ghost use Rattle.template_compiler_grammar.specs.TemplateNodes.{together_node};
+ghost use Rattle.template_compiler_grammar.specs.TemplateReader.{assignment_by, assignments_by, here, loop_filter_by, value_by, values_by};
+ghost use Rattle.template_compiler_grammar.specs.Views.{node_of, nodes_in, optional_node_in, placed_assignments_in};
 ghost use Rattle.template_compiler_tokens.specs.Steps.{all};
 
 use crate::expressions::ReadsExpressions;
@@ -24,7 +24,7 @@ use template_tree::{Expr, Span};
 /// # Errors
 ///
 /// The fault of the token that does not fit, or want of memory.
-#[tactic(auto, unfolding(template_compiler_tokens::specs::Steps::and_then, template_compiler_placed_grammar::specs::TemplateReader::values_by))]
+#[tactic(auto, unfolding(template_compiler_tokens::specs::Steps::and_then, template_compiler_grammar::specs::TemplateReader::values_by))]
 pub fn read_values<'source, R: ReadsExpressions>(
     alloc: Global,
     tokens: &mut TokenStream<'source>,
@@ -40,7 +40,7 @@ pub fn read_values<'source, R: ReadsExpressions>(
     together(alloc, values, tokens.expand_span(span)).map_err(Refusal::from)
 }
 
-#[tactic(auto, using(template_compiler_placed_grammar::proofs::Pushes::nodes_push), unfolding(crate::proofs::Opened::value_read))]
+#[tactic(auto, using(template_compiler_grammar::proofs::Pushes::nodes_push), unfolding(crate::proofs::Opened::value_read))]
 fn read_value<'source, R: ReadsExpressions>(
     alloc: Global,
     tokens: &mut TokenStream<'source>,

@@ -5,10 +5,10 @@ use Rattle.std.proofs.lemmas.Option.{none-some, same_Some}
 use Rattle.template_tree.specs.Tree.{Expression, Expressions, no_expressions, expressions_more, Optional, absent, given, Statement, Statements, no_statements, statements_more, Imports, no_imports, imports_more}
 use Rattle.template_compiler_tokens.specs.Token.{Token, TokenFault}
 use Rattle.template_compiler_grammar.specs.TemplateGrammar.{Around, IsStored, stored, IsMore, more_end, more_next, IsImport, same_name, other_name, IsParameter, plain_parameter, default_parameter, IsParameters, none_declared, some_declared, IsOptionalParameters, not_declared, declared, IsStatements, statements_end, statements_next, IsStatement, text_statement, print_statement, for_statement, if_statement, with_statement, set_statement, set_block_statement, autoescape_statement, filter_statement, block_statement, import_statement, from_statement, extends_statement, include_statement, macro_statement, call_statement, do_statement, break_statement, continue_statement, IsBranches, branches_end, branches_next, IsElse, no_else, an_else, IsTemplate, whole_template}
-use Rattle.template_compiler_placed_grammar.specs.TreeReader.{template_of}
+use Rattle.template_compiler_grammar.specs.TreeReader.{template_of}
 use Rattle.template_compiler_grammar.specs.Trees.{and_expression}
 use Rattle.template_compiler_grammar.specs.TemplateTrees.{and_statement, and_import, Branches, no_branches, branches_more, and_branch, branched, Parameters}
-use Rattle.template_compiler_placed_grammar.proofs.TemplatesSound.{template_sound}
+use Rattle.template_compiler_grammar.proofs.TemplatesSound.{template_sound}
 use Rattle.template_machine_meaning.specs.Isolation.{IsName, AreNames, AreAllNames, ImportsNamesAt, ImportsNames}
 use Rattle.template_machine_meaning.specs.Meaning.{Standing}
 use Rattle.template_compiled.specs.Compiled.{Compiled, standing_of}

@@ -1,5 +1,5 @@
-use Rattle.template_compiler_placed_grammar.proofs.Laws.{tree_complete}
-use Rattle.template_compiler_placed_grammar.proofs.Sound.{expression_sound}
+use Rattle.template_compiler_grammar.proofs.Laws.{tree_complete}
+use Rattle.template_compiler_grammar.proofs.Sound.{expression_sound}
 use Rattle.template_compiler_grammar_laws.proofs.reads_the_grammar.Goals as goal
 
 pub returns : goal.returns

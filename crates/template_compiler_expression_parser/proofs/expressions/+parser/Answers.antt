@@ -1,14 +1,14 @@
 use Rattle.std.proofs.Common.{refl, sym, ◌∙◌, ap, rules}
 use Rattle.template_compiler_stream.specs.Signs.{level_of}
 use Rattle.template_compiler_stream.specs.Refusals.{Refused}
-use Rattle.template_compiler_placed_grammar.specs.Reader.{deeper, expression_by, items_step, negation_by, operand_by, pairs_step, power_by, terms_by, unary_by}
-use Rattle.template_compiler_placed_grammar.specs.Views.{node_of, nodes_in, placed_argument_of}
-use Rattle.template_compiler_placed_grammar.proofs.Pushes.{nodes_push}
+use Rattle.template_compiler_grammar.specs.Reader.{deeper, expression_by, items_step, negation_by, operand_by, pairs_step, power_by, terms_by, unary_by}
+use Rattle.template_compiler_grammar.specs.Views.{node_of, nodes_in, placed_argument_of}
+use Rattle.template_compiler_grammar.proofs.Pushes.{nodes_push}
 use Rattle.template_compiler_expression_parts.specs.Parsed.{RefusedStep, paired_in}
 use Rattle.template_compiler_expression_parts.proofs.Rounds.{next_operand_goes, next_operand_refused, operand_none, rounds_end, rounds_go, rounds_refused}
 use Rattle.template_compiler_expression_parser.proofs.Alone.{parsed_alone, parsed_expression_alone, parsed_sum_alone}
 use Rattle.template_compiler_expression_parser.proofs.Stays.{expression_goes, expression_refused, expression_stays, negation_goes, negation_refused, negation_stays, no_word, operators_end, power_goes, power_refused, power_stays, sum_goes, sum_refused, sum_stays, unary_goes, unary_refused, unary_stays}
-use Rattle.template_compiler_placed_grammar.proofs.Sound.{operands_fall, parts_fall, filters_fall, links_fall}
+use Rattle.template_compiler_grammar.proofs.Sound.{operands_fall, parts_fall, filters_fall, links_fall}
 use Rattle.template_compiler_expression_parser.proofs.Falls.{items_fall, pairs_fall, arguments_fall}
 use Rattle.template_compiler_expression_parser.proofs.Items.{argument_goes, item_goes, item_refused, item_unseparated, key_refused, pair_goes, pair_unseparated, value_refused}
 use Rattle.template_compiler_expression_parser.proofs.Subscripts.{item_read}

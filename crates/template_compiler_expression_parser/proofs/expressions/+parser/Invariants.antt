@@ -1,7 +1,7 @@
 use Rattle.std.proofs.Common.{◌≡◌, ℕ, ◌+◌, ◌*◌, length}
-use Rattle.template_compiler_placed_grammar.specs.Nodes.{no_placed_links, no_placed_pairs, no_placed_written}
-use Rattle.template_compiler_placed_grammar.specs.Views.{node_of, nodes_in, placed_links_in}
-use Rattle.template_compiler_placed_grammar.specs.Reader.{deeper, expression_by, operand_by, operand_step, part_step, filter_step, link_step, terms_by, items_step, pairs_step, arguments_step}
+use Rattle.template_compiler_grammar.specs.Nodes.{no_placed_links, no_placed_pairs, no_placed_written}
+use Rattle.template_compiler_grammar.specs.Views.{node_of, nodes_in, placed_links_in}
+use Rattle.template_compiler_grammar.specs.Reader.{deeper, expression_by, operand_by, operand_step, part_step, filter_step, link_step, terms_by, items_step, pairs_step, arguments_step}
 use Rattle.template_compiler_grammar.specs.Words.{Level, factors, texts, terms, conjunction, disjunction}
 use Rattle.template_compiler_tokens.specs.Steps.{all}
 use Rattle.template_compiler_stream.specs.Signs.{level_of}

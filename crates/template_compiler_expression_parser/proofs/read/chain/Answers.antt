@@ -1,5 +1,5 @@
 use Rattle.std.proofs.Common.{◌∙◌}
-use Rattle.template_compiler_placed_grammar.specs.Views.{node_of, optional_node_in}
+use Rattle.template_compiler_grammar.specs.Views.{node_of, optional_node_in}
 use Rattle.template_compiler_expression_parser.proofs.Chains.{chain_more}
 use Rattle.template_compiler_expression_parser.proofs.read.chain.Goals as goal
 

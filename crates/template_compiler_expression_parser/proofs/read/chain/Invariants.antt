@@ -1,6 +1,6 @@
 use Rattle.std.proofs.Common.{◌≡◌, length}
-use Rattle.template_compiler_placed_grammar.specs.Reader.{deeper, chain_step}
-use Rattle.template_compiler_placed_grammar.specs.Views.{optional_node_in}
+use Rattle.template_compiler_grammar.specs.Reader.{deeper, chain_step}
+use Rattle.template_compiler_grammar.specs.Views.{optional_node_in}
 use Rattle.template_compiler_tokens.specs.Steps.{all}
 use Rattle.template_compiler_expression_parser.proofs.read.chain.Given as goal
 

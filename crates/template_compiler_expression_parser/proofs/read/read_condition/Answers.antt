@@ -1,4 +1,4 @@
-use Rattle.template_compiler_placed_grammar.specs.Reader.{condition_at}
+use Rattle.template_compiler_grammar.specs.Reader.{condition_at}
 use Rattle.template_compiler_expression_parser.proofs.Trees.{condition_tree}
 use Rattle.template_compiler_expression_parser.proofs.read.read_condition.Goals as goal
 

@@ -1,4 +1,4 @@
-use Rattle.template_compiler_placed_grammar.specs.Reader.{expression_at}
+use Rattle.template_compiler_grammar.specs.Reader.{expression_at}
 use Rattle.template_compiler_expression_parser.proofs.Trees.{expression_tree}
 use Rattle.template_compiler_expression_parser.proofs.read.read_expression.Goals as goal
 

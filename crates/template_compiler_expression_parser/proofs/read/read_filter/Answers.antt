@@ -1,5 +1,5 @@
-use Rattle.template_compiler_placed_grammar.specs.Reader.{filter_at}
-use Rattle.template_compiler_placed_grammar.specs.Views.{optional_node_in}
+use Rattle.template_compiler_grammar.specs.Reader.{filter_at}
+use Rattle.template_compiler_grammar.specs.Views.{optional_node_in}
 use Rattle.template_compiler_expression_parser.proofs.Trees.{filter_tree}
 use Rattle.template_compiler_expression_parser.proofs.read.read_filter.Goals as goal
 

@@ -1,4 +1,4 @@
-use Rattle.template_compiler_placed_grammar.specs.Views.{optional_node_in}
+use Rattle.template_compiler_grammar.specs.Views.{optional_node_in}
 use Rattle.template_compiler_expression_parser.proofs.Trees.{chain_tree}
 use Rattle.template_compiler_expression_parser.proofs.read.read_filter_chain.Goals as goal
 

@@ -1,4 +1,4 @@
-use Rattle.template_compiler_placed_grammar.specs.Views.{node_of}
+use Rattle.template_compiler_grammar.specs.Views.{node_of}
 use Rattle.template_compiler_expression_parts.proofs.Rounds.{dot_at, dot_named}
 use Rattle.template_compiler_expression_parts.proofs.literals.attribute.Goals as goal
 

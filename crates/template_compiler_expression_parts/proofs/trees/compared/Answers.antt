@@ -1,5 +1,5 @@
 use Rattle.std.proofs.Common.{rules, ◌<◌, length}
-use Rattle.template_compiler_placed_grammar.specs.Views.{node_of}
+use Rattle.template_compiler_grammar.specs.Views.{node_of}
 use Rattle.template_compiler_expression_parts.proofs.Pushes.{compared_held}
 use Rattle.template_compiler_expression_parts.proofs.trees.compared.Goals as goal
 

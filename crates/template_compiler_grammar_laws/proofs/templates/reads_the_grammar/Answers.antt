@@ -1,5 +1,5 @@
-use Rattle.template_compiler_placed_grammar.proofs.TemplateLaws.{tree_complete}
-use Rattle.template_compiler_placed_grammar.proofs.TemplatesSound.{template_sound, template_blamed}
+use Rattle.template_compiler_grammar.proofs.TemplateLaws.{tree_complete}
+use Rattle.template_compiler_grammar.proofs.TemplatesSound.{template_sound, template_blamed}
 use Rattle.template_compiler_grammar_laws.proofs.templates.reads_the_grammar.Goals as goal
 
 pub returns : goal.returns

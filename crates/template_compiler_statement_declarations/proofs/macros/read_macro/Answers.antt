@@ -1,6 +1,6 @@
 use Rattle.std.proofs.Common.{◌∙◌, sym, subst}
 use Rattle.template_compiler_tokens.specs.Token.{paren_open}
-use Rattle.template_compiler_placed_grammar.specs.TemplateReader.{here}
+use Rattle.template_compiler_grammar.specs.TemplateReader.{here}
 use Rattle.template_compiler_statement_parts.specs.Parsed.{ParsedAs}
 use Rattle.template_compiler_statement_declarations.specs.Heads.{macro_of}
 use Rattle.template_compiler_statement_declarations.proofs.Named.{macro_free, macro_reserved, skipped}

@@ -1,5 +1,5 @@
 use Rattle.std.proofs.Common.{◌≡◌, vec_len}
-use Rattle.template_compiler_placed_grammar.specs.TemplateNodes.{branched_node}
+use Rattle.template_compiler_grammar.specs.TemplateNodes.{branched_node}
 use Rattle.template_compiler_statement_makers.specs.Listed.{statement_nodes_in}
 use Rattle.template_compiler_statement_makers.specs.Branches.{branches_in}
 use Rattle.template_compiler_statement_makers.proofs.ends.branched.Given as goal

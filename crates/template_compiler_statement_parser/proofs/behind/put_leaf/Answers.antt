@@ -1,5 +1,5 @@
 use Rattle.std.proofs.Common.{rules}
-use Rattle.template_compiler_placed_grammar.specs.TemplateReader.{here, opened_by}
+use Rattle.template_compiler_grammar.specs.TemplateReader.{here, opened_by}
 use Rattle.template_compiler_statement_makers.specs.Listed.{statement_nodes_in}
 use Rattle.template_compiler_statement_makers.specs.Surroundings.{around_of}
 use Rattle.template_compiler_statement_parts.specs.Parsed.{RefusedStep}

@@ -1,5 +1,5 @@
 use Rattle.std.proofs.Common.{rules}
-use Rattle.template_compiler_placed_grammar.specs.TemplateReader.{here, print_by}
+use Rattle.template_compiler_grammar.specs.TemplateReader.{here, print_by}
 use Rattle.template_compiler_statement_makers.specs.Listed.{statement_nodes_in}
 use Rattle.template_compiler_statement_parts.specs.Parsed.{RefusedStep}
 use Rattle.template_compiler_statement_parser.specs.Bodies.{put_behind}

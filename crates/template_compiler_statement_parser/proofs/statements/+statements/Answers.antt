@@ -3,9 +3,9 @@ use Rattle.template_compiler_tokens.specs.Steps.{all}
 use Rattle.template_compiler_tokens.proofs.Loops.{then_goes}
 use Rattle.template_tree_statements.specs.declared.statements.Stmt.TheVariants.{Block, IfCond}
 use Rattle.template_compiler_grammar.specs.TemplateGrammar.{macro_around}
-use Rattle.template_compiler_placed_grammar.specs.TemplateNodes.{auto_escape_node, call_block_node, filter_block_node, macro_node, with_node}
-use Rattle.template_compiler_placed_grammar.specs.TemplateReader.{autoescape_by, block_by, branch_by, branch_step, call_by, else_by, filter_block_by, for_by, here, here_by, if_by, macro_by, opened_by, set_by, statement_step, statements_at, statements_by, with_by}
-use Rattle.template_compiler_placed_grammar.specs.Views.{statement_node_of}
+use Rattle.template_compiler_grammar.specs.TemplateNodes.{auto_escape_node, call_block_node, filter_block_node, macro_node, with_node}
+use Rattle.template_compiler_grammar.specs.TemplateReader.{autoescape_by, block_by, branch_by, branch_step, call_by, else_by, filter_block_by, for_by, here, here_by, if_by, macro_by, opened_by, set_by, statement_step, statements_at, statements_by, with_by}
+use Rattle.template_compiler_grammar.specs.Views.{statement_node_of}
 use Rattle.template_compiler_stream.specs.Refusals.{Refused}
 use Rattle.template_compiler_statement_parts.specs.Parsed.{ParsedAs, ParsedInto, RefusedStep, SteppedTo}
 use Rattle.template_compiler_statement_parts.proofs.Rounds.{rounds_end, rounds_go, rounds_refused}
@@ -17,7 +17,7 @@ use Rattle.template_compiler_statement_parser.specs.Kinds.{parent_opening}
 use Rattle.template_compiler_statement_declarations.specs.Heads.{block_rest, set_over, set_rest}
 use Rattle.template_compiler_statement_loops.specs.Heads.{for_rest}
 use Rattle.template_compiler_statement_parser.specs.Bodies.{ParsedStatement, PutBehind, if_rest, put_behind}
-use Rattle.template_compiler_placed_grammar.proofs.TemplatesSound.{branches_fall, statements_fall}
+use Rattle.template_compiler_grammar.proofs.TemplatesSound.{branches_fall, statements_fall}
 use Rattle.template_compiler_statement_parser.proofs.Less.{body_less}
 use Rattle.template_compiler_statement_parser.proofs.Made.{alone_fails, behind, behind_fails, body_fails, body_made, branch_made, branches_fail, else_body_fails, else_ended, else_fails, else_read, else_tag_fails, for_body_fails, for_else_fails, for_made, head_fails, if_behind, if_made, if_whole, rest_made, set_body_fails, set_body_made, set_opened, set_read}
 use Rattle.template_compiler_statement_parser.proofs.Next.{tag_here, text_put}

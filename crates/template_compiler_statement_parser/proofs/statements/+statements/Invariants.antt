@@ -1,8 +1,8 @@
 use Rattle.std.proofs.Common.{◌≡◌, ◌+◌, ◌*◌, length}
 use Rattle.template_compiler_statement_makers.specs.Listed.{statement_nodes_in}
 use Rattle.template_compiler_tokens.specs.Steps.{all}
-use Rattle.template_compiler_placed_grammar.specs.TemplateNodes.{no_placed_branches}
-use Rattle.template_compiler_placed_grammar.specs.TemplateReader.{here, statement_step, branch_step}
+use Rattle.template_compiler_grammar.specs.TemplateNodes.{no_placed_branches}
+use Rattle.template_compiler_grammar.specs.TemplateReader.{here, statement_step, branch_step}
 use Rattle.template_compiler_statement_makers.specs.Surroundings.{around_of}
 use Rattle.template_compiler_statement_makers.specs.Branches.{branches_in}
 use Rattle.template_compiler_statement_parser.proofs.statements.+statements.Given as goal

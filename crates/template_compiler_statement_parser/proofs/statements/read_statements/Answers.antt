@@ -1,6 +1,6 @@
 use Rattle.std.proofs.Common.{sym, ap, ◌∙◌}
 use Rattle.template_compiler_tokens.specs.Steps.{all}
-use Rattle.template_compiler_placed_grammar.specs.TemplateReader.{here, statement_step, statements_at, statements_by}
+use Rattle.template_compiler_grammar.specs.TemplateReader.{here, statement_step, statements_at, statements_by}
 use Rattle.template_compiler_statement_makers.specs.Listed.{statement_nodes_in}
 use Rattle.template_compiler_statement_makers.specs.Surroundings.{around_of}
 use Rattle.template_compiler_statement_parser.proofs.statements.read_statements.Goals as goal

@@ -1,5 +1,5 @@
 use Rattle.std.proofs.Common.{◌∙◌}
-use Rattle.template_compiler_placed_grammar.proofs.TemplatesSound.{imports_fall}
+use Rattle.template_compiler_grammar.proofs.TemplatesSound.{imports_fall}
 use Rattle.template_compiler_statement_parts.proofs.Rounds.{rounds_end, rounds_go, rounds_refused}
 use Rattle.template_compiler_statement_parts.proofs.imports.all_imported.Goals as goal
 

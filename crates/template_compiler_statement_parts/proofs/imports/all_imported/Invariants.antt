@@ -1,8 +1,8 @@
 use Rattle.std.proofs.Common.{◌≡◌, length}
 use Rattle.template_compiler_tokens.specs.Steps.{all}
 use Rattle.template_compiler_grammar.specs.TemplateReaderParts.{more_step}
-use Rattle.template_compiler_placed_grammar.specs.TemplateReader.{import_by}
-use Rattle.template_compiler_placed_grammar.specs.Views.{placed_imports_in}
+use Rattle.template_compiler_grammar.specs.TemplateReader.{import_by}
+use Rattle.template_compiler_grammar.specs.Views.{placed_imports_in}
 use Rattle.template_compiler_statement_parts.proofs.imports.all_imported.Given as goal
 
 abbrev pub invariant-loop-refusal : goal.invariant-loop-refusal

@@ -1,8 +1,8 @@
 use Rattle.std.proofs.Common.{◌-◌, sym, ◌∙◌, subst, arith}
-use Rattle.template_compiler_placed_grammar.specs.TemplateReader.{inner_targets}
-use Rattle.template_compiler_placed_grammar.specs.Views.{node_of}
+use Rattle.template_compiler_grammar.specs.TemplateReader.{inner_targets}
+use Rattle.template_compiler_grammar.specs.Views.{node_of}
 use Rattle.template_compiler_statement_parts.specs.Parsed.{ParsedNode}
-use Rattle.template_compiler_placed_grammar.proofs.TemplatesSound.{targets_fall}
+use Rattle.template_compiler_grammar.proofs.TemplatesSound.{targets_fall}
 use Rattle.template_compiler_statement_parts.proofs.Placed.{alone, inner_less}
 use Rattle.template_compiler_statement_parts.proofs.Rounds.{rounds_end, rounds_go, rounds_refused}
 use Rattle.template_compiler_statement_parts.proofs.targets.+targets.Goals as goal

@@ -1,8 +1,8 @@
 use Rattle.std.proofs.Common.{◌≡◌, ◌+◌, ◌*◌, length}
 use Rattle.template_compiler_tokens.specs.Steps.{all}
 use Rattle.template_compiler_grammar.specs.TemplateReaderParts.{more_step}
-use Rattle.template_compiler_placed_grammar.specs.TemplateReader.{one_target_by, inner_targets}
-use Rattle.template_compiler_placed_grammar.specs.Views.{nodes_in}
+use Rattle.template_compiler_grammar.specs.TemplateReader.{one_target_by, inner_targets}
+use Rattle.template_compiler_grammar.specs.Views.{nodes_in}
 use Rattle.template_compiler_statement_parts.proofs.targets.+targets.Given as goal
 
 abbrev pub decreases-read_target : goal.decreases-read_target

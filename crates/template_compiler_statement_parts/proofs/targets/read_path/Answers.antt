@@ -1,5 +1,5 @@
 use Rattle.std.proofs.Common.{refl, sym, ◌∙◌}
-use Rattle.template_compiler_placed_grammar.specs.TemplateReader.{path_step}
+use Rattle.template_compiler_grammar.specs.TemplateReader.{path_step}
 use Rattle.template_compiler_statement_parts.proofs.Placed.{path_on}
 use Rattle.template_compiler_statement_parts.proofs.Rounds.{rounds_end}
 use Rattle.template_compiler_statement_parts.proofs.targets.read_path.Goals as goal

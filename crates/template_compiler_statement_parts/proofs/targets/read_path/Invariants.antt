@@ -1,7 +1,7 @@
 use Rattle.std.proofs.Common.{◌≡◌, length}
 use Rattle.template_compiler_tokens.specs.Steps.{all}
-use Rattle.template_compiler_placed_grammar.specs.TemplateReader.{path_step}
-use Rattle.template_compiler_placed_grammar.specs.Views.{node_of}
+use Rattle.template_compiler_grammar.specs.TemplateReader.{path_step}
+use Rattle.template_compiler_grammar.specs.Views.{node_of}
 use Rattle.template_compiler_statement_parts.proofs.targets.read_path.Given as goal
 
 abbrev pub invariant-loop-part : goal.invariant-loop-part

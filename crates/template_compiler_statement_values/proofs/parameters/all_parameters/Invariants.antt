@@ -1,8 +1,8 @@
 use Rattle.std.proofs.Common.{◌≡◌, length}
 use Rattle.template_compiler_tokens.specs.Steps.{all}
 use Rattle.template_compiler_grammar.specs.TemplateReaderParts.{more_step}
-use Rattle.template_compiler_placed_grammar.specs.Reader.{expression_at}
-use Rattle.template_compiler_placed_grammar.specs.TemplateReader.{parameter_by}
+use Rattle.template_compiler_grammar.specs.Reader.{expression_at}
+use Rattle.template_compiler_grammar.specs.TemplateReader.{parameter_by}
 use Rattle.template_compiler_statement_values.specs.Written.{placed_parameters_of}
 use Rattle.template_compiler_statement_values.proofs.parameters.all_parameters.Given as goal
 

@@ -1,0 +1,5 @@
+use Rattle.template_compiler_grammar.proofs.Laws.{one_place}
+use Rattle.template_compiler_grammar.proofs.places.stands_once.Goals as goal
+
+pub returns : goal.returns
+returns c = one_place
