@@ -64,7 +64,7 @@ pub use template_compiler_codegen::{
 };
 pub use template_compiler_folding::{as_const, fold_list, fold_map, fold_tuple};
 pub use template_compiler_generator::{CodeGenerator, blocks_generate};
-pub use template_compiler_grammar_laws::templates::{is_decided, one_template, reads_the_grammar};
+pub use template_compiler_grammar::template_laws::{is_decided, one_template, reads_the_grammar};
 pub use template_compiler_numbers::{number_names, numbers_run_alike};
 pub use template_compiler_runnable::{expressions_run, templates_run};
 pub use template_compiler_source_tokens::{error_of, read_expression_tokens};

@@ -16,3 +16,5 @@ mod First
 mod Wholes
 pub mod Last
 pub mod Pushes
+pub mod GrammarLaws
+pub mod TemplateGrammarLaws

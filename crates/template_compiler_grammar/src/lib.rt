@@ -1,14 +1,17 @@
-//! The grammar of expressions and of templates over their tokens, and what a reading from left to right asks of the next token.
-//!
-//! The grammar is in `specs/Grammar.antt` and `specs/TemplateGrammar.antt`, one constructor a production. The reader stands in
-//! `template_compiler_grammar`, where its trees have their places; that it reads exactly what has a tree is proved there.
+//! The grammar of expressions and of templates over their tokens, one constructor a production; the reader of both from left to
+//! right, with the places of their nodes; and the laws that these are one: tokens are one expression, or one template, or none.
+//! The grammar is in `specs/Grammar.antt` and `specs/TemplateGrammar.antt`, the reader in `specs/Reader.antt` and
+//! `specs/TemplateReader.antt`. Here is no code but laws.
 #![tactic(auto)]
 
+pub mod template_laws;
 mod derivations;
+mod laws;
 mod places;
 mod templates;
 mod trees;
 
+pub use laws::{one_expression, is_decided, reads_the_grammar};
 pub use derivations::{stands_alone, stands_whole};
 pub use templates::{templates_read_with_places, templates_stand_once};
 pub use trees::own_span_first;

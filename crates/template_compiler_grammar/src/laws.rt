@@ -1,5 +1,4 @@
 //! Laws of the grammar: tokens are one expression, or one template, or none.
-#![tactic(auto)]
 
 ghost use Rattle.std.specs.Prelude.{◌≡◌, ℕ, ◌⊎◌, List, [], Ok, Err};
 ghost use Rattle.template_compiler_grammar.specs.Ends.{Ends};
@@ -9,7 +8,6 @@ ghost use Rattle.template_compiler_tokens.specs.Blame.{Blamed};
 ghost use Rattle.template_compiler_tokens.specs.Token.{Token, TokenFault};
 ghost use Rattle.template_tree.specs.Tree.{Expression};
 
-pub mod templates;
 
 /// A law, as the contract of a function that does nothing: from a place on, with so many nesting levels left,
 /// there is at most one expression that no token behind it goes on with, and one place where it ends.

@@ -1,6 +1,6 @@
 use Rattle.template_compiler_grammar.proofs.Laws.{tree_complete}
 use Rattle.template_compiler_grammar.proofs.Sound.{expression_sound}
-use Rattle.template_compiler_grammar_laws.proofs.reads_the_grammar.Goals as goal
+use Rattle.template_compiler_grammar.proofs.laws.reads_the_grammar.Goals as goal
 
 pub returns : goal.returns
 returns c = record {

@@ -1,5 +1,0 @@
-use Rattle.template_compiler_grammar_laws.proofs.TemplateLaws.{is_decided}
-use Rattle.template_compiler_grammar_laws.proofs.templates.is_decided.Goals as goal
-
-pub returns : goal.returns
-returns c = is_decided
