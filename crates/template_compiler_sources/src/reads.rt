@@ -2,7 +2,7 @@
 
 use std::alloc::Global;
 use template_compiler_expression_parser as parser;
-use template_compiler_statement_values::ReadsExpressions;
+use template_compiler_statement_parts::ReadsExpressions;
 use template_compiler_stream::{Refusal, TokenStream};
 use template_tree::Expr;
 

@@ -21,7 +21,7 @@ use Rattle.template_compiler_grammar.specs.TemplateNodes.{PlacedParameters, Plac
 use Rattle.template_compiler_grammar.specs.TemplateReader.{Here, target_by, more_targets_by, optional_parameters_by, set_values, body_by}
 use Rattle.template_compiler_grammar.specs.Views.{statement_node_of}
 use Rattle.template_compiler_statement_makers.specs.Begun.{set_block_of}
-use Rattle.template_compiler_statement_values.specs.Written.{placed_parameters_of}
+use Rattle.template_compiler_statement_parts.specs.Written.{placed_parameters_of}
 use Rattle.template_compiler_statement_declarations.specs.declared.blocks.BlockHead.{BlockHead}
 use Rattle.template_compiler_statement_declarations.specs.declared.macros.MacroHead.{MacroHead}
 use Rattle.template_compiler_statement_declarations.specs.declared.macros.CallHead.{CallHead}

@@ -10,10 +10,7 @@ ghost use Rattle.template_tree_statements.specs.declared.statements.Stmt.TheVari
 
 use std::alloc::{AllocError, Global};
 use template_compiler_statement_makers::makers;
-use template_compiler_statement_parts::{expect_tag_end, is_reserved};
-use template_compiler_statement_values::{
-    Parameters, ReadsExpressions, read_deeper_parameters, read_optional_parameters,
-};
+use template_compiler_statement_parts::{expect_tag_end, is_reserved, Parameters, ReadsExpressions, read_deeper_parameters, read_optional_parameters};
 use template_compiler_stream::{Fault, Refusal, Sign, TokenStream};
 use template_tree::{Call, Span, Spanned};
 use template_tree_statements::{CallBlock, Macro, Stmt};
@@ -93,7 +90,7 @@ fn read_declared<'source, R: ReadsExpressions>(
 /// # Errors
 ///
 /// The fault of the token that does not fit, or want of memory.
-#[tactic(auto, using(template_compiler_statement_values::proofs::Calls::call_here, template_compiler_statement_values::proofs::Calls::no_call, template_compiler_statement_parts::proofs::Again::tag_end_again), unfolding(template_compiler_tokens::specs::Steps::and_then, template_compiler_grammar::specs::TemplateReader::here, template_compiler_grammar::specs::TemplateReader::here_by))]
+#[tactic(auto, using(template_compiler_statement_parts::proofs::Calls::call_here, template_compiler_statement_parts::proofs::Calls::no_call, template_compiler_statement_parts::proofs::Again::tag_end_again), unfolding(template_compiler_tokens::specs::Steps::and_then, template_compiler_grammar::specs::TemplateReader::here, template_compiler_grammar::specs::TemplateReader::here_by))]
 pub fn read_call<'source, R: ReadsExpressions>(
     alloc: Global,
     tokens: &mut TokenStream<'source>,

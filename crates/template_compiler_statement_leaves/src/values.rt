@@ -6,8 +6,7 @@ ghost use Rattle.template_compiler_grammar.specs.Views.{statement_node_of};
 ghost use Rattle.template_tree_statements.specs.declared.statements.Stmt.TheVariants as statements;
 
 use std::alloc::Global;
-use template_compiler_statement_parts::{expect_print_end, expect_tag_end};
-use template_compiler_statement_values::ReadsExpressions;
+use template_compiler_statement_parts::{expect_print_end, expect_tag_end, ReadsExpressions};
 use template_compiler_stream::{Fault, Refusal, TokenStream};
 use template_tree::{Span, Spanned};
 use template_tree_statements::{Do, EmitExpr};
@@ -39,7 +38,7 @@ pub fn read_print<'source, R: ReadsExpressions>(
 /// # Errors
 ///
 /// The fault of the token that does not fit, or want of memory.
-#[tactic(auto, using(template_compiler_statement_values::proofs::Calls::call_here, template_compiler_statement_values::proofs::Calls::no_call, template_compiler_statement_parts::proofs::Again::tag_end_again), unfolding(template_compiler_tokens::specs::Steps::and_then, template_compiler_grammar::specs::TemplateReader::here, template_compiler_grammar::specs::TemplateReader::here_by, template_compiler_grammar::specs::TemplateReader::do_by))]
+#[tactic(auto, using(template_compiler_statement_parts::proofs::Calls::call_here, template_compiler_statement_parts::proofs::Calls::no_call, template_compiler_statement_parts::proofs::Again::tag_end_again), unfolding(template_compiler_tokens::specs::Steps::and_then, template_compiler_grammar::specs::TemplateReader::here, template_compiler_grammar::specs::TemplateReader::here_by, template_compiler_grammar::specs::TemplateReader::do_by))]
 pub fn read_do<'source, R: ReadsExpressions>(
     alloc: Global,
     tokens: &mut TokenStream<'source>,

@@ -137,7 +137,7 @@
 //! holds is read elsewhere, from the word that begins it to its `%}`: `template_compiler_statement_loops` reads the heads of
 //! loops, of conditions, of `with`, of `autoescape` and of filter blocks, `template_compiler_statement_declarations` those of
 //! what declares a name, and `template_compiler_statement_leaves` the statements without a body. Expressions are read through
-//! [`ReadsExpressions`](template_compiler_statement_values::ReadsExpressions), so that the two parsers stand side by side.
+//! [`ReadsExpressions`](template_compiler_statement_parts::ReadsExpressions), so that the two parsers stand side by side.
 //!
 //! # What a contract says
 //!

@@ -25,7 +25,7 @@ use template_compiler_statement_declarations::SetHead;
 use template_compiler_statement_loops as loops;
 use template_compiler_statement_makers::{Around, Opening, ends, makers, opening_named};
 use template_compiler_statement_parts as parts;
-use template_compiler_statement_values::ReadsExpressions;
+use template_compiler_statement_parts::ReadsExpressions;
 use template_compiler_stream::{Fault, Refusal, TokenStream};
 use template_tree::{Span, Spanned};
 use template_tree_statements::{

@@ -5,3 +5,9 @@ pub mod Rounds
 pub mod Placed
 pub mod Opened
 pub mod Parts
+pub mod ValueLists
+pub mod ValuesOpened
+pub mod ValuesPlaced
+pub mod ValuesStanding
+pub mod Assigned
+pub mod Calls

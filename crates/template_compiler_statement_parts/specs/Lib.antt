@@ -1,2 +1,3 @@
 pub mod Parsed
 pub mod Tags
+pub mod Written

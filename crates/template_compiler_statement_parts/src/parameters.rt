@@ -1,7 +1,7 @@
 //! The arguments that a macro or the body of a call is declared with.
 ghost use Rattle.std.specs.Prelude.{◌≡◌, [], ◌∷◌};
 ghost use Rattle.template_compiler_statement_parts.specs.Parsed.{ParsedAs, SteppedTo, ParsedInto};
-ghost use Rattle.template_compiler_statement_values.specs.Written.{parameters_of, placed_parameters_of};
+ghost use Rattle.template_compiler_statement_parts.specs.Written.{parameters_of, placed_parameters_of};
 ghost use Rattle.template_compiler_grammar.specs.TemplateReaderParts.{is_nothing, more_step};
 ghost use Rattle.template_compiler_grammar.specs.Reader.{expression_at};
 ghost use Rattle.template_compiler_grammar.specs.TemplateNodes.{no_placed_parameters};
@@ -10,7 +10,7 @@ ghost use Rattle.template_compiler_tokens.specs.Steps.{all};
 
 use crate::expressions::ReadsExpressions;
 use std::alloc::Global;
-use template_compiler_statement_parts::{expect_paren_end, put, read_stored};
+use crate::{expect_paren_end, put, read_stored};
 use template_compiler_stream::{Fault, Refusal, Sign, TokenStream};
 use template_tree::Expr;
 
@@ -39,7 +39,7 @@ fn no_parameters<'source>(alloc: Global) -> Parameters<'source>
 /// # Errors
 ///
 /// The fault of the token that does not fit, or want of memory.
-#[tactic(auto, using(crate::proofs::Placed::no_parens), unfolding(crate::proofs::Opened::optional_read))]
+#[tactic(auto, using(crate::proofs::ValuesPlaced::no_parens), unfolding(crate::proofs::ValuesOpened::optional_read))]
 pub fn read_optional_parameters<'source, R: ReadsExpressions>(
     alloc: Global,
     tokens: &mut TokenStream<'source>,
@@ -81,7 +81,7 @@ pub fn read_deeper_parameters<'source, R: ReadsExpressions>(
     }
 }
 
-#[tactic(auto, using(crate::proofs::Standing::parameters_next), unfolding(crate::proofs::Opened::parameters_read))]
+#[tactic(auto, using(crate::proofs::ValuesStanding::parameters_next), unfolding(crate::proofs::ValuesOpened::parameters_read))]
 fn read_parameters<'source, R: ReadsExpressions>(
     alloc: Global,
     tokens: &mut TokenStream<'source>,
@@ -101,7 +101,7 @@ fn read_parameters<'source, R: ReadsExpressions>(
     Ok(parameters)
 }
 
-#[tactic(auto, using(crate::proofs::Standing::parameter_next), unfolding(crate::proofs::Opened::parameter_read))]
+#[tactic(auto, using(crate::proofs::ValuesStanding::parameter_next), unfolding(crate::proofs::ValuesOpened::parameter_read))]
 fn read_parameter<'source, R: ReadsExpressions>(
     alloc: Global,
     tokens: &mut TokenStream<'source>,
@@ -125,7 +125,7 @@ fn read_parameter<'source, R: ReadsExpressions>(
     }
 }
 
-#[tactic(auto, using(crate::proofs::Lists::nothing_in))]
+#[tactic(auto, using(crate::proofs::ValueLists::nothing_in))]
 fn has_no_default<'source>(parameters: &Parameters<'source>) -> bool
     ensures { result ≡ is_nothing (parameters_of parameters.now).1 }
 {
@@ -152,7 +152,7 @@ fn all_parameters<'source, R: ReadsExpressions>(
     }
 }
 
-#[tactic(auto, using(template_compiler_statement_parts::proofs::Standing::no_more), unfolding(crate::proofs::Opened::more_read))]
+#[tactic(auto, using(crate::proofs::Standing::no_more), unfolding(crate::proofs::ValuesOpened::more_read))]
 fn next_parameter<'source, R: ReadsExpressions>(
     alloc: Global,
     tokens: &mut TokenStream<'source>,

@@ -3,8 +3,8 @@ use Rattle.template_compiler_tokens.specs.Steps.{all}
 use Rattle.template_compiler_grammar.specs.TemplateReaderParts.{more_step}
 use Rattle.template_compiler_grammar.specs.Reader.{expression_at}
 use Rattle.template_compiler_grammar.specs.TemplateReader.{parameter_by}
-use Rattle.template_compiler_statement_values.specs.Written.{placed_parameters_of}
-use Rattle.template_compiler_statement_values.proofs.parameters.all_parameters.Given as goal
+use Rattle.template_compiler_statement_parts.specs.Written.{placed_parameters_of}
+use Rattle.template_compiler_statement_parts.proofs.parameters.all_parameters.Given as goal
 
 abbrev pub invariant-loop-refusal : goal.invariant-loop-refusal
 invariant-loop-refusal g l =

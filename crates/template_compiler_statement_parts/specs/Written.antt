@@ -4,7 +4,7 @@ use Rattle.template_tree.specs.ExpressionPlaces.{places_in}
 use Rattle.template_compiler_grammar.specs.TemplateTrees.{Parameters as Declared}
 use Rattle.template_compiler_grammar.specs.Nodes.{placed}
 use Rattle.template_compiler_grammar.specs.TemplateNodes.{PlacedParameters}
-use Rattle.template_compiler_statement_values.specs.declared.parameters.Parameters.{Parameters}
+use Rattle.template_compiler_statement_parts.specs.declared.parameters.Parameters.{Parameters}
 
 abbrev pub parameters_of : Parameters → Declared
 parameters_of p = (expressions_in p.args.items, expressions_in p.defaults.items)

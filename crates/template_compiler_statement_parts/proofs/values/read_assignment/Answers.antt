@@ -1,8 +1,8 @@
 use Rattle.std.proofs.Common.{◌∙◌, Ok, ap, sym}
 use Rattle.template_compiler_grammar.specs.Views.{placed_assignments_in}
 use Rattle.template_compiler_grammar.proofs.Pushes.{placed_assignments_push}
-use Rattle.template_compiler_statement_values.proofs.Assigned.{assignment_is, put_into}
-use Rattle.template_compiler_statement_values.proofs.values.read_assignment.Goals as goal
+use Rattle.template_compiler_statement_parts.proofs.Assigned.{assignment_is, put_into}
+use Rattle.template_compiler_statement_parts.proofs.values.read_assignment.Goals as goal
 
 pub returns-clause-parsed : goal.returns-clause-parsed
 returns-clause-parsed g c =

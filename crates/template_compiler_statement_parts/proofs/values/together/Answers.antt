@@ -1,7 +1,7 @@
 use Rattle.std.proofs.Common.{rules, ◌≡◌, length}
-use Rattle.template_compiler_statement_values.proofs.Lists.{together_held}
-use Rattle.template_compiler_statement_values.proofs.values.together.Goals.{then-len-eq1+in_default, else-len-eq1}
-use Rattle.template_compiler_statement_values.proofs.values.together.Goals as goal
+use Rattle.template_compiler_statement_parts.proofs.ValueLists.{together_held}
+use Rattle.template_compiler_statement_parts.proofs.values.together.Goals.{then-len-eq1+in_default, else-len-eq1}
+use Rattle.template_compiler_statement_parts.proofs.values.together.Goals as goal
 
 pub returns : goal.returns
 returns c =

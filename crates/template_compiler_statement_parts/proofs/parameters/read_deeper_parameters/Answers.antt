@@ -1,8 +1,8 @@
 use Rattle.std.proofs.Common.{◌-◌, sym, subst, arith}
 use Rattle.template_compiler_statement_parts.specs.Parsed.{ParsedAs}
-use Rattle.template_compiler_statement_values.specs.Written.{placed_parameters_of}
-use Rattle.template_compiler_statement_values.proofs.Placed.{parameters_less}
-use Rattle.template_compiler_statement_values.proofs.parameters.read_deeper_parameters.Goals as goal
+use Rattle.template_compiler_statement_parts.specs.Written.{placed_parameters_of}
+use Rattle.template_compiler_statement_parts.proofs.ValuesPlaced.{parameters_less}
+use Rattle.template_compiler_statement_parts.proofs.parameters.read_deeper_parameters.Goals as goal
 
 pub returns-else-left-eq0-clause-parsed : goal.returns-else-left-eq0-clause-parsed
 returns-else-left-eq0-clause-parsed g c =

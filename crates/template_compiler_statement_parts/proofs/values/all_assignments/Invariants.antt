@@ -3,7 +3,7 @@ use Rattle.template_compiler_tokens.specs.Steps.{all}
 use Rattle.template_compiler_grammar.specs.TemplateReaderParts.{more_step}
 use Rattle.template_compiler_grammar.specs.TemplateReader.{assignment_by, here}
 use Rattle.template_compiler_grammar.specs.Views.{placed_assignments_in}
-use Rattle.template_compiler_statement_values.proofs.values.all_assignments.Given as goal
+use Rattle.template_compiler_statement_parts.proofs.values.all_assignments.Given as goal
 
 abbrev pub invariant-loop-refusal : goal.invariant-loop-refusal
 invariant-loop-refusal g l =

@@ -4,7 +4,7 @@ use Rattle.template_compiler_grammar.specs.TemplateReaderParts.{more_step}
 use Rattle.template_compiler_grammar.specs.Reader.{expression_at}
 use Rattle.template_compiler_grammar.specs.TemplateReader.{value_by}
 use Rattle.template_compiler_grammar.specs.Views.{nodes_in}
-use Rattle.template_compiler_statement_values.proofs.values.all_values.Given as goal
+use Rattle.template_compiler_statement_parts.proofs.values.all_values.Given as goal
 
 abbrev pub invariant-loop-refusal : goal.invariant-loop-refusal
 invariant-loop-refusal g l =

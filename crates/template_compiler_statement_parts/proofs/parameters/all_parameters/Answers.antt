@@ -1,7 +1,7 @@
 use Rattle.std.proofs.Common.{◌∙◌}
 use Rattle.template_compiler_statement_parts.proofs.Rounds.{rounds_end, rounds_go, rounds_refused}
 use Rattle.template_compiler_grammar.proofs.TemplatesSound.{parameters_fall}
-use Rattle.template_compiler_statement_values.proofs.parameters.all_parameters.Goals as goal
+use Rattle.template_compiler_statement_parts.proofs.parameters.all_parameters.Goals as goal
 
 pub returns-in-Ok-false-clause-parsed : goal.returns-in-Ok-false-clause-parsed
 returns-in-Ok-false-clause-parsed g c =

@@ -10,7 +10,7 @@ ghost use Rattle.template_compiler_tokens.specs.Steps.{all};
 
 use crate::expressions::ReadsExpressions;
 use std::alloc::{AllocError, Global};
-use template_compiler_statement_parts::{expect_assign, put, read_target};
+use crate::{expect_assign, put, read_target};
 use template_compiler_stream::{Refusal, Sign, TokenStream};
 use template_tree::{Expr, Span};
 
@@ -40,7 +40,7 @@ pub fn read_values<'source, R: ReadsExpressions>(
     together(alloc, values, tokens.expand_span(span)).map_err(Refusal::from)
 }
 
-#[tactic(auto, using(template_compiler_grammar::proofs::Pushes::nodes_push), unfolding(crate::proofs::Opened::value_read))]
+#[tactic(auto, using(template_compiler_grammar::proofs::Pushes::nodes_push), unfolding(crate::proofs::ValuesOpened::value_read))]
 fn read_value<'source, R: ReadsExpressions>(
     alloc: Global,
     tokens: &mut TokenStream<'source>,
@@ -75,7 +75,7 @@ fn all_values<'source, R: ReadsExpressions>(
     }
 }
 
-#[tactic(auto, using(template_compiler_statement_parts::proofs::Standing::no_more), unfolding(crate::proofs::Opened::more_read))]
+#[tactic(auto, using(crate::proofs::Standing::no_more), unfolding(crate::proofs::ValuesOpened::more_read))]
 fn next_value<'source, R: ReadsExpressions>(
     alloc: Global,
     tokens: &mut TokenStream<'source>,
@@ -121,7 +121,7 @@ fn together<'source>(
 /// # Errors
 ///
 /// The fault of the token that does not fit, or want of memory.
-#[tactic(auto, using(crate::proofs::Standing::assignments_next), unfolding(crate::proofs::Opened::assignments_read))]
+#[tactic(auto, using(crate::proofs::ValuesStanding::assignments_next), unfolding(crate::proofs::ValuesOpened::assignments_read))]
 pub fn read_assignments<'source, R: ReadsExpressions>(
     alloc: Global,
     tokens: &mut TokenStream<'source>,
@@ -140,7 +140,7 @@ pub fn read_assignments<'source, R: ReadsExpressions>(
     Ok(pairs)
 }
 
-#[tactic(auto, using(crate::proofs::Standing::assignment_next), unfolding(crate::proofs::Opened::assignment_read))]
+#[tactic(auto, using(crate::proofs::ValuesStanding::assignment_next), unfolding(crate::proofs::ValuesOpened::assignment_read))]
 fn read_assignment<'source, R: ReadsExpressions>(
     alloc: Global,
     tokens: &mut TokenStream<'source>,
@@ -178,7 +178,7 @@ fn all_assignments<'source, R: ReadsExpressions>(
     }
 }
 
-#[tactic(auto, using(template_compiler_statement_parts::proofs::Standing::no_more), unfolding(crate::proofs::Opened::more_read))]
+#[tactic(auto, using(crate::proofs::Standing::no_more), unfolding(crate::proofs::ValuesOpened::more_read))]
 fn next_assignment<'source, R: ReadsExpressions>(
     alloc: Global,
     tokens: &mut TokenStream<'source>,
@@ -207,7 +207,7 @@ fn next_assignment<'source, R: ReadsExpressions>(
 /// # Errors
 ///
 /// The fault of the token that does not fit, or want of memory.
-#[tactic(auto, using(crate::proofs::Placed::no_filter), unfolding(crate::proofs::Opened::filter_read))]
+#[tactic(auto, using(crate::proofs::ValuesPlaced::no_filter), unfolding(crate::proofs::ValuesOpened::filter_read))]
 pub fn read_loop_filter<'source, R: ReadsExpressions>(
     alloc: Global,
     tokens: &mut TokenStream<'source>,
