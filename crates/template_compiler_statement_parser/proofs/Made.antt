@@ -14,8 +14,8 @@ use Rattle.template_compiler_grammar.specs.Nodes.{Node, OptionalNode, placed}
 use Rattle.template_compiler_grammar.specs.Reader.{up_to}
 use Rattle.template_compiler_grammar.specs.TemplateNodes.{PlacedBranch, PlacedBranches, PlacedStatement, PlacedStatements, branched_node, condition_node, for_node, no_placed_branches, no_placed_statements, set_block_node}
 use Rattle.template_compiler_grammar.specs.TemplateReader.{Here, body_by, branch_by, branch_step, else_by, for_by, if_by, set_by}
-use Rattle.template_compiler_statement_declarations.specs.Heads.{set_head, set_over, set_rest, set_whole}
-use Rattle.template_compiler_statement_leaves.specs.Heads.{expression_head, for_head, for_rest}
+use Rattle.template_compiler_statement_heads.specs.DeclarationHeads.{set_head, set_over, set_rest, set_whole}
+use Rattle.template_compiler_statement_heads.specs.Heads.{expression_head, for_head, for_rest}
 use Rattle.template_tree_statements.specs.declared.statements.Stmt.{Stmt}
 use Rattle.template_compiler_stream.specs.Left.{passed}
 use Rattle.template_compiler_statement_makers.specs.Listed.{statement_nodes_in}

@@ -13,8 +13,8 @@ use Rattle.template_compiler_grammar.specs.TemplateReaderParts.{expect_word, tag
 use Rattle.template_compiler_grammar.specs.Nodes.{placed, Node, no_node, given_node}
 use Rattle.template_compiler_grammar.specs.TemplateNodes.{PlacedParameters, PlacedStatement, with_node, set_block_node, auto_escape_node, filter_block_node, macro_node, call_block_node}
 use Rattle.template_compiler_grammar.specs.TemplateReader.{Here, body_by, targets_by, target_by, loop_filter_by, for_by, for_in, for_body, assignments_by, with_by, set_by, set_behind, set_body, autoescape_by, branch_by, filter_block_by, block_by, block_body, macro_by, optional_parameters_by, call_body, call_by}
-use Rattle.template_compiler_statement_leaves.specs.Heads.{for_head, expression_head, filter_head, with_head, for_rest}
-use Rattle.template_compiler_statement_declarations.specs.Heads.{block_head, declared_head, macro_head, call_head, set_targets, set_block_head, set_head, set_whole, set_over, block_rest, set_rest}
+use Rattle.template_compiler_statement_heads.specs.Heads.{for_head, expression_head, filter_head, with_head, for_rest}
+use Rattle.template_compiler_statement_heads.specs.DeclarationHeads.{block_head, declared_head, macro_head, call_head, set_targets, set_block_head, set_head, set_whole, set_over, block_rest, set_rest}
 
 -- one reading behind another, however they are put together
 through : {A B C : Type 0} (m : Read A) (k : A → List Token → Read C) (f : A → List Token → Read B) (g : B → List Token → Read C) →

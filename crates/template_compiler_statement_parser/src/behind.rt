@@ -14,7 +14,7 @@ ghost use Rattle.template_tree_statements.specs.declared.statements.Stmt.TheVari
 
 use crate::kinds::{Leaf, read_leaf};
 use std::alloc::Global;
-use template_compiler_statement_leaves::read_print;
+use template_compiler_statement_heads::read_print;
 use template_compiler_statement_makers::Around;
 use template_compiler_statement_parts::{put, ReadsExpressions};
 use template_compiler_stream::{Refusal, TokenStream};

@@ -6,7 +6,7 @@ ghost use Rattle.template_compiler_statement_parser.specs.Kinds.{kind_opening, l
 ghost use Rattle.template_compiler_grammar.specs.TemplateReader.{here, opened_by};
 
 use std::alloc::Global;
-use template_compiler_statement_leaves as leaves;
+use template_compiler_statement_heads as leaves;
 use template_compiler_statement_makers::{Around, Opening};
 use template_compiler_statement_parts::ReadsExpressions;
 use template_compiler_stream::{Refusal, TokenStream};

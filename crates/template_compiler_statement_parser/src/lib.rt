@@ -134,9 +134,9 @@
 //! nothing is given back.
 //!
 //! What calls itself stands here, in one cycle: a body is read by what reads a statement, which reads bodies. What a tag
-//! holds is read elsewhere, from the word that begins it to its `%}`: `template_compiler_statement_leaves` reads the heads of
-//! loops, of conditions, of `with`, of `autoescape` and of filter blocks, `template_compiler_statement_declarations` those of
-//! what declares a name, and `template_compiler_statement_leaves` the statements without a body. Expressions are read through
+//! holds is read elsewhere, from the word that begins it to its `%}`: `template_compiler_statement_heads` reads the heads of
+//! loops, of conditions, of `with`, of `autoescape` and of filter blocks, `template_compiler_statement_heads` those of
+//! what declares a name, and `template_compiler_statement_heads` the statements without a body. Expressions are read through
 //! [`ReadsExpressions`](template_compiler_statement_parts::ReadsExpressions), so that the two parsers stand side by side.
 //!
 //! # What a contract says

@@ -14,8 +14,8 @@ use Rattle.template_compiler_statement_makers.specs.Branches.{branch_in}
 use Rattle.template_compiler_statement_makers.specs.Listed.{statement_nodes_in}
 use Rattle.template_compiler_statement_makers.specs.Surroundings.{around_of, opening_of}
 use Rattle.template_compiler_statement_parser.specs.Kinds.{parent_opening}
-use Rattle.template_compiler_statement_declarations.specs.Heads.{block_rest, set_over, set_rest}
-use Rattle.template_compiler_statement_leaves.specs.Heads.{for_rest}
+use Rattle.template_compiler_statement_heads.specs.DeclarationHeads.{block_rest, set_over, set_rest}
+use Rattle.template_compiler_statement_heads.specs.Heads.{for_rest}
 use Rattle.template_compiler_statement_parser.specs.Bodies.{ParsedStatement, PutBehind, if_rest, put_behind}
 use Rattle.template_compiler_grammar.proofs.TemplatesSound.{branches_fall, statements_fall}
 use Rattle.template_compiler_statement_parser.proofs.Less.{body_less}

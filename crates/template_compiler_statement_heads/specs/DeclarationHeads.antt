@@ -22,11 +22,11 @@ use Rattle.template_compiler_grammar.specs.TemplateReader.{Here, target_by, more
 use Rattle.template_compiler_grammar.specs.Views.{statement_node_of}
 use Rattle.template_compiler_statement_makers.specs.Begun.{set_block_of}
 use Rattle.template_compiler_statement_parts.specs.Written.{placed_parameters_of}
-use Rattle.template_compiler_statement_declarations.specs.declared.blocks.BlockHead.{BlockHead}
-use Rattle.template_compiler_statement_declarations.specs.declared.macros.MacroHead.{MacroHead}
-use Rattle.template_compiler_statement_declarations.specs.declared.macros.CallHead.{CallHead}
-use Rattle.template_compiler_statement_declarations.specs.declared.sets.SetHead.{SetHead}
-use Rattle.template_compiler_statement_declarations.specs.declared.sets.SetHead.TheVariants as heads
+use Rattle.template_compiler_statement_heads.specs.declared.block_heads.BlockHead.{BlockHead}
+use Rattle.template_compiler_statement_heads.specs.declared.macros.MacroHead.{MacroHead}
+use Rattle.template_compiler_statement_heads.specs.declared.macros.CallHead.{CallHead}
+use Rattle.template_compiler_statement_heads.specs.declared.sets.SetHead.{SetHead}
+use Rattle.template_compiler_statement_heads.specs.declared.sets.SetHead.TheVariants as heads
 
 -- a block: its name, and whether it is required
 unfoldable pub block_head : Bool → List Token → Read (List ℕ × Bool)

@@ -1,6 +1,6 @@
 //! The heads of loops.
 ghost use Rattle.std.specs.Prelude.{◌≡◌, [], IfOk};
-ghost use Rattle.template_compiler_statement_leaves.specs.Heads.{for_head, in_end, in_head};
+ghost use Rattle.template_compiler_statement_heads.specs.Heads.{for_head, in_end, in_head};
 ghost use Rattle.template_compiler_statement_makers.specs.Begun.{loop_head};
 ghost use Rattle.template_compiler_statement_parts.specs.Parsed.{ParsedAs};
 ghost use Rattle.template_compiler_grammar.specs.TemplateReader.{here};

@@ -1,6 +1,6 @@
 //! The heads of conditions, of `with`, of `autoescape` and of filter blocks.
 ghost use Rattle.std.specs.Prelude.{◌≡◌, [], IfOk};
-ghost use Rattle.template_compiler_statement_leaves.specs.Heads.{expression_head, filter_head, with_head};
+ghost use Rattle.template_compiler_statement_heads.specs.Heads.{expression_head, filter_head, with_head};
 ghost use Rattle.template_compiler_statement_parts.specs.Parsed.{ParsedAs, ParsedNode};
 ghost use Rattle.template_compiler_grammar.specs.TemplateReaderParts.{tag_end};
 ghost use Rattle.template_compiler_grammar.specs.Nodes.{given_node};

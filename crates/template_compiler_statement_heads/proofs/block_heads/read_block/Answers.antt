@@ -2,9 +2,9 @@ use Rattle.std.proofs.Common.{rules, ◌∙◌}
 use Rattle.template_compiler_stream.specs.Refusals.{Refused}
 use Rattle.template_compiler_grammar.specs.TemplateReaderParts.{tag_end}
 use Rattle.template_compiler_statement_parts.proofs.Again.{no_again, ok_again, tag_end_again, unit}
-use Rattle.template_compiler_statement_declarations.specs.Heads.{block_head}
-use Rattle.template_compiler_statement_declarations.proofs.Named.{block_in_macro, block_outside}
-use Rattle.template_compiler_statement_declarations.proofs.blocks.read_block.Goals as goal
+use Rattle.template_compiler_statement_heads.specs.DeclarationHeads.{block_head}
+use Rattle.template_compiler_statement_heads.proofs.Named.{block_in_macro, block_outside}
+use Rattle.template_compiler_statement_heads.proofs.block_heads.read_block.Goals as goal
 
 pub returns-then-in_macro-clause-parsed : goal.returns-then-in_macro-clause-parsed
 returns-then-in_macro-clause-parsed c = block_in_macro c.args.in_macro c.in-Some.name.now c.args.tokens.now.left c.in-Some.ensures c.if-in_macro.true

@@ -1,6 +1,6 @@
 //! Blocks: their heads, and what ends them.
 ghost use Rattle.std.specs.Prelude.{◌≡◌};
-ghost use Rattle.template_compiler_statement_declarations.specs.Heads.{block_head, block_of, ended_block};
+ghost use Rattle.template_compiler_statement_heads.specs.DeclarationHeads.{block_head, block_of, ended_block};
 ghost use Rattle.template_compiler_statement_makers.specs.Listed.{statement_nodes_in, statements_in};
 ghost use Rattle.template_compiler_statement_parts.specs.Parsed.{ParsedAs};
 ghost use Rattle.template_compiler_grammar.specs.TemplateTrees.{is_block_body};

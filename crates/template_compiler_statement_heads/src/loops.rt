@@ -1,7 +1,7 @@
 //! The ends of loops.
 ghost use Rattle.std.specs.Prelude.{◌≡◌};
 ghost use Rattle.template_compiler_grammar.specs.Views.{statement_node_of};
-ghost use Rattle.template_compiler_statement_leaves.specs.Loops.{loop_end_by};
+ghost use Rattle.template_compiler_statement_heads.specs.Loops.{loop_end_by};
 ghost use Rattle.template_compiler_statement_parts.specs.Parsed.{ParsedAs};
 ghost use Rattle.template_tree.specs.Tree.{break_loop, continue_loop};
 ghost use Rattle.template_tree_statements.specs.declared.statements.Stmt.TheVariants as statements;

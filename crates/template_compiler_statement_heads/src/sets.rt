@@ -1,6 +1,6 @@
 //! The heads of `set`, which has values or a body.
 ghost use Rattle.std.specs.Prelude.{◌≡◌};
-ghost use Rattle.template_compiler_statement_declarations.specs.Heads.{set_block_head, set_head, set_head_of, set_targets};
+ghost use Rattle.template_compiler_statement_heads.specs.DeclarationHeads.{set_block_head, set_head, set_head_of, set_targets};
 ghost use Rattle.template_compiler_statement_makers.specs.Begun.{set_block_of};
 ghost use Rattle.template_compiler_statement_parts.specs.Parsed.{ParsedAs};
 ghost use Rattle.template_compiler_grammar.specs.TemplateReader.{here, set_values};

@@ -8,7 +8,7 @@ use Rattle.template_compiler_stream.specs.Skips.{SkipsSign}
 use Rattle.template_compiler_grammar.specs.TemplateWords.{is_reserved}
 use Rattle.template_compiler_grammar.specs.TemplateReaderParts.{tag_end, word_by}
 use Rattle.template_compiler_grammar.specs.TemplateReader.{Here}
-use Rattle.template_compiler_statement_declarations.specs.Heads.{block_head, declared_head, macro_head}
+use Rattle.template_compiler_statement_heads.specs.DeclarationHeads.{block_head, declared_head, macro_head}
 
 pub block_here : (in_macro : Bool) (n : List ℕ) (ts : List Token) → Some n ≡ next_word ts →
     block_head in_macro ts ≡ (if in_macro then Err bad_syntax else and_then (word_by (codes "required") (passed ts)) (λ b us. tag_end (n, b) us))

@@ -2,9 +2,9 @@ use Rattle.std.proofs.Common.{◌∙◌, sym, subst}
 use Rattle.template_compiler_tokens.specs.Token.{paren_open}
 use Rattle.template_compiler_grammar.specs.TemplateReader.{here}
 use Rattle.template_compiler_statement_parts.specs.Parsed.{ParsedAs}
-use Rattle.template_compiler_statement_declarations.specs.Heads.{macro_of}
-use Rattle.template_compiler_statement_declarations.proofs.Named.{macro_free, macro_reserved, skipped}
-use Rattle.template_compiler_statement_declarations.proofs.macros.read_macro.Goals as goal
+use Rattle.template_compiler_statement_heads.specs.DeclarationHeads.{macro_of}
+use Rattle.template_compiler_statement_heads.proofs.Named.{macro_free, macro_reserved, skipped}
+use Rattle.template_compiler_statement_heads.proofs.macros.read_macro.Goals as goal
 
 pub returns-then-is_reserved-clause-parsed : goal.returns-then-is_reserved-clause-parsed
 returns-then-is_reserved-clause-parsed g c =

@@ -1,6 +1,6 @@
 //! Macros and call blocks: their heads, and what is made of a head and a body.
 ghost use Rattle.std.specs.Prelude.{◌≡◌, IfOk};
-ghost use Rattle.template_compiler_statement_declarations.specs.Heads.{call_head, call_of, declared_head, macro_head, macro_of};
+ghost use Rattle.template_compiler_statement_heads.specs.DeclarationHeads.{call_head, call_of, declared_head, macro_head, macro_of};
 ghost use Rattle.template_compiler_statement_makers.specs.Listed.{statement_nodes_in};
 ghost use Rattle.template_compiler_statement_parts.specs.Parsed.{ParsedAs};
 ghost use Rattle.template_compiler_grammar.specs.TemplateNodes.{call_block_node, macro_node};
