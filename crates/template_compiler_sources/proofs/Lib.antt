@@ -2,3 +2,6 @@ pub mod Sources
 pub mod Placed
 pub mod Faults
 pub mod Reached
+mod Blocks
+pub mod Lists
+pub mod Seeing

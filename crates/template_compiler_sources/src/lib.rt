@@ -1,9 +1,13 @@
 //! Sources to trees: `parse` reads a template, `parse_expr` an expression.
+//!
+//! The names of a template's blocks, and whether each stands once.
 #![tactic(auto)]
 
+mod distinct;
 mod ends;
 mod expression;
 mod laws;
+mod names;
 mod parser;
 mod prefixes;
 mod reads;

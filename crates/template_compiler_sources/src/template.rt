@@ -6,7 +6,8 @@ ghost use Rattle.template_compiler_tokens.specs.Places.{stretch};
 
 use crate::reads::ExpressionParser;
 use std::alloc::Global;
-use template_compiler_block_names::{are_distinct, block_names};
+use crate::distinct::are_distinct;
+use crate::names::block_names;
 use template_compiler_statement_makers::Around;
 use template_compiler_statement_parser::read_statements;
 use template_compiler_stream::{Fault, Refusal, TokenStream};

@@ -1,5 +1,5 @@
 use Rattle.std.proofs.Common.{rules, ◌≡◌, false, sym, ◌∙◌}
-use Rattle.template_compiler_block_names.specs.Waiting.{texts_in}
+use Rattle.template_compiler_sources.specs.Waiting.{texts_in}
 use Rattle.template_compiler_statement_makers.specs.Listed.{statement_nodes_in, statements_in}
 use Rattle.template_compiler_grammar.specs.TemplateTrees.{are_distinct, blocks_among}
 use Rattle.template_compiler_sources.proofs.Sources.{whole_twice}

@@ -1,7 +1,7 @@
 //! The names of the blocks among statements.
 ghost use Rattle.std.specs.Prelude.{◌≡◌, ◌++◌, true, IfOk, refl};
-ghost use Rattle.template_compiler_block_names.specs.Own.{own_name};
-ghost use Rattle.template_compiler_block_names.specs.Waiting.{texts_in};
+ghost use Rattle.template_compiler_sources.specs.Own.{own_name};
+ghost use Rattle.template_compiler_sources.specs.Waiting.{texts_in};
 ghost use Rattle.template_compiler_statement_makers.specs.Listed.{statements_in};
 ghost use Rattle.template_compiler_grammar.specs.TemplateTrees.{blocks_among};
 ghost use Rattle.template_tree_parts.specs.Kinds.{is_block};

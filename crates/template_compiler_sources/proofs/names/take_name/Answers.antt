@@ -5,11 +5,11 @@ use Rattle.template_tree_statements.specs.declared.statements.Block.{Block as Bl
 use Rattle.template_tree_statements.specs.declared.statements.Stmt.{Stmt}
 use Rattle.template_tree_parts.proofs.Others.{no_block}
 use Rattle.template_tree_parts.proofs.BodyTrees.{block_tree}
-use Rattle.template_compiler_block_names.specs.Own.{own_name}
-use Rattle.template_compiler_block_names.specs.Waiting.{texts_in}
-use Rattle.template_compiler_block_names.proofs.Blocks.{none_picked}
-use Rattle.template_compiler_block_names.proofs.Lists.{texts_push}
-use Rattle.template_compiler_block_names.proofs.names.take_name.Goals as goal
+use Rattle.template_compiler_sources.specs.Own.{own_name}
+use Rattle.template_compiler_sources.specs.Waiting.{texts_in}
+use Rattle.template_compiler_sources.proofs.Blocks.{none_picked}
+use Rattle.template_compiler_sources.proofs.Lists.{texts_push}
+use Rattle.template_compiler_sources.proofs.names.take_name.Goals as goal
 
 pub returns-in_ok-push-in-Block : goal.returns-in_ok-push-in-Block
 returns-in_ok-push-in-Block c =

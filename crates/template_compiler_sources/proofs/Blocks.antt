@@ -10,7 +10,7 @@ use Rattle.template_tree_parts.specs.Within.{joined, picked_among}
 use Rattle.template_tree_parts.proofs.Picked.{said}
 use Rattle.template_compiler_statement_makers.specs.Listed.{statements_in}
 use Rattle.template_compiler_grammar.specs.TemplateTrees.{blocks_in, blocks_among}
-use Rattle.template_compiler_block_names.specs.Own.{own_name}
+use Rattle.template_compiler_sources.specs.Own.{own_name}
 
 own_first : (s : Statement) → blocks_in s ≡ own_name s ++ (blocks_among (body_in s) ++ blocks_among (other_in s))
 own_first (template body) = sym (append-nil (blocks_among body))

@@ -1,7 +1,7 @@
 //! Names that differ from one another.
 ghost use Rattle.std.specs.Prelude.{◌≡◌, ◌||◌, List, ℕ, not, bytes_eq, IfOk};
-ghost use Rattle.template_compiler_block_names.specs.Seen.{has_seen};
-ghost use Rattle.template_compiler_block_names.specs.Waiting.{texts_in};
+ghost use Rattle.template_compiler_sources.specs.Seen.{has_seen};
+ghost use Rattle.template_compiler_sources.specs.Waiting.{texts_in};
 ghost use Rattle.template_compiler_grammar.specs.TemplateTrees.{are_distinct};
 
 use std::alloc::{AllocError, Global};

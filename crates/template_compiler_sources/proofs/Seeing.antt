@@ -7,9 +7,9 @@ use Rattle.std.specs.BTreeMap.{is_at}
 use Rattle.std.specs.BTreeSet.{BTreeSet}
 use Rattle.std.specs.Ordering.{nat_cmp}
 use Rattle.std.specs.Cmp.Lexicographic.{slice_cmp}
-use Rattle.template_compiler_block_names.specs.Seen.{has_seen}
+use Rattle.template_compiler_sources.specs.Seen.{has_seen}
 use Rattle.template_compiler_grammar.specs.TemplateTrees.{are_distinct}
-use Rattle.template_compiler_block_names.specs.Waiting.{texts_in}
+use Rattle.template_compiler_sources.specs.Waiting.{texts_in}
 
 exchanged : (a b c d : Bool) → ((a || b) || (c || d)) ≡ ((a || c) || (b || d))
 exchanged true b c d = refl

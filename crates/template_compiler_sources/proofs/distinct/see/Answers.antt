@@ -2,9 +2,9 @@ use Rattle.std.proofs.Common.{◌≡◌, ℕ, Bool, true, false, cond, ◌||◌,
 use Rattle.std.specs.Ordering.{is_eq, nat_cmp}
 use Rattle.std.specs.Cmp.Lexicographic.{slice_cmp}
 use Rattle.std.proofs.lemmas.Map.Text.{is_eq-slice_cmp}
-use Rattle.template_compiler_block_names.specs.Seen.{has_seen}
-use Rattle.template_compiler_block_names.proofs.Seeing.{turned}
-use Rattle.template_compiler_block_names.proofs.distinct.see.Goals as goal
+use Rattle.template_compiler_sources.specs.Seen.{has_seen}
+use Rattle.template_compiler_sources.proofs.Seeing.{turned}
+use Rattle.template_compiler_sources.proofs.distinct.see.Goals as goal
 
 cond_or : (test before : Bool) → cond test true before ≡ (test || before)
 cond_or true before = refl

@@ -1,10 +1,10 @@
 use Rattle.std.proofs.Common.{◌<◌, ◌≤◌, length, [], ◌++◌, append_assoc, append-nil, arith, ap, ◌∙◌}
 use Rattle.template_tree_parts.specs.Within.{joined}
 use Rattle.template_tree_parts.proofs.Picked.{all_done, one_more}
-use Rattle.template_compiler_block_names.specs.Own.{own_name}
-use Rattle.template_compiler_block_names.specs.Waiting.{texts_in}
-use Rattle.template_compiler_block_names.proofs.Blocks.{names_of}
-use Rattle.template_compiler_block_names.proofs.names.block_names.Goals as goal
+use Rattle.template_compiler_sources.specs.Own.{own_name}
+use Rattle.template_compiler_sources.specs.Waiting.{texts_in}
+use Rattle.template_compiler_sources.proofs.Blocks.{names_of}
+use Rattle.template_compiler_sources.proofs.names.block_names.Goals as goal
 
 pub loop-i-preserved : goal.loop-i-preserved
 loop-i-preserved c =

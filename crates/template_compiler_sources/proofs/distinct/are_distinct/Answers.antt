@@ -1,8 +1,8 @@
 use Rattle.std.proofs.Common.{length, ◌<◌, ◌+◌, arith}
 use Rattle.std.proofs.Math.Seq.{drop-cons}
-use Rattle.template_compiler_block_names.specs.Seen.{has_seen}
-use Rattle.template_compiler_block_names.proofs.Seeing.{kept, twice, at_first, unseen}
-use Rattle.template_compiler_block_names.proofs.distinct.are_distinct.Goals as goal
+use Rattle.template_compiler_sources.specs.Seen.{has_seen}
+use Rattle.template_compiler_sources.proofs.Seeing.{kept, twice, at_first, unseen}
+use Rattle.template_compiler_sources.proofs.distinct.are_distinct.Goals as goal
 
 pub loop-name-init : goal.loop-name-init
 loop-name-init c = at_first (λ q. has_seen c.new-seen.result q) (λ q. unseen c.new-seen.result c.new-seen.ensures.empty q) c.args.names.now

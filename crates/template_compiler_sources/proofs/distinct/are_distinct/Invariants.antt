@@ -1,9 +1,9 @@
 use Rattle.std.proofs.Common.{◌≡◌, ◌&&◌, not, drop}
 use Rattle.std.specs.List.{list_any}
 use Rattle.template_compiler_grammar.specs.TemplateTrees.{are_distinct}
-use Rattle.template_compiler_block_names.specs.Seen.{has_seen}
-use Rattle.template_compiler_block_names.specs.Waiting.{texts_in}
-use Rattle.template_compiler_block_names.proofs.distinct.are_distinct.Given as goal
+use Rattle.template_compiler_sources.specs.Seen.{has_seen}
+use Rattle.template_compiler_sources.specs.Waiting.{texts_in}
+use Rattle.template_compiler_sources.proofs.distinct.are_distinct.Given as goal
 
 -- whether those that are left differ from one another and from those that were seen
 abbrev pub invariant-loop-name : goal.invariant-loop-name

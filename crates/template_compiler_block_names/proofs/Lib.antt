@@ -1,3 +1,0 @@
-mod Blocks
-pub mod Lists
-pub mod Seeing
