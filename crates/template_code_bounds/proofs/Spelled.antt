@@ -3,7 +3,7 @@ use Rattle.std.proofs.Common.{◌≤◌, ℕ, suc, List, length, arith, length-d
 use Rattle.template_compiler_tokens.specs.Token.{Token}
 use Rattle.template_compiler_tokens.specs.Lexical.{token_at}
 use Rattle.template_code_bounds.proofs.Weights.{weight, takes_weight}
-use Rattle.template_compiler_source_tokens.specs.Spelled.{IsSpelled, spelled_end, spelled_blank, spelled_token, spelled_bad}
+use Rattle.template_compiler_sources.specs.Spelled.{IsSpelled, spelled_end, spelled_blank, spelled_token, spelled_bad}
 
 pub spelled_bound : {s : List ℕ} {ts : List Token} → IsSpelled s ts → weight ts ≤ suc (length s)
 spelled_bound spelled_end = omega arith

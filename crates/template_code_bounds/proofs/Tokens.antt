@@ -18,7 +18,7 @@ use Rattle.template_compiler_syntax.specs.Segments.{IsNextStart, inside_from, st
 use Rattle.template_compiler_syntax.specs.Stripping.{stripped_from, stripped_to, with_data, with_stripped, next_edge, stripped}
 use Rattle.template_compiler_syntax.specs.Flat.{tokens_of, template_text, IsTokens, source_tokens}
 use Rattle.template_compiler_syntax.proofs.Data.{less_blanks_le}
-use Rattle.template_compiler_source_tokens.specs.Scoped.{after, is_scoped, taken_words, unscoped}
+use Rattle.template_compiler_sources.specs.Scoped.{after, is_scoped, taken_words, unscoped}
 use Rattle.template_code_bounds.proofs.Weights.{weight, weight-append, takes_weight}
 
 -- one more than what is left, where something is left

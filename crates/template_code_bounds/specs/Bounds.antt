@@ -7,8 +7,8 @@ use Rattle.template_walk.specs.Blocks.{Block, blocks_in}
 use Rattle.template_compiler_tokens.specs.Token.{Token}
 use Rattle.template_compiler_syntax.specs.Syntax.{Syntax, IsUsable}
 use Rattle.template_compiler_syntax.specs.Flat.{IsTokens}
-use Rattle.template_compiler_source_tokens.specs.Scoped.{taken_words}
-use Rattle.template_compiler_source_tokens.specs.Spelled.{IsSpelled}
+use Rattle.template_compiler_sources.specs.Scoped.{taken_words}
+use Rattle.template_compiler_sources.specs.Spelled.{IsSpelled}
 use Rattle.template_compiler_grammar.specs.Grammar.{IsExpression}
 use Rattle.template_compiler_grammar.specs.TemplateGrammar.{IsTemplate}
 use Rattle.template_compiler_codegen.specs.Statements.{template_code, standalone_code}

@@ -12,7 +12,7 @@ use Rattle.template_code.specs.Code.{Code}
 use Rattle.template_compiler_codegen.specs.Statements.{standalone_code}
 use Rattle.template_compiler_numbers.specs.Numbers.{numbered_in}
 use Rattle.template_compiler_tokens.specs.Token.{Token}
-use Rattle.template_compiler_source_tokens.proofs.Spelling.{one_spelled, some_spelled}
+use Rattle.template_compiler_sources.proofs.Spelling.{one_spelled, some_spelled}
 use Rattle.template_compiler_grammar.specs.TreeReader.{expression_at}
 use Rattle.template_compiler_grammar.proofs.Laws.{tree_complete}
 use Rattle.template_compiler_grammar.proofs.Sound.{expression_sound}

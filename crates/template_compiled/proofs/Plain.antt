@@ -6,7 +6,7 @@ use Rattle.template_compiler_syntax.specs.Flat.{plain_tokens}
 use Rattle.template_compiler_syntax.proofs.Theorems.{plain_text}
 use Rattle.template_compiler_grammar.specs.TemplateGrammar.{IsTemplate, whole_template, statements_end, statements_next, text_statement}
 use Rattle.template_compiler_syntax.specs.Syntax.{Syntax, IsUsable}
-use Rattle.template_compiler_source_tokens.specs.Scoped.{taken_words}
+use Rattle.template_compiler_sources.specs.Scoped.{taken_words}
 use Rattle.template_compiler_sources.specs.Source.{IsSource, RefusesSource, source_of}
 use Rattle.template_compiled.specs.Plain.{IsPlain, StandsForItself, text_kept, text_tree}
 use Rattle.template_compiled.specs.Sources.{Source, HasNoRoom, IsRefusedWith}

@@ -10,7 +10,7 @@ use Rattle.template_compiler_syntax.proofs.Theorems.{one_tokens, some_tokens}
 use Rattle.template_compiler_grammar.specs.TreeReader.{template_of}
 use Rattle.template_compiler_grammar.proofs.TemplateLaws.{tree_complete}
 use Rattle.template_compiler_grammar.proofs.TemplatesSound.{template_sound}
-use Rattle.template_compiler_source_tokens.specs.Scoped.{taken_words}
+use Rattle.template_compiler_sources.specs.Scoped.{taken_words}
 use Rattle.template_compiler_sources.specs.Source.{IsSource, source_of}
 use Rattle.template_compiled.specs.Sources.{Source, read, tokens_read, tree_in}
 

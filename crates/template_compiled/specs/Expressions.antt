@@ -9,7 +9,7 @@ use Rattle.template_compiler_codegen.specs.Statements.{standalone_code}
 use Rattle.template_compiler_numbers.specs.Numbers.{numbered_in}
 use Rattle.template_compiler_tokens.specs.Steps.{Read}
 use Rattle.template_compiler_grammar.specs.TreeReader.{expression_at}
-use Rattle.template_compiler_source_tokens.proofs.Spelling.{some_spelled}
+use Rattle.template_compiler_sources.proofs.Spelling.{some_spelled}
 use Rattle.template_compiler_sources.specs.Source.{IsExpressionSource, RefusesExpression}
 use Rattle.template_compiled.specs.Sources.{HasNoRoom}
 

@@ -8,7 +8,7 @@ use Rattle.template_walk.specs.Runnable.{IsRunnableTemplate}
 use Rattle.template_compiler_tokens.specs.Token.{Token, TokenFault}
 use Rattle.template_compiler_syntax.specs.Syntax.{Syntax}
 use Rattle.template_compiler_syntax.proofs.Theorems.{some_tokens}
-use Rattle.template_compiler_source_tokens.specs.Scoped.{taken_words}
+use Rattle.template_compiler_sources.specs.Scoped.{taken_words}
 use Rattle.template_compiler_grammar.specs.TreeReader.{template_of}
 use Rattle.template_compiler_sources.specs.Source.{IsSource, RefusesSource}
 use Rattle.template_machine_surroundings.specs.declared.escape.EscapeRule.{EscapeRule}

@@ -26,8 +26,8 @@ pub use Rattle.template_compiler_grammar.specs.TreeReader
 pub use Rattle.template_compiler_tokens.specs.Blame
 pub use Rattle.template_compiler_stream.specs.Left as ReadTokens
 pub use Rattle.template_compiler_stream.specs.Spans as ReadSpans
-pub use Rattle.template_compiler_source_tokens.specs.Spelled
-pub use Rattle.template_compiler_source_tokens.specs.Kinds as RefusalKinds
+pub use Rattle.template_compiler_sources.specs.Spelled
+pub use Rattle.template_compiler_sources.specs.Kinds as RefusalKinds
 pub use Rattle.template_compiler_sources.specs.Source
 pub use Rattle.template_compiler_sources.specs.Parsers
 pub use Rattle.template_names.specs.Names as UsedNames

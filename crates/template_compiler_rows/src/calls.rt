@@ -2,7 +2,7 @@
 use crate::report::Report;
 use serde_json::Value as Json;
 use std::alloc::Global;
-use template_compiler_source_tokens::{error_of, read_expression_tokens};
+use template_compiler_sources::{error_of, read_expression_tokens};
 use template_compiler_stream::{First, Level, Sign, TokenStream};
 use template_values_errors::ErrorKind;
 

@@ -5,9 +5,9 @@ use Rattle.template_compiler_tokens.specs.Token.{Token, TokenFault}
 use Rattle.template_compiler_syntax.specs.Syntax.{Syntax, IsUsable}
 use Rattle.template_compiler_syntax.specs.Flat.{IsTokens}
 use Rattle.template_compiler_syntax.proofs.Theorems.{one_tokens, some_tokens}
-use Rattle.template_compiler_source_tokens.specs.Scoped.{taken_words}
-use Rattle.template_compiler_source_tokens.specs.Spelled.{IsSpelled}
-use Rattle.template_compiler_source_tokens.proofs.Spelling.{one_spelled, some_spelled}
+use Rattle.template_compiler_sources.specs.Scoped.{taken_words}
+use Rattle.template_compiler_sources.specs.Spelled.{IsSpelled}
+use Rattle.template_compiler_sources.proofs.Spelling.{one_spelled, some_spelled}
 use Rattle.template_compiler_grammar.specs.TreeReader.{template_of}
 use Rattle.template_compiler_sources.specs.Source.{IsSource, IsFaulty, IsExpressionSource, IsFaultyExpression}
 use Rattle.template_compiler_sources.specs.Wholes.{expression_alone}

@@ -8,11 +8,11 @@ use Rattle.template_compiler_syntax.proofs.Theorems.{one_tokens}
 use Rattle.template_compiler_syntax.specs.Syntax.{Syntax, IsUsable}
 use Rattle.template_compiler_tokenizer.specs.Spans.{words_in}
 use Rattle.template_compiler_tokenizer.proofs.AllTokens.{one_spans, some_spans, words_are}
-use Rattle.template_compiler_source_tokens.specs.Scoped.{taken_spans, taken_words}
-use Rattle.template_compiler_source_tokens.specs.Spans.{token_spans}
-use Rattle.template_compiler_source_tokens.specs.Spelled.{IsSpelled, spelled_spans}
-use Rattle.template_compiler_source_tokens.proofs.LeftOut.{words_taken}
-use Rattle.template_compiler_source_tokens.proofs.Spelling.{one_spelled, one_spelling}
+use Rattle.template_compiler_sources.specs.Scoped.{taken_spans, taken_words}
+use Rattle.template_compiler_sources.specs.Spans.{token_spans}
+use Rattle.template_compiler_sources.specs.Spelled.{IsSpelled, spelled_spans}
+use Rattle.template_compiler_sources.proofs.LeftOut.{words_taken}
+use Rattle.template_compiler_sources.proofs.Spelling.{one_spelled, one_spelling}
 use Rattle.template_compiler_grammar.specs.TemplateGrammar.{IsTemplate}
 use Rattle.template_compiler_grammar.specs.Nodes.{placed, Node}
 use Rattle.template_compiler_grammar.specs.Reader.{expression_at}

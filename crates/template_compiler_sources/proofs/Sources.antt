@@ -10,15 +10,15 @@ use Rattle.template_tree_statements.specs.declared.statements.Stmt.{Template as 
 use Rattle.template_compiler_stream.specs.Refusals.{fault_of}
 use Rattle.template_compiler_stream.specs.declared.refusal.Refusal.{Refusal}
 use Rattle.template_compiler_stream.specs.declared.refusal.Refusal.TheVariants as refusals
-use Rattle.template_compiler_source_tokens.specs.Kinds.{refused_kind}
+use Rattle.template_compiler_sources.specs.Kinds.{refused_kind}
 use Rattle.template_compiler_tokens.specs.Token.{Token, TokenFault, bad_syntax}
 use Rattle.template_compiler_tokens.specs.Places.{next_span}
 use Rattle.template_compiler_tokens.specs.Steps.{Read}
 use Rattle.template_tree.specs.NodePlaces.{at}
-use Rattle.template_compiler_source_tokens.specs.Scoped.{taken_spans, taken_words}
-use Rattle.template_compiler_source_tokens.specs.Spans.{HoldsTokens, token_spans}
-use Rattle.template_compiler_source_tokens.specs.Spelled.{HoldsSpelled, IsSpelled, spelled_spans}
-use Rattle.template_compiler_source_tokens.proofs.Spelling.{one_spelled}
+use Rattle.template_compiler_sources.specs.Scoped.{taken_spans, taken_words}
+use Rattle.template_compiler_sources.specs.Spans.{HoldsTokens, token_spans}
+use Rattle.template_compiler_sources.specs.Spelled.{HoldsSpelled, IsSpelled, spelled_spans}
+use Rattle.template_compiler_sources.proofs.Spelling.{one_spelled}
 use Rattle.template_compiler_syntax.specs.Syntax.{Syntax, IsUsable}
 use Rattle.template_compiler_syntax.specs.Flat.{IsTokens}
 use Rattle.template_compiler_syntax.proofs.Theorems.{one_tokens}

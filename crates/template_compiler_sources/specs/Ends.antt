@@ -4,8 +4,8 @@ use Rattle.template_compiler_tokens.specs.Token.{Token, bad, bad_escape}
 use Rattle.template_compiler_tokens.specs.Places.{token_count}
 use Rattle.template_compiler_syntax.specs.Syntax.{Syntax}
 use Rattle.template_compiler_syntax.specs.Flat.{IsTokens}
-use Rattle.template_compiler_source_tokens.specs.Scoped.{taken_words}
-use Rattle.template_compiler_source_tokens.specs.Spelled.{IsSpelled}
+use Rattle.template_compiler_sources.specs.Scoped.{taken_words}
+use Rattle.template_compiler_sources.specs.Spelled.{IsSpelled}
 use Rattle.template_compiler_grammar.specs.TreeReader.{template_of}
 use Rattle.template_compiler_sources.specs.Wholes.{expression_alone}
 use Rattle.template_compiler_sources.specs.declared.prefixes.Text.{Text}

@@ -5,3 +5,7 @@ pub mod Ends
 pub mod Own
 pub mod Seen
 pub mod Waiting
+pub mod Kinds
+pub mod Scoped
+pub mod Spans
+pub mod Spelled

@@ -8,9 +8,9 @@ use Rattle.template_compiler_tokens.specs.Left.{kind_of}
 use Rattle.template_compiler_syntax.specs.Syntax.{Syntax}
 use Rattle.template_compiler_syntax.specs.Flat.{IsTokens}
 use Rattle.template_compiler_tokenizer.specs.Spans.{Spanned, HasSpans, words_in}
-use Rattle.template_compiler_source_tokens.specs.Scoped.{taken_spans, taken_words}
-use Rattle.template_compiler_source_tokens.specs.Spans.{token_spans}
-use Rattle.template_compiler_source_tokens.specs.Spelled.{IsSpelled, spelled_spans}
+use Rattle.template_compiler_sources.specs.Scoped.{taken_spans, taken_words}
+use Rattle.template_compiler_sources.specs.Spans.{token_spans}
+use Rattle.template_compiler_sources.specs.Spelled.{IsSpelled, spelled_spans}
 use Rattle.template_compiler_grammar.specs.Grammar.{IsExpression}
 use Rattle.template_compiler_grammar.specs.TemplateGrammar.{IsTemplate}
 use Rattle.template_compiler_grammar.specs.TreeReader.{template_of}

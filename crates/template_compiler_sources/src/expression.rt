@@ -12,7 +12,7 @@ use crate::refused::refused_at;
 use crate::template::MAX_DEPTH;
 use std::alloc::Global;
 use template_compiler_expression_parser::read_expression;
-use template_compiler_source_tokens::{error_of, read_expression_tokens};
+use crate::{error_of, read_expression_tokens};
 use template_compiler_stream::{Refusal, TokenStream};
 use template_tree::Expr;
 use template_values_errors::{Error, ErrorKind};

@@ -1,12 +1,12 @@
 //! Refusals with their places.
 ghost use Rattle.std.specs.Prelude.{◌≡◌, ◌∷◌, []};
-ghost use Rattle.template_compiler_source_tokens.specs.Kinds.{refused_kind};
+ghost use Rattle.template_compiler_sources.specs.Kinds.{refused_kind};
 
 use crate::ends::ends_at;
 use crate::prefixes::{Text, take_first};
 use std::alloc::{AllocError, Global};
 use template_compiler_tokens::{Place as Position, Token};
-use template_compiler_source_tokens::error_of;
+use crate::error_of;
 use template_compiler_stream::Refusal;
 use template_tree::Span;
 use template_values_errors::{Error, Place};

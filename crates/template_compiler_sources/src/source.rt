@@ -11,7 +11,7 @@ use crate::prefixes::Text;
 use crate::refused::refused_at;
 use crate::template::read_template;
 use std::alloc::Global;
-use template_compiler_source_tokens::{error_of, read_tokens};
+use crate::{error_of, read_tokens};
 use template_compiler_stream::{Refusal, TokenStream};
 use template_compiler_syntax::SyntaxConfig;
 use template_compiler_tokenizer::Tokenizer;

@@ -8,7 +8,7 @@ ghost use Rattle.template_program_reached.specs.Loaded.{IsLoading, after, is_loa
 ghost use Rattle.template_program_reached.specs.Views.{names_in, place_of};
 
 use std::alloc::Global;
-use template_compiler_source_tokens::read_tokens;
+use template_compiler_sources::read_tokens;
 use template_compiler_stream::{First, TokenStream};
 use template_compiler_syntax::SyntaxConfig;
 use template_compiler_tokenizer::Tokenizer;

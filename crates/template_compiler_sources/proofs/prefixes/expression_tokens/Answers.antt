@@ -1,4 +1,4 @@
-use Rattle.template_compiler_source_tokens.proofs.Spelling.{one_spelled}
+use Rattle.template_compiler_sources.proofs.Spelling.{one_spelled}
 use Rattle.template_compiler_sources.proofs.prefixes.expression_tokens.Goals as goal
 
 pub returns-in-Ok : goal.returns-in-Ok

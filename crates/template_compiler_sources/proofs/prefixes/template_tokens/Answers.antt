@@ -1,7 +1,7 @@
 use Rattle.std.proofs.Common.{◌≡◌, Bool, ap, rules, subst, sym, ◌∙◌}
 use Rattle.template_compiler_syntax.specs.Syntax.{IsUsable}
 use Rattle.template_compiler_syntax.proofs.Theorems.{one_tokens}
-use Rattle.template_compiler_source_tokens.specs.Scoped.{taken_words}
+use Rattle.template_compiler_sources.specs.Scoped.{taken_words}
 use Rattle.template_compiler_sources.proofs.prefixes.template_tokens.Goals as goal
 
 pub returns-in-Ok : goal.returns-in-Ok

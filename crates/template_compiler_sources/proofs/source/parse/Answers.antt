@@ -1,7 +1,7 @@
 use Rattle.std.proofs.Common.{◌≡◌, Bool, rules, subst}
 use Rattle.template_compiler_syntax.specs.Syntax.{IsUsable}
-use Rattle.template_compiler_source_tokens.specs.Scoped.{taken_spans, taken_words}
-use Rattle.template_compiler_source_tokens.specs.Spans.{HoldsTokens}
+use Rattle.template_compiler_sources.specs.Scoped.{taken_spans, taken_words}
+use Rattle.template_compiler_sources.specs.Spans.{HoldsTokens}
 use Rattle.template_compiler_sources.proofs.Sources.{found_places, found_whole, refused_whole}
 use Rattle.template_compiler_sources.proofs.source.parse.Goals as goal
 

@@ -2,7 +2,7 @@ use Rattle.std.proofs.Common.{◌≡◌, ℕ, List, Result, Ok, Err, IfOk}
 use Rattle.template_compiler_tokens.specs.Token.{Token}
 use Rattle.template_compiler_syntax.specs.Syntax.{Syntax}
 use Rattle.template_compiler_syntax.specs.Flat.{IsTokens}
-use Rattle.template_compiler_source_tokens.specs.Scoped.{taken_words}
+use Rattle.template_compiler_sources.specs.Scoped.{taken_words}
 use Rattle.template_compiler_stream.specs.Spans.{PlacedTokens}
 use Rattle.template_compiler_sources.specs.Ends.{TakenTokens, taken_tokens}
 use Rattle.template_compiler_sources.proofs.prefixes.Text.tokens.Goals as goal

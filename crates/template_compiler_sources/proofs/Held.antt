@@ -15,8 +15,8 @@ use Rattle.template_compiler_stream.specs.Spans.{PlacedTokens}
 use Rattle.template_compiler_tokenizer.specs.Held.{spanned_of}
 use Rattle.template_compiler_tokenizer.specs.Spans.{Spanned, words_in}
 use Rattle.template_compiler_placed_tokens.proofs.Scanned.{not_bad}
-use Rattle.template_compiler_source_tokens.specs.Spans.{token_spans, HoldsTokens}
-use Rattle.template_compiler_source_tokens.proofs.Faults.{told_fault}
+use Rattle.template_compiler_sources.specs.Spans.{token_spans, HoldsTokens}
+use Rattle.template_compiler_sources.proofs.TokenFaults.{told_fault}
 
 words_held : (ts : List (Token × Span)) → words_in (spanned_of ts) ≡ map (λ (t : Token × Span). token_of t.0) ts
 words_held [] = refl

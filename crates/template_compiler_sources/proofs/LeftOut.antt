@@ -13,9 +13,9 @@ use Rattle.template_compiler_stream.specs.Refusals.{fault_of}
 use Rattle.template_compiler_stream.specs.Left.{ended}
 use Rattle.template_compiler_tokenizer.specs.Held.{spanned_of}
 use Rattle.template_compiler_tokenizer.specs.Spans.{Spanned, spanned, words_in}
-use Rattle.template_compiler_source_tokens.specs.Scoped.{after, is_scoped, taken_spans, taken_words, unscoped}
-use Rattle.template_compiler_source_tokens.specs.declared.scoped.Head.{Head}
-use Rattle.template_compiler_source_tokens.specs.declared.scoped.Head.TheVariants.{Elsewhere}
+use Rattle.template_compiler_sources.specs.Scoped.{after, is_scoped, taken_spans, taken_words, unscoped}
+use Rattle.template_compiler_sources.specs.declared.scoped.Head.{Head}
+use Rattle.template_compiler_sources.specs.declared.scoped.Head.TheVariants.{Elsewhere}
 
 abbrev token_in : Spanned → spec.Token
 token_in t = t.token

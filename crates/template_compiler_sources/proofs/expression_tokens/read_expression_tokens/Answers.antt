@@ -1,8 +1,8 @@
 use Rattle.std.proofs.Common.{rules, ◌≡◌, ◌<◌, ◌≤◌, [], ◌++◌, length, sym, ap, subst, arith}
 use Rattle.template_compiler_tokens.proofs.Spans.{span_is}
 use Rattle.template_compiler_stream.specs.Refusals.{fault_of}
-use Rattle.template_compiler_source_tokens.proofs.Spelling.{GoesOn, token_front, end_front, bad_front}
-use Rattle.template_compiler_source_tokens.proofs.expression.read_expression_tokens.Goals as goal
+use Rattle.template_compiler_sources.proofs.Spelling.{GoesOn, token_front, end_front, bad_front}
+use Rattle.template_compiler_sources.proofs.expression_tokens.read_expression_tokens.Goals as goal
 
 pub loop-rest-init : goal.loop-rest-init
 loop-rest-init c =

@@ -4,7 +4,7 @@ use Rattle.std.proofs.lemmas.Str.{IsCharBoundary-start, IsCharBoundary-from_drop
 use Rattle.std.specs.Option.{unwrap_or}
 use Rattle.std.specs.Str.{IsUtf8}
 use Rattle.std.specs.Str.Pattern.{GetsRange}
-use Rattle.template_compiler_source_tokens.proofs.expression.blanks_before.Goals as goal
+use Rattle.template_compiler_sources.proofs.expression_tokens.blanks_before.Goals as goal
 
 -- what stands before the text behind, where that may be cut off
 front : (text behind : List ℕ) (found : Option (Bor (List ℕ))) (none : Bor (List ℕ)) (n cut : ℕ) → IsUtf8 text → IsUtf8 behind → GetsRange text 0 cut found →

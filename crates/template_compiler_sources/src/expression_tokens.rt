@@ -1,6 +1,6 @@
 //! The tokens of an expression's text.
 ghost use Rattle.std.specs.Prelude.{◌≡◌, ℕ, ◌≤◌, IfOk, IfErr, length, take, drop};
-ghost use Rattle.template_compiler_source_tokens.specs.Spelled.{HoldsSpelled};
+ghost use Rattle.template_compiler_sources.specs.Spelled.{HoldsSpelled};
 ghost use Rattle.template_compiler_stream.specs.declared.refusal.Refusal.TheVariants as refusals;
 
 use crate::refusals::fault_of;

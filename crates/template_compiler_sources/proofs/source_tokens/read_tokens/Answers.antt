@@ -1,11 +1,11 @@
 use Rattle.std.proofs.Common.{[], refl, sym, subst, ap, ◌∙◌, append-nil, List}
 use Rattle.template_compiler_tokenizer.specs.Held.{spanned_of}
 use Rattle.template_compiler_tokenizer.specs.Spans.{Spanned}
-use Rattle.template_compiler_source_tokens.specs.Scoped.{taken_spans, taken_words}
-use Rattle.template_compiler_source_tokens.specs.Spans.{HoldsTokens}
-use Rattle.template_compiler_source_tokens.proofs.Held.{none_before, fault_alone}
-use Rattle.template_compiler_source_tokens.proofs.LeftOut.{words_taken}
-use Rattle.template_compiler_source_tokens.proofs.template.read_tokens.Goals as goal
+use Rattle.template_compiler_sources.specs.Scoped.{taken_spans, taken_words}
+use Rattle.template_compiler_sources.specs.Spans.{HoldsTokens}
+use Rattle.template_compiler_sources.proofs.Held.{none_before, fault_alone}
+use Rattle.template_compiler_sources.proofs.LeftOut.{words_taken}
+use Rattle.template_compiler_sources.proofs.source_tokens.read_tokens.Goals as goal
 
 pub returns-in-Ok-clause-placed : goal.returns-in-Ok-clause-placed
 returns-in-Ok-clause-placed c =

@@ -1,6 +1,6 @@
 //! Refusals of tokens as errors, and the other way round.
 ghost use Rattle.std.specs.Prelude.{◌≡◌, ◌∷◌, []};
-ghost use Rattle.template_compiler_source_tokens.specs.Kinds.{IsFaultOf, refused_kind};
+ghost use Rattle.template_compiler_sources.specs.Kinds.{IsFaultOf, refused_kind};
 
 use template_compiler_stream::{Fault, Refusal};
 use template_values_errors::{Error, ErrorKind};

@@ -2,8 +2,8 @@ use denote.Shadow.{shadow}
 use denote.Text.{Utf8}
 use Rattle.std.proofs.Common.{List, ℕ, length}
 use Rattle.template_compiler_tokens.specs.SourcePlaces.{IsBehind}
-use Rattle.template_compiler_source_tokens.proofs.Spelling.{GoesOn}
-use Rattle.template_compiler_source_tokens.proofs.expression.read_expression_tokens.Given as goal
+use Rattle.template_compiler_sources.proofs.Spelling.{GoesOn}
+use Rattle.template_compiler_sources.proofs.expression_tokens.read_expression_tokens.Given as goal
 
 -- with the tokens of what is left behind the place, those that were read are the text's
 abbrev pub invariant-loop-rest : goal.invariant-loop-rest

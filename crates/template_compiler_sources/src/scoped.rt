@@ -1,7 +1,7 @@
 //! The word `scoped` behind the name of a block.
 ghost use Rattle.std.specs.Prelude.{◌≡◌};
-ghost use Rattle.template_compiler_source_tokens.specs.Scoped as scoped;
-ghost use Rattle.template_compiler_source_tokens.specs.Scoped.{taken_spans, unscoped};
+ghost use Rattle.template_compiler_sources.specs.Scoped as scoped;
+ghost use Rattle.template_compiler_sources.specs.Scoped.{taken_spans, unscoped};
 ghost use Rattle.template_compiler_tokenizer.specs.Held.{spanned_of};
 ghost use Rattle.template_compiler_tokenizer.specs.Spans.{Spanned};
 ghost use Rattle.template_compiler_tokens.specs.View.{token_of};

@@ -2,8 +2,8 @@
 use Rattle.std.specs.Prelude.{ℕ, Bool, true, false, ◌&&◌, if◌then◌else◌, codes, bytes_eq, List, [], ◌∷◌}
 use Rattle.template_compiler_tokens.specs.Token.{Token, block_start, identifier}
 use Rattle.template_compiler_tokenizer.specs.Spans.{Spanned}
-use Rattle.template_compiler_source_tokens.specs.declared.scoped.Head.{Head}
-use Rattle.template_compiler_source_tokens.specs.declared.scoped.Head.TheVariants.{Elsewhere, Begun, Worded, Named}
+use Rattle.template_compiler_sources.specs.declared.scoped.Head.{Head}
+use Rattle.template_compiler_sources.specs.declared.scoped.Head.TheVariants.{Elsewhere, Begun, Worded, Named}
 
 -- where a reader of tokens stands behind one more word
 abbrev pub after_word : Head → List ℕ → Head

@@ -1,9 +1,9 @@
 use Rattle.std.proofs.Common.{List, ◌++◌, sym, ap, ◌∙◌}
 use Rattle.template_compiler_tokenizer.specs.Held.{spanned_of}
 use Rattle.template_compiler_tokenizer.specs.Spans.{Spanned}
-use Rattle.template_compiler_source_tokens.proofs.Held.{holds_tokens}
-use Rattle.template_compiler_source_tokens.proofs.LeftOut.{append_taken}
-use Rattle.template_compiler_source_tokens.proofs.template.stream_of.Goals as goal
+use Rattle.template_compiler_sources.proofs.Held.{holds_tokens}
+use Rattle.template_compiler_sources.proofs.LeftOut.{append_taken}
+use Rattle.template_compiler_sources.proofs.source_tokens.stream_of.Goals as goal
 
 pub returns : goal.returns
 returns c rest ends =

@@ -19,8 +19,8 @@ use Rattle.template_compiler_tokens.specs.declared.token.Token.{Token}
 use Rattle.template_compiler_scanner.specs.Scans.{Scans}
 use Rattle.template_compiler_stream.specs.Spans.{PlacedTokens}
 use Rattle.template_compiler_placed_tokens.proofs.Scanned.{not_bad}
-use Rattle.template_compiler_source_tokens.proofs.Faults.{one_fault, wanted}
-use Rattle.template_compiler_source_tokens.specs.Spelled.{IsSpelled, spelled_end, spelled_blank, spelled_token, spelled_bad, spelled_spans, HoldsSpelled}
+use Rattle.template_compiler_sources.proofs.TokenFaults.{one_fault, wanted}
+use Rattle.template_compiler_sources.specs.Spelled.{IsSpelled, spelled_end, spelled_blank, spelled_token, spelled_bad, spelled_spans, HoldsSpelled}
 
 -- a text behind the bytes before it is spelled so, and its tokens stand there
 abbrev pub SpelledAt : List ℕ → List ℕ → List spec.Token → List Span → Type 0

@@ -1,7 +1,7 @@
 //! All tokens of a source.
 ghost use Rattle.std.specs.Prelude.{◌≡◌, [], ◌++◌, List, IfOk, IfErr};
-ghost use Rattle.template_compiler_source_tokens.specs.Scoped.{taken_spans, taken_words};
-ghost use Rattle.template_compiler_source_tokens.specs.Spans.{HoldsTokens};
+ghost use Rattle.template_compiler_sources.specs.Scoped.{taken_spans, taken_words};
+ghost use Rattle.template_compiler_sources.specs.Spans.{HoldsTokens};
 ghost use Rattle.template_compiler_stream.specs.Left.{ended};
 ghost use Rattle.template_compiler_stream.specs.declared.refusal.Refusal.TheVariants as refusals;
 ghost use Rattle.template_compiler_tokenizer.specs.Held.{spanned_of};

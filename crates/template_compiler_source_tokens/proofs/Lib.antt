@@ -1,4 +1,0 @@
-pub mod Faults
-pub mod Spelling
-mod Held
-pub mod LeftOut

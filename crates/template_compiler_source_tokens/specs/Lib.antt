@@ -1,4 +1,0 @@
-pub mod Kinds
-pub mod Scoped
-pub mod Spans
-pub mod Spelled
