@@ -1,7 +1,7 @@
 -- Marks that lie within the code, and code that is cut where it was added to.
 use Rattle.std.proofs.Common.{◌≡◌, ℕ, ◌<◌, Bool, true, false, ltb, ltb-true, cond, List, [], ◌∷◌, ◌++◌, All, filter, length, take, refl, ap}
 use Rattle.std.proofs.lemmas.List.Elements.{All-nil, All-cons, All-head, All-tail}
-use Rattle.template_code_marks.specs.declared.marks.Mark.{Mark}
+use Rattle.template_code.specs.declared.marks.Mark.{Mark}
 use Rattle.template_code.specs.Code.{Code}
 
 -- marks before one place that begin before another one too

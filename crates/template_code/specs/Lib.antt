@@ -6,3 +6,4 @@ pub mod Laws
 pub mod View
 pub mod Told
 pub mod Listing
+pub mod Marked

@@ -3,7 +3,7 @@
 ghost use Rattle.std.specs.Prelude.{◌≡◌, ◌^◌, ◌<◌, ◌≤◌, ◌+◌, ◌++◌, ◌∷◌, [], ◌↔◌, ◌⊎◌, All, IsTrue, not, IfOk, IfErr, OnOk, OnErr, IsErrAnd, filter, length, ltb, map, slice_get, option_map, take};
 ghost use Rattle.std.proofs.Math.ListN.{set};
 ghost use Rattle.template_values_errors.specs.Memory.{NoMemory};
-ghost use Rattle.template_code_marks.specs.Marked.{marks_in};
+ghost use Rattle.template_code.specs.Marked.{marks_in};
 ghost use Rattle.template_code.specs.View.{code_of};
 ghost use Rattle.template_code.specs.Counting.{AreNumbered, count_of, counts_before, place_from, places_from};
 ghost use Rattle.template_code.specs.Told.{told_span};
@@ -12,7 +12,7 @@ use crate::instruction::{Instruction, owned};
 use crate::numbered::{Part, count_before, is_counted, place_at, places_of};
 use std::alloc::{AllocError, Global};
 use std::borrow::CowStr;
-use template_code_marks::{Mark, Marks};
+use crate::{Mark, Marks};
 use template_tree::Span;
 use template_values_errors::{Error, ErrorKind, Place};
 

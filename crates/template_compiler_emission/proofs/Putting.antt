@@ -5,7 +5,7 @@ use Rattle.std.proofs.lemmas.Bool.{lt-ltb}
 use Rattle.std.proofs.lemmas.List.{length-map, take_at}
 use Rattle.std.proofs.lemmas.List.Elements.{All-head, All-tail, filter-append}
 use Rattle.template_code.specs.Code.{Code}
-use Rattle.template_code_marks.specs.declared.marks.Mark.{Mark}
+use Rattle.template_code.specs.declared.marks.Mark.{Mark}
 use Rattle.template_code.specs.Listing.{code_in, places_in, IsSameTemplate}
 use Rattle.template_code.specs.View.{code_of}
 use Rattle.template_code.specs.declared.listing.Instructions.{Instructions}

@@ -2,7 +2,7 @@
 use Rattle.std.specs.Prelude.{◌≡◌, ◌==◌, ◌+◌, ◌≤◌, ◌⊎◌, ℕ, Bool, true, false, List, [], ◌∷◌, ◌++◌, Option, None, Some, length, drop, if◌then◌else◌}
 use Rattle.std.proofs.Math.ListN.{set}
 use Rattle.template_tree.specs.declared.span.Span.{Span}
-use Rattle.template_code_marks.specs.declared.marks.Mark.{Mark}
+use Rattle.template_code.specs.declared.marks.Mark.{Mark}
 use Rattle.template_code.specs.Code.{Code}
 use Rattle.template_code.specs.Code as steps
 use Rattle.template_values_errors.specs.declared.ErrorKind.{ErrorKind}

@@ -24,7 +24,7 @@ pub struct Marks {
 }
 
 impl Marks {
-    ghost use Rattle.template_code_marks.specs.Marked.{marks_in, mark_at, last_before, line_at, span_at};
+    ghost use Rattle.template_code.specs.Marked.{marks_in, mark_at, last_before, line_at, span_at};
 
     /// No marks yet.
     pub fn new(alloc: Global) -> Marks

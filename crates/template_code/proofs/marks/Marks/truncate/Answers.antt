@@ -1,8 +1,8 @@
 use Rattle.std.proofs.Common.{◌≡◌, true, false, ltb, sym, subst, ◌∙◌, rules}
 use Rattle.std.specs.List.Sorted.{IsNonDecreasingBy, IsPartitionPoint}
 use Rattle.std.proofs.lemmas.List.Sorted.{IsPartitionPoint-from_clause, IsPartitionedBy-ltb}
-use Rattle.template_code_marks.proofs.Marking.{filter-first}
-use Rattle.template_code_marks.proofs.marks.Marks.truncate.Goals as goal
+use Rattle.template_code.proofs.Marking.{filter-first}
+use Rattle.template_code.proofs.marks.Marks.truncate.Goals as goal
 
 pub returns : goal.returns
 returns c =

@@ -1,8 +1,8 @@
 -- A search by halving finds the last mark, and the marks that begin before a place.
 use Rattle.std.proofs.Common.{◌≡◌, ℕ, zero, suc, ◌<◌, ◌≤◌, true, false, leb, ltb, cond, List, [], ◌∷◌, length, take, filter, Option, None, Some, slice_get, ap₂, ◌∙◌, refl, sym, arith}
 use Rattle.std.specs.List.Sorted.{IsPartitionPoint}
-use Rattle.template_code_marks.specs.declared.marks.Mark.{Mark}
-use Rattle.template_code_marks.specs.Marked.{or_else, mark_at, last_before}
+use Rattle.template_code.specs.declared.marks.Mark.{Mark}
+use Rattle.template_code.specs.Marked.{or_else, mark_at, last_before}
 
 -- what a list holds comes first
 held-first : (marks : List Mark) (k : ℕ) (other : Option Mark) → k < length marks → or_else (slice_get marks k) other ≡ slice_get marks k

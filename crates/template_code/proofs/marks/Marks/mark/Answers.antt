@@ -1,8 +1,8 @@
 use Rattle.std.proofs.Common.{true, false, leb, ◌≡◌, length, ◌≤◌, sym, subst, ◌∙◌, rules}
 use Rattle.std.specs.List.Sorted.{IsNonDecreasingBy, IsPartitionPoint}
 use Rattle.std.proofs.lemmas.List.Sorted.{IsPartitionPoint-from_clause, IsPartitionedBy-leb}
-use Rattle.template_code_marks.proofs.Marking.{mark_at-first}
-use Rattle.template_code_marks.proofs.marks.Marks.mark.Goals as goal
+use Rattle.template_code.proofs.Marking.{mark_at-first}
+use Rattle.template_code.proofs.marks.Marks.mark.Goals as goal
 
 pub returns : goal.returns
 returns c =
