@@ -7,3 +7,6 @@ pub mod View
 pub mod Told
 pub mod Listing
 pub mod Marked
+pub mod References
+pub mod Loops
+pub mod Texts

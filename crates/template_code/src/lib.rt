@@ -1,15 +1,23 @@
 //! The instructions of the virtual machine, and what each of them does.
 //!
 //! Where the instructions of a template come from: lines and spans, in one packed table.
+//!
+//! What is asked of the instructions of a template: the names that they refer to, where its loops lead, and how much room its texts take.
 #![tactic(auto)]
 
 ghost use Rattle.template_code.specs.Laws.{CodeRises};
 
 mod instruction;
 mod listing;
+mod loops;
 mod marks;
 mod numbered;
+mod references;
+mod texts;
 
+pub use loops::iterates_past;
+pub use references::get_referenced_names;
+pub use texts::buffer_size_hint;
 pub use marks::{Mark, Marks};
 pub use instruction::{
     CaptureMode, CompareOp, Instruction, LOOP_FLAG_RECURSIVE, LOOP_FLAG_WITH_LOOP_VAR, LocalId,

@@ -7,7 +7,7 @@ use Rattle.std.specs.Prelude.{IsSomeAnd, ◌==◌, ◌&&◌, nat_lt, nat_le, opt
 use Rattle.template_code.specs.Code.{Operand, Code, emit_raw, emit, store_local, lookup, load_const, get_attr, set_attr, get_item, slice, build_map, build_kwargs, merge_kwargs, build_list, build_tuple, unpack_list, unpack_lists, operate, negate, invert, is_undefined, compare_and_preserve, apply_filter, perform_test, call_function, call_method, call_object, swap, dup_top, discard_top, jump, jump_if_false, jump_if_false_or_pop, jump_if_true_or_pop, push_with, pop_frame, push_loop, iterate, push_did_not_iterate, pop_loop_frame, push_auto_escape, pop_auto_escape, begin_capture, end_capture, fast_super, fast_recurse, call_block, load_blocks, include, export_locals, enclose, get_closure, build_macro, return}
 use Rattle.template_code.specs.Counting.{is_recursive}
 use Rattle.template_code.specs.Steps.{is_addition}
-use Rattle.template_code_references.specs.Loops.{is_iterate_past}
+use Rattle.template_code.specs.Loops.{is_iterate_past}
 use Rattle.template_process.specs.Process.{Process}
 use Rattle.template_code_shapes.specs.Shapes.{Form, single_form, counted_form, counting_form, closure_form, form_of, Floor, Opened, with_frame, loop_frame, recursive_frame, Shape, body_of, floor_of, below_values, lowered, taken, run_taken, handed, closure_taken, given, topped, opened, loop_opened, frame_closed, loop_closed, with_escape, escape_closed, with_capture, innermost_loop, is_none_left, is_over}
 use Rattle.template_code_shapes.specs.Effects.{Effect, falling, ending, traded, made, is_iterate, may_lead, may_jump, jumping, is_behind, may_iterate, code_before, loads_one, adds, ends_capture, texts_loaded, swapped, operated, making, effect_of}

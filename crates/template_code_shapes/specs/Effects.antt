@@ -6,7 +6,7 @@ use Rattle.template_values_model.specs.Val.{Val, int, list, items_of}
 use Rattle.template_values_core.specs.Answers.{text_in}
 use Rattle.template_code.specs.Code.{Code, emit_raw, emit, store_local, lookup, load_const, get_attr, set_attr, get_item, slice, build_map, build_kwargs, merge_kwargs, build_list, build_tuple, unpack_list, unpack_lists, operate, negate, invert, is_undefined, compare_and_preserve, apply_filter, perform_test, call_function, call_method, call_object, swap, dup_top, discard_top, jump, jump_if_false, jump_if_false_or_pop, jump_if_true_or_pop, push_with, pop_frame, push_loop, iterate, push_did_not_iterate, pop_loop_frame, push_auto_escape, pop_auto_escape, begin_capture, end_capture, fast_super, fast_recurse, call_block, load_blocks, include, export_locals, enclose, get_closure, build_macro, return}
 use Rattle.template_code.specs.Steps.{is_addition}
-use Rattle.template_code_references.specs.Loops.{is_iterate_past}
+use Rattle.template_code.specs.Loops.{is_iterate_past}
 use Rattle.template_code_shapes.specs.Shapes.{Form, single_form, counted_form, counting_form, closure_form, with_frame, Shape, body_of, lowered, taken, handed, closure_taken, given, topped, opened, loop_opened, frame_closed, loop_closed, with_escape, escape_closed, with_capture, capture_closed, innermost_loop, is_over}
 
 -- with which shape the run goes on behind an instruction; where and with which it goes on by a jump; and where and with

@@ -8,4 +8,4 @@ pub mod Ways
 pub mod Passes
 pub mod Desks
 -- what contracts here cite of a crate below
-pub use Rattle.template_code_references.specs.Loops
+pub use Rattle.template_code.specs.Loops

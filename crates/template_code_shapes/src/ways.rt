@@ -15,8 +15,7 @@ use crate::beside::{
 };
 use crate::outline::{Opened, Other, Outline};
 use std::alloc::Global;
-use template_code::{Instruction, Instructions};
-use template_code_references::iterates_past;
+use template_code::{Instruction, Instructions, iterates_past};
 use template_values_errors::{Error, ErrorKind};
 
 /// A jump, with its shape.

@@ -52,8 +52,8 @@ pub use Rattle.template_code.specs.Prices
 pub use Rattle.template_code.specs.Listing
 pub use Rattle.template_code.specs.Laws as CodeLaws
 pub use Rattle.template_code_blocks.specs.Streams as BlockStreams
-pub use Rattle.template_code_references.specs.References
-pub use Rattle.template_code_references.specs.Texts
+pub use Rattle.template_code.specs.References
+pub use Rattle.template_code.specs.Texts
 pub use Rattle.template_compiler_codegen.specs.Core as CodeCore
 pub use Rattle.template_compiler_codegen.specs.Expressions as ExpressionCode
 pub use Rattle.template_compiler_codegen.specs.Statements as StatementCode

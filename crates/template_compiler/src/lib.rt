@@ -50,11 +50,7 @@
 
 pub mod ast;
 
-pub use template_code::{
-    CaptureMode, CompareOp, Instruction, Instructions, LOOP_FLAG_RECURSIVE,
-    LOOP_FLAG_WITH_LOOP_VAR, LocalId, MACRO_CALLER, MAX_LOCALS, code_rises,
-};
-pub use template_code_references::{buffer_size_hint, get_referenced_names};
+pub use template_code::{CaptureMode, CompareOp, Instruction, Instructions, LOOP_FLAG_RECURSIVE, LOOP_FLAG_WITH_LOOP_VAR, LocalId, MACRO_CALLER, MAX_LOCALS, code_rises, buffer_size_hint, get_referenced_names};
 pub use template_compiled::{
     CompiledBlock, CompiledExpression, CompiledTemplate, CompiledTemplates, TemplateConfig,
     one_standalone_tree, one_tree, plain_text,

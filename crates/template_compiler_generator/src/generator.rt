@@ -3,7 +3,7 @@ ghost use Rattle.std.specs.Prelude.{◌≡◌, ◌*◌, ◌↔◌, ◌∷◌, []
 ghost use Rattle.template_values_errors.specs.Memory.{NoMemory};
 ghost use Rattle.template_code.specs.Listing.{name_in, source_in, code_in, places_in, line_mark, TakesNoMore};
 ghost use Rattle.template_code.specs.View.{code_of};
-ghost use Rattle.template_code_references.specs.Texts.{raw_length};
+ghost use Rattle.template_code.specs.Texts.{raw_length};
 ghost use Rattle.template_tree_statements.specs.View.{statement_of};
 ghost use Rattle.template_tree.specs.View.{expression_of};
 ghost use Rattle.template_walk.specs.Runnable.{IsRunnable, IsTarget};
@@ -18,8 +18,7 @@ ghost use Rattle.template_compiler_generator.specs.View.{draft_of, open_of, refu
 use crate::alone::statements;
 use crate::blocks::{Block, Jump};
 use std::alloc::Global;
-use template_code::{Instruction, Instructions, LOOP_FLAG_RECURSIVE, LOOP_FLAG_WITH_LOOP_VAR};
-use template_code_references::buffer_size_hint;
+use template_code::{Instruction, Instructions, LOOP_FLAG_RECURSIVE, LOOP_FLAG_WITH_LOOP_VAR, buffer_size_hint};
 use template_compiler_emission::Leap;
 use template_compiler_expression_codegen::compile_expr;
 use template_compiler_numbers::number_names;

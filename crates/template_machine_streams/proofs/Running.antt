@@ -15,7 +15,7 @@ use Rattle.template_code.specs.Counting as counts
 use Rattle.template_code.specs.Counting.{counts_before, is_recursive}
 use Rattle.template_code.specs.Prices.{price_of, steps}
 use Rattle.template_code.specs.Steps.{values_in, deed, act, exec}
-use Rattle.template_code_references.specs.Loops.{is_iterate_past}
+use Rattle.template_code.specs.Loops.{is_iterate_past}
 use Rattle.template_code_shapes.specs.declared.StreamKind.{StreamKind}
 use Rattle.template_code_shapes.specs.declared.StreamKind.TheVariants.{Template, Expression}
 use Rattle.template_code_shapes.specs.declared.outline.Floor.{Floor}

@@ -1,8 +1,8 @@
 use Rattle.std.proofs.Common.{◌-◌, sym, ◌∙◌, arith}
 use Rattle.template_code.specs.Listing.{code_in}
-use Rattle.template_code_references.specs.References.{names_before}
-use Rattle.template_code_references.proofs.Behind.{texts, still_outside, still_within}
-use Rattle.template_code_references.proofs.references.get_referenced_names.Goals as goal
+use Rattle.template_code.specs.References.{names_before}
+use Rattle.template_code.proofs.Behind.{texts, still_outside, still_within}
+use Rattle.template_code.proofs.references.get_referenced_names.Goals as goal
 
 pub loop-left-preserved-else-jumps_to : goal.loop-left-preserved-else-jumps_to
 loop-left-preserved-else-jumps_to c =

@@ -2,9 +2,9 @@ use Rattle.std.proofs.Common.{◌≡◌, ℕ, ◌+◌, min, length, take, slice_
 use Rattle.std.specs.List.{sum_by}
 use Rattle.std.specs.Option.{option_map_or}
 use Rattle.template_code.specs.Listing.{code_in}
-use Rattle.template_code_references.specs.Texts.{raw_length}
-use Rattle.template_code_references.proofs.Sums.{sum_by-next, take-all, bounded-next, bounded-twice}
-use Rattle.template_code_references.proofs.texts.buffer_size_hint.Goals as goal
+use Rattle.template_code.specs.Texts.{raw_length}
+use Rattle.template_code.proofs.Sums.{sum_by-next, take-all, bounded-next, bounded-twice}
+use Rattle.template_code.proofs.texts.buffer_size_hint.Goals as goal
 
 pub loop-place-preserved : goal.loop-place-preserved
 loop-place-preserved c =

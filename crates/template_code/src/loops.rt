@@ -1,9 +1,9 @@
 //! Where loops lead.
 ghost use Rattle.std.specs.Prelude.{◌≡◌, slice_get};
 ghost use Rattle.template_code.specs.Listing.{code_in};
-ghost use Rattle.template_code_references.specs.Loops.{is_iterate_past};
+ghost use Rattle.template_code.specs.Loops.{is_iterate_past};
 
-use template_code::{Instruction, Instructions};
+use crate::{Instruction, Instructions};
 
 /// Whether a loop asks for its next item at a place of the code, and leads past another place where it has none.
 pub fn iterates_past(code: &Instructions<'_>, asks: u32, place: u32) -> bool

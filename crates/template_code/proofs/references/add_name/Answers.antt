@@ -1,7 +1,7 @@
 use Rattle.std.proofs.Common.{◌≡◌, false, true, ◌∙◌}
-use Rattle.template_code_references.specs.References.{is_among}
-use Rattle.template_code_references.proofs.Behind.{texts, found-among, name-again, name-first, texts-push}
-use Rattle.template_code_references.proofs.references.add_name.Goals as goal
+use Rattle.template_code.specs.References.{is_among}
+use Rattle.template_code.proofs.Behind.{texts, found-among, name-again, name-first, texts-push}
+use Rattle.template_code.proofs.references.add_name.Goals as goal
 
 pub returns-then-is_among-clause-added : goal.returns-then-is_among-clause-added
 returns-then-is_among-clause-added c =

@@ -1,8 +1,8 @@
 -- With the names that are left, the names so far are those wanted.
 use Rattle.std.proofs.Common.{◌≡◌, ◌<◌, map, length}
 use Rattle.template_code.specs.Listing.{code_in}
-use Rattle.template_code_references.specs.References.{names_behind, names_before}
-use Rattle.template_code_references.proofs.references.get_referenced_names.Given as goal
+use Rattle.template_code.specs.References.{names_behind, names_before}
+use Rattle.template_code.proofs.references.get_referenced_names.Given as goal
 
 abbrev pub invariant-loop-left : goal.invariant-loop-left
 invariant-loop-left l = record {

@@ -3,9 +3,9 @@ ghost use Rattle.std.specs.Prelude.{◌≡◌, ◌*◌, min, slice_get};
 ghost use Rattle.std.specs.List.{sum_by};
 ghost use Rattle.std.specs.Option.{option_map_or};
 ghost use Rattle.template_code.specs.Listing.{code_in};
-ghost use Rattle.template_code_references.specs.Texts.{raw_length};
+ghost use Rattle.template_code.specs.Texts.{raw_length};
 
-use template_code::{Instruction, Instructions};
+use crate::{Instruction, Instructions};
 
 /// How much room for what instructions write is worth asking for: twice the bytes of the texts in them, as far as a `usize`
 /// goes. Linear in the instructions.

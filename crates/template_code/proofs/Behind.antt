@@ -3,7 +3,7 @@ use Rattle.std.proofs.Common.{◌≡◌, ℕ, suc, List, [], ◌∷◌, Option, 
 use Rattle.std.specs.List.{list_any}
 use Rattle.std.proofs.lemmas.List.{map-append}
 use Rattle.template_code.specs.Code.{Code}
-use Rattle.template_code_references.specs.References.{is_among, name_at, names_with, is_jump_to, is_return, names_behind, opens_body}
+use Rattle.template_code.specs.References.{is_among, name_at, names_with, is_jump_to, is_return, names_behind, opens_body}
 
 -- a name is among others, of which each is lent
 is_among-lent : (name : List ℕ) (names : List (Bor (List ℕ)))

@@ -1,3 +1,0 @@
-pub mod References
-pub mod Loops
-pub mod Texts
