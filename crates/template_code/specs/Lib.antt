@@ -10,3 +10,4 @@ pub mod Marked
 pub mod References
 pub mod Loops
 pub mod Texts
+pub mod Streams

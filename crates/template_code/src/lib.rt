@@ -7,6 +7,7 @@
 
 ghost use Rattle.template_code.specs.Laws.{CodeRises};
 
+mod blocks;
 mod instruction;
 mod listing;
 mod loops;
@@ -15,6 +16,7 @@ mod numbered;
 mod references;
 mod texts;
 
+pub use blocks::{CompiledBlock, own_blocks, block_among};
 pub use loops::iterates_past;
 pub use references::get_referenced_names;
 pub use texts::buffer_size_hint;

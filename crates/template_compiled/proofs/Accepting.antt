@@ -17,7 +17,7 @@ use Rattle.template_compiler_sources.specs.Source.{IsSource, RefusesSource, sour
 use Rattle.template_machine_surroundings.specs.Rule.{IsEscapeOf}
 use Rattle.template_compiled.specs.Compiled.{Compiled, IsFaithful, code_for}
 use Rattle.template_compiled.specs.Sources.{Source, HasTree, read_by, tree_in}
-use Rattle.template_code_blocks.specs.Streams.{BlockStream}
+use Rattle.template_code.specs.Streams.{BlockStream}
 use Rattle.template_compiled.specs.Streams.{streams_of}
 use Rattle.template_compiled.specs.declared.config.TemplateConfig.{TemplateConfig}
 use Rattle.template_compiled.proofs.Trees.{one_tree}

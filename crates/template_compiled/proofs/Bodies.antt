@@ -12,9 +12,9 @@ use Rattle.template_walk.specs.Blocks.{Block, block_among}
 use Rattle.template_walk.specs.Runnable.{AreRunnableStatements}
 use Rattle.template_compiler_blocks.specs.Seen.{tree_of, trees_in}
 use Rattle.template_compiler_blocks.proofs.Runnable.{RunsByItself}
-use Rattle.template_code_blocks.specs.Streams.{BlockStream, stream_in, streams_in, stream_among}
+use Rattle.template_code.specs.Streams.{BlockStream, stream_in, streams_in, stream_among}
 use Rattle.template_compiled.specs.Streams.{stream_of}
-use Rattle.template_code_blocks.specs.declared.CompiledBlock.{CompiledBlock}
+use Rattle.template_code.specs.declared.blocks.CompiledBlock.{CompiledBlock}
 
 abbrev pub streams_at : List (Bor BlockNode) → List BlockStream
 streams_at = map (λ n. stream_of (tree_of n.now))

@@ -2,7 +2,7 @@
 use Rattle.std.specs.Prelude.{ℕ, List, Option, map, option_map}
 use Rattle.template_tree.specs.Tree.{Statements}
 use Rattle.template_walk.specs.Blocks.{Block, blocks_in, block_named}
-use Rattle.template_code_blocks.specs.Streams.{BlockStream}
+use Rattle.template_code.specs.Streams.{BlockStream}
 use Rattle.template_compiler_codegen.specs.Statements.{template_code}
 use Rattle.template_compiler_numbers.specs.Numbers.{numbered_in}
 

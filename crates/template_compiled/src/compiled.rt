@@ -18,7 +18,7 @@ ghost use Rattle.template_names_statements.specs.Found.{Adds, AddsSome};
 ghost use Rattle.template_compiled.specs.Names.{uses};
 ghost use Rattle.template_compiler_emission.specs.Puts.{NoRoom};
 ghost use Rattle.template_compiled.specs.Plain.{IsPlain, PlainStandsForItself};
-ghost use Rattle.template_code_blocks.specs.Streams.{stream_in, streams_in};
+ghost use Rattle.template_code.specs.Streams.{stream_in, streams_in};
 ghost use Rattle.template_compiled.specs.Streams.{stream_named, streams_of};
 ghost use Rattle.template_compiled.specs.Sources.{HasNoRoom, IsAccepted, IsRefusedWith, Source, TreesRun, read_by, tree_in};
 
@@ -29,8 +29,7 @@ use std::alloc::Global;
 use std::borrow::CowStr;
 use std::collections::BTreeSet;
 use std::marker::Model;
-use template_code::{Instructions, buffer_size_hint};
-use template_code_blocks::{CompiledBlock, block_among, own_blocks};
+use template_code::{Instructions, buffer_size_hint, CompiledBlock, block_among, own_blocks};
 use template_compiler_numbers::number_names;
 use template_compiler_sources::parse;
 use template_compiler_statement_codegen::children;
@@ -67,7 +66,7 @@ impl<'source> Model for CompiledTemplate<'source> {
     ghost use Rattle.template_code.specs.Listing.{code_in, name_in, source_in};
     ghost use Rattle.template_compiled.specs.Compiled.{Compiled, IsFaithful, code_for};
     ghost use Rattle.template_compiled.specs.Sources.{read_by, tree_in};
-    ghost use Rattle.template_code_blocks.specs.Streams.{streams_in};
+    ghost use Rattle.template_code.specs.Streams.{streams_in};
     ghost use Rattle.template_compiled.specs.Streams.{streams_of};
 
     ghost Value = { Compiled };

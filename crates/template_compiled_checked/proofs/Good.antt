@@ -7,8 +7,8 @@ use Rattle.template_walk.specs.Blocks.{Block, blocks_in}
 use Rattle.template_walk.specs.Runnable.{IsRunnableTemplate}
 use Rattle.template_compiler_blocks.proofs.Runnable.{RunsByItself, blocks_run}
 use Rattle.template_code.specs.Code.{Code}
-use Rattle.template_code_blocks.specs.Streams.{BlockStream, streams_in}
-use Rattle.template_code_blocks.specs.declared.CompiledBlock.{CompiledBlock}
+use Rattle.template_code.specs.Streams.{BlockStream, streams_in}
+use Rattle.template_code.specs.declared.blocks.CompiledBlock.{CompiledBlock}
 use Rattle.template_code_shapes.specs.Streams.{IsGood}
 use Rattle.template_code_shapes.specs.declared.StreamKind.TheVariants.{Template}
 use Rattle.template_compiler_codegen.specs.Statements.{template_code}

@@ -2,8 +2,8 @@
 use Rattle.std.specs.Prelude.{◌≡◌, List, map}
 use Rattle.std.specs.Cow.{cow_str_bytes}
 use Rattle.template_code.specs.Listing.{code_in}
-use Rattle.template_code_blocks.specs.Streams.{BlockStream}
-use Rattle.template_code_blocks.specs.declared.CompiledBlock.{CompiledBlock}
+use Rattle.template_code.specs.Streams.{BlockStream}
+use Rattle.template_code.specs.declared.blocks.CompiledBlock.{CompiledBlock}
 use Rattle.template_code_checked.specs.Checked.{kind_in, stream_in}
 use Rattle.template_code_shapes.specs.Streams.{IsGood}
 use Rattle.template_code_shapes.specs.declared.StreamKind.TheVariants.{Template}

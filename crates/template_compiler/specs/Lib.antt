@@ -51,7 +51,7 @@ pub use Rattle.template_code.specs.Counting as CodeCounting
 pub use Rattle.template_code.specs.Prices
 pub use Rattle.template_code.specs.Listing
 pub use Rattle.template_code.specs.Laws as CodeLaws
-pub use Rattle.template_code_blocks.specs.Streams as BlockStreams
+pub use Rattle.template_code.specs.Streams as BlockStreams
 pub use Rattle.template_code.specs.References
 pub use Rattle.template_code.specs.Texts
 pub use Rattle.template_compiler_codegen.specs.Core as CodeCore

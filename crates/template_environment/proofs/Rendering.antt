@@ -8,7 +8,7 @@ use Rattle.template_process.specs.Approximants.{IsFinished}
 use Rattle.template_process.specs.Fuel.{under}
 use Rattle.template_walk.specs.Blocks.{Block, blocks_in, block_among, block_named}
 use Rattle.template_walk.specs.Runnable.{IsRunnableTemplate}
-use Rattle.template_code_blocks.specs.Streams.{BlockStream, heads_of, stream_among}
+use Rattle.template_code.specs.Streams.{BlockStream, heads_of, stream_among}
 use Rattle.template_machine_going.specs.declared.stop.Stop.{Stop}
 use Rattle.template_machine_meaning.specs.World.{World, first_world}
 use Rattle.template_machine_meaning.specs.Surroundings.{Programs}

@@ -8,7 +8,7 @@ use Rattle.std.proofs.lemmas.List.Elements.{All-head, All-tail}
 use Rattle.template_walk.specs.Blocks.{Block, blocks_in}
 use Rattle.template_walk.specs.Runnable.{IsRunnableTemplate}
 use Rattle.template_code.specs.Code.{Code}
-use Rattle.template_code_blocks.specs.Streams.{BlockStream, stream_among}
+use Rattle.template_code.specs.Streams.{BlockStream, stream_among}
 use Rattle.template_code_shapes.specs.Streams.{IsGood}
 use Rattle.template_code_shapes.specs.declared.StreamKind.{StreamKind}
 use Rattle.template_code_shapes.specs.declared.StreamKind.TheVariants.{Template}

@@ -32,7 +32,7 @@ pub use Rattle.template_code.specs.Steps
 pub use Rattle.template_code.specs.Prices
 pub use Rattle.template_code.specs.View as InstructionCodes
 pub use Rattle.template_code.specs.Listing
-pub use Rattle.template_code_blocks.specs.Streams as BlockStreams
+pub use Rattle.template_code.specs.Streams as BlockStreams
 pub use Rattle.template_machine_fuel.specs.Paying
 pub use Rattle.template_machine_fuel.specs.Trackers
 pub use Rattle.template_machine_operands.specs.Operands

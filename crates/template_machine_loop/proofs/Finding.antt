@@ -12,7 +12,7 @@ use Rattle.template_process.specs.Process.{Process, tells, done}
 use Rattle.template_machine_meaning.specs.Captures.{is_dropping}
 use Rattle.template_process.specs.Drive.{breaks}
 use Rattle.template_process.specs.Trace.{Reply, Run, run, ended}
-use Rattle.template_code_blocks.specs.Streams.{BlockStream, stream_among, heads_of}
+use Rattle.template_code.specs.Streams.{BlockStream, stream_among, heads_of}
 use Rattle.template_machine_meaning.specs.World.{World, has_room}
 use Rattle.template_machine_meaning.specs.Keys.{Home, block_of, Key, whole, whole_of, Head}
 use Rattle.template_machine_meaning.specs.Bodies.{Bodies, bodies_at}

@@ -2,8 +2,8 @@
 use Rattle.std.proofs.Common.{◌≡◌, ℕ, zero, suc, ◌+◌, ◌<◌, ◌≤◌, arith, Bool, ◌||◌, List, [], ◌∷◌, length, drop, get_or, Some, slice_get, String, Global, string_bytes, refl, sym, ap, subst, ◌∙◌}
 use Rattle.template_code.specs.Code.{Code}
 use Rattle.template_code.specs.Listing.{code_in}
-use Rattle.template_code_blocks.specs.Streams.{streams_in}
-use Rattle.template_code_blocks.specs.declared.CompiledBlock.{CompiledBlock}
+use Rattle.template_code.specs.Streams.{streams_in}
+use Rattle.template_code.specs.declared.blocks.CompiledBlock.{CompiledBlock}
 use Rattle.template_compiled.specs.Compiled.{Compiled}
 use Rattle.template_compiled.specs.Sources.{Source}
 use Rattle.template_names.proofs.Laws.{drop_at, drop_none, or_assoc, or_false}

@@ -3,7 +3,7 @@ use Rattle.std.specs.Prelude.{ℕ, Bool, false, ◌||◌, List, [], ◌∷◌, O
 use Rattle.template_values_errors.specs.declared.ErrorKind.{ErrorKind}
 use Rattle.template_values_errors.specs.declared.ErrorKind.TheVariants.{UnknownFilter, UnknownTest, UnknownFunction}
 use Rattle.template_code.specs.Code.{Code, apply_filter, perform_test, call_function, store_local}
-use Rattle.template_code_blocks.specs.Streams.{BlockStream}
+use Rattle.template_code.specs.Streams.{BlockStream}
 use Rattle.template_compiled.specs.Compiled.{Compiled, code_for}
 use Rattle.template_compiled.specs.Sources.{tree_in}
 use Rattle.template_compiled.specs.Streams.{streams_of}

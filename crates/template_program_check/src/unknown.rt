@@ -3,7 +3,7 @@ ghost use Rattle.std.specs.Prelude.{[], IfErr, IfOk, OnOk, option_map, slice_get
 ghost use Rattle.std.specs.BTreeSet.{contains_text};
 ghost use Rattle.template_values_errors.specs.Memory.{NoMemory};
 ghost use Rattle.template_code.specs.Listing.{code_in};
-ghost use Rattle.template_code_blocks.specs.Streams.{streams_in};
+ghost use Rattle.template_code.specs.Streams.{streams_in};
 ghost use Rattle.template_program_check.specs.Names.{named_in};
 ghost use Rattle.template_program_check.specs.Unknown.{TellsAll, TellsBlocks, TellsCode, TellsIf, TellsIfThere, TellsNamed, TellsTemplate, TellsUnknown};
 
@@ -12,8 +12,7 @@ use crate::named::{Named, naming};
 use crate::stored::stored_names;
 use std::alloc::{AllocError, Global};
 use std::collections::BTreeSet;
-use template_code::Instructions;
-use template_code_blocks::CompiledBlock;
+use template_code::{Instructions, CompiledBlock};
 use template_compiled::CompiledTemplate;
 use template_values_errors::Error;
 

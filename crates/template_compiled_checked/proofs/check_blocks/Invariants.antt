@@ -1,6 +1,6 @@
 use Rattle.std.proofs.Common.{◌≡◌, ◌++◌, map}
 use Rattle.std.specs.List.{All}
-use Rattle.template_code_blocks.specs.Streams.{stream_in}
+use Rattle.template_code.specs.Streams.{stream_in}
 use Rattle.template_compiled_checked.specs.Checked.{IsGoodBlock, IsOfTemplate, checked_stream}
 use Rattle.template_compiled_checked.proofs.check_blocks.Given as goal
 

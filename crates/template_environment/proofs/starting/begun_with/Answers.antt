@@ -1,5 +1,5 @@
 use Rattle.std.proofs.Common.{ap, ◌∙◌}
-use Rattle.template_code_blocks.specs.Streams.{heads_of}
+use Rattle.template_code.specs.Streams.{heads_of}
 use Rattle.template_compiled.specs.Sources.{tree_in}
 use Rattle.template_environment.proofs.Beginning.{begins_so}
 use Rattle.template_environment.proofs.Rendering.{same_heads}

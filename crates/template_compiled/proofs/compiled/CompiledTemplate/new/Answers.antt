@@ -9,7 +9,7 @@ use Rattle.template_compiler_statement_codegen.specs.Listed.{body_in}
 use Rattle.template_compiler_sources.specs.Source.{IsSource}
 use Rattle.template_compiler_syntax.specs.Syntax.{Syntax}
 use Rattle.template_compiled.specs.Sources.{read_by}
-use Rattle.template_code_blocks.specs.Streams.{streams_in}
+use Rattle.template_code.specs.Streams.{streams_in}
 use Rattle.template_compiled.specs.Streams.{streams_of}
 use Rattle.template_compiled.proofs.Accepting.{kept}
 use Rattle.template_compiled.proofs.Trees.{body_runs, source_runs}

@@ -1,13 +1,12 @@
 //! The code of a template's blocks.
-#![tactic(auto)]
 
 ghost use Rattle.std.specs.Prelude.{◌≡◌, IfOk, IfErr, option_map};
 ghost use Rattle.template_values_errors.specs.Memory.{NoMemory};
-ghost use Rattle.template_code_blocks.specs.Streams.{stream_among, stream_in, streams_in};
+ghost use Rattle.template_code.specs.Streams.{stream_among, stream_in, streams_in};
 
 use std::alloc::Global;
 use std::borrow::CowStr;
-use template_code::Instructions;
+use crate::Instructions;
 use template_values_errors::Error;
 
 /// A block of a template: its name, whether a template that extends this one has to give a body of its own, and the code of its

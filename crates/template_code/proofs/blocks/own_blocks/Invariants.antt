@@ -1,6 +1,6 @@
 use Rattle.std.proofs.Common.{◌≡◌, ◌++◌, map}
-use Rattle.template_code_blocks.specs.Streams.{stream_in}
-use Rattle.template_code_blocks.proofs.own_blocks.Given as goal
+use Rattle.template_code.specs.Streams.{stream_in}
+use Rattle.template_code.proofs.blocks.own_blocks.Given as goal
 
 -- what is copied and what is left are the blocks
 abbrev pub invariant-loop-block : goal.invariant-loop-block
