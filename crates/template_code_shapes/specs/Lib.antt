@@ -9,3 +9,4 @@ pub mod Passes
 pub mod Desks
 -- what contracts here cite of a crate below
 pub use Rattle.template_code.specs.Loops
+pub mod Checked

@@ -6,11 +6,16 @@ ghost use Rattle.template_code_shapes.specs.Laws.{CertifiedIsGood, GoodEndsWell,
 ghost use Rattle.template_code_shapes.specs.Rounds.{GoodRoundsStay};
 
 mod beside;
+mod checked;
 mod desk;
+mod kind;
 mod outline;
 mod pass;
+mod verifying;
 mod ways;
 
+pub use checked::Checked;
+pub use verifying::verify;
 pub use desk::Stop;
 pub use outline::Outline;
 pub use pass::shape_at_end;

@@ -4,7 +4,7 @@ use Rattle.std.specs.Cow.{cow_str_bytes}
 use Rattle.template_code.specs.Listing.{code_in}
 use Rattle.template_code.specs.Streams.{BlockStream}
 use Rattle.template_code.specs.declared.blocks.CompiledBlock.{CompiledBlock}
-use Rattle.template_code_checked.specs.Checked.{kind_in, stream_in}
+use Rattle.template_code_shapes.specs.Checked.{kind_in, stream_in}
 use Rattle.template_code_shapes.specs.Streams.{IsGood}
 use Rattle.template_code_shapes.specs.declared.StreamKind.TheVariants.{Template}
 use Rattle.template_compiled_checked.specs.declared.CheckedBlock.{CheckedBlock}

@@ -6,7 +6,7 @@ ghost use Rattle.std.specs.List.{All};
 ghost use Rattle.template_values_errors.specs.Memory.{NoMemory};
 ghost use Rattle.template_code.specs.Listing.{code_in};
 ghost use Rattle.template_code.specs.Streams.{stream_in as block_stream, streams_in};
-ghost use Rattle.template_code_checked.specs.Checked.{kind_in, stream_in};
+ghost use Rattle.template_code_shapes.specs.Checked.{kind_in, stream_in};
 ghost use Rattle.template_code_shapes.specs.Streams.{IsGood};
 ghost use Rattle.template_code_shapes.specs.declared.StreamKind.{StreamKind};
 ghost use Rattle.template_compiled.specs.Compiled.{code_for};
@@ -17,7 +17,7 @@ ghost use Rattle.template_compiled_checked.specs.Checked.{IsGoodBlock, IsOfTempl
 use std::alloc::Global;
 use std::borrow::CowStr;
 use template_code::{Instructions, CompiledBlock};
-use template_code_checked::{Checked, verify};
+use template_code_shapes::{Checked, verify};
 use template_compiled::{CompiledTemplate, trees_run};
 use template_compiler_generator::templates_are_accepted;
 use template_values_errors::Error;

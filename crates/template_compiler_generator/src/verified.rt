@@ -2,7 +2,7 @@
 
 ghost use Rattle.std.specs.Prelude.{◌≡◌, IfOk, IfErr};
 ghost use Rattle.template_code.specs.Listing.{code_in, name_in, source_in};
-ghost use Rattle.template_code_checked.specs.Checked.{kind_in, stream_in};
+ghost use Rattle.template_code_shapes.specs.Checked.{kind_in, stream_in};
 ghost use Rattle.template_code_shapes.specs.Streams.{IsGood};
 ghost use Rattle.template_code_shapes.specs.declared.StreamKind.{StreamKind};
 ghost use Rattle.template_compiler_codegen.specs.Statements.{standalone_code, template_code};
@@ -18,8 +18,7 @@ ghost use Rattle.template_walk.specs.Runnable.{IsRunnable};
 use crate::{CodeGenerator, expressions_are_certified, templates_are_certified};
 use std::alloc::Global;
 use template_code::Instructions;
-use template_code_checked::{Checked, verify};
-use template_code_shapes::{StreamKind, certified_is_good};
+use template_code_shapes::{Checked, verify, StreamKind, certified_is_good};
 use template_tree::Expr;
 use template_tree_statements::Stmt;
 use template_values_errors::Error;

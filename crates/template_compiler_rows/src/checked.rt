@@ -9,7 +9,7 @@ use crate::NAME;
 use crate::code::write_instructions;
 use crate::report::Report;
 use std::alloc::Global;
-use template_code_checked::Checked;
+use template_code_shapes::Checked;
 use template_compiler_generator::{verified_expression, verified_template};
 use template_compiler_sources::parse_expr;
 use template_tree::Expr;

@@ -8,8 +8,8 @@ use Rattle.template_process.specs.Approximants.{IsFinished}
 use Rattle.template_process.specs.Fuel.{under}
 use Rattle.template_code.specs.Code.{Code}
 use Rattle.template_code.specs.Listing.{code_in}
-use Rattle.template_code_checked.specs.Checked as checked
-use Rattle.template_code_checked.specs.declared.checked.Checked.{Checked}
+use Rattle.template_code_shapes.specs.Checked as checked
+use Rattle.template_code_shapes.specs.declared.checked.Checked.{Checked}
 use Rattle.template_machine_going.specs.Told.{CountsFailures, by_kinds, kinds_in}
 use Rattle.template_machine_going.specs.declared.stop.Stop.{Stop}
 use Rattle.template_machine_meaning.specs.Surroundings.{Programs}

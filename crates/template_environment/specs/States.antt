@@ -15,8 +15,8 @@ use Rattle.template_process.specs.Fuel.{under}
 use Rattle.template_process.specs.Process.{Answer, tells, fails, value}
 use Rattle.template_process.specs.Trace.{Reply, Run}
 use Rattle.template_code.specs.Listing.{code_in}
-use Rattle.template_code_checked.specs.Checked as checked
-use Rattle.template_code_checked.specs.declared.checked.Checked.{Checked}
+use Rattle.template_code_shapes.specs.Checked as checked
+use Rattle.template_code_shapes.specs.declared.checked.Checked.{Checked}
 use Rattle.template_machine_meaning.specs.Calls.{call_plan}
 use Rattle.template_machine_meaning.specs.Captures.{captured}
 use Rattle.template_machine_meaning.specs.Functions.{Invoked, found_called, invokes}

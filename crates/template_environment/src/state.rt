@@ -17,7 +17,7 @@ ghost use Rattle.template_machine_calls.specs.Left.{entry_plan, reached_by};
 ghost use Rattle.template_machine_going.specs.Told.{SparesSink};
 ghost use Rattle.template_machine_renders.specs.Plans.{PutsBack, run_of};
 ghost use Rattle.template_machine_state.specs.Names.{is_exported};
-ghost use Rattle.template_code_checked.specs.Checked.{kind_in};
+ghost use Rattle.template_code_shapes.specs.Checked.{kind_in};
 ghost use Rattle.template_code_shapes.specs.declared.StreamKind.{StreamKind};
 ghost use Rattle.template_environment.specs.Extras.{user_answers};
 ghost use Rattle.template_environment.specs.Reading.{registry_of};
@@ -30,7 +30,7 @@ use crate::starting::{begun, own_name, program};
 use crate::template::Template;
 use std::collections::BTreeSet;
 use template_callables::{Extension, NoExtension};
-use template_code_checked::Checked;
+use template_code_shapes::Checked;
 use template_compiled::CompiledTemplate;
 use template_machine_calls::{
     Entry, Reached, call_filter, call_found, call_test, format_value, turn_all,

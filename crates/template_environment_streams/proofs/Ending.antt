@@ -9,8 +9,8 @@ use Rattle.template_process.specs.Drive.{faults}
 use Rattle.template_process.specs.Trace.{Run, ended}
 use Rattle.template_code.specs.Code.{Code}
 use Rattle.template_code.specs.Listing.{code_in}
-use Rattle.template_code_checked.specs.Checked as checked
-use Rattle.template_code_checked.specs.declared.checked.Checked.{Checked}
+use Rattle.template_code_shapes.specs.Checked as checked
+use Rattle.template_code_shapes.specs.declared.checked.Checked.{Checked}
 use Rattle.template_code_shapes.specs.Streams.{IsGood}
 use Rattle.template_code_shapes.specs.declared.StreamKind.{StreamKind}
 use Rattle.template_compiler_generator.specs.Acceptance.{TemplatesAreAccepted}

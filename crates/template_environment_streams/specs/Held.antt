@@ -4,8 +4,8 @@ use Rattle.template_values_model.specs.Val.{Val}
 use Rattle.template_process.specs.Approximants.{IsFinished}
 use Rattle.template_code.specs.Code.{Code}
 use Rattle.template_code.specs.Listing.{code_in}
-use Rattle.template_code_checked.specs.Checked as checked
-use Rattle.template_code_checked.specs.declared.checked.Checked.{Checked}
+use Rattle.template_code_shapes.specs.Checked as checked
+use Rattle.template_code_shapes.specs.declared.checked.Checked.{Checked}
 use Rattle.template_machine_meaning.specs.Keys.{Home, kept, Stream, home_of}
 use Rattle.template_machine_renders.specs.Programs.{code_at}
 use Rattle.template_machine_streams.specs.Streams.{Codes, IsSound}

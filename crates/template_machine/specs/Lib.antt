@@ -25,7 +25,7 @@ pub use Rattle.template_code_shapes.specs.Shapes
 pub use Rattle.template_code_shapes.specs.Streams
 pub use Rattle.template_code_shapes.specs.Laws as StreamLaws
 pub use Rattle.template_code_shapes.specs.Passes
-pub use Rattle.template_code_checked.specs.Checked
+pub use Rattle.template_code_shapes.specs.Checked
 pub use Rattle.template_code.specs.Code
 pub use Rattle.template_code.specs.Counting
 pub use Rattle.template_code.specs.Steps

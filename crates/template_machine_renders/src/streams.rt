@@ -2,7 +2,7 @@
 ghost use Rattle.std.specs.Prelude.{◌≡◌, ℕ, ◌≤◌, length, None, Some, IfOk};
 ghost use Rattle.template_code.specs.Listing.{code_in};
 ghost use Rattle.template_code.specs.Steps.{values_in};
-ghost use Rattle.template_code_checked.specs.Checked.{kind_in, stream_in};
+ghost use Rattle.template_code_shapes.specs.Checked.{kind_in, stream_in};
 ghost use Rattle.template_code_shapes.specs.declared.StreamKind.{StreamKind};
 ghost use Rattle.template_machine_going.specs.Told.{CountsFailures};
 ghost use Rattle.template_machine_meaning.specs.Keeps.{KeepsWorld};
@@ -15,7 +15,7 @@ ghost use Rattle.template_machine_renders.specs.Handed.{ComesGiving, LeavesAtEnd
 
 use std::alloc::Global;
 use template_code::Instructions;
-use template_code_checked::Checked;
+use template_code_shapes::Checked;
 use template_machine_going::Stop;
 use template_machine_loop::{Kept, Program, Templates, run_to_end, run_whole};
 use template_machine_operands::Operands;

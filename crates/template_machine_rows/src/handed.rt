@@ -4,7 +4,7 @@ use crate::writers::{Taker, Taking};
 use serde_json::Value as Json;
 use std::alloc::Global;
 use template_callables::Extension;
-use template_code_checked::{Checked, verify};
+use template_code_shapes::{Checked, verify};
 use template_environment::State;
 use template_machine_surroundings::WriteWrapper;
 use template_rows::unreadable;

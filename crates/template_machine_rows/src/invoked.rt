@@ -6,7 +6,7 @@ use crate::tellings::{tell_state, tell_temp};
 use crate::writers::{Taker, Taking};
 use std::alloc::Global;
 use template_callables::Extension;
-use template_code_checked::Checked;
+use template_code_shapes::Checked;
 use template_environment::{State, Template, escape_formatter, namespace};
 use template_machine_operations::{dict, range};
 use template_machine_surroundings::WriteWrapper;

@@ -1,4 +1,4 @@
-use Rattle.template_code_checked.specs.Checked.{kind_in}
+use Rattle.template_code_shapes.specs.Checked.{kind_in}
 use Rattle.template_environment.specs.Extras.{user_answers}
 use Rattle.template_environment_streams.proofs.Ending.{fresh_reached, handed_ends, later_reached, own_leaves}
 use Rattle.template_environment_streams.proofs.Rendered.{rendered_reached}

@@ -1,22 +1,18 @@
 //! Streams of instructions that can be run.
-#![tactic(auto)]
 
 ghost use Rattle.std.specs.Prelude.{◌≡◌, ◌⊎◌, ◌∷◌, [], IfOk, IfErr};
 ghost use Rattle.template_code.specs.Listing.{code_in};
 ghost use Rattle.template_code_shapes.specs.Streams.{IsGood};
 ghost use Rattle.template_code_shapes.specs.Passes.{IsBad};
 ghost use Rattle.template_code_shapes.specs.declared.StreamKind.{StreamKind};
-ghost use Rattle.template_code_checked.specs.Checked.{kind_in, stream_in};
+ghost use Rattle.template_code_shapes.specs.Checked.{kind_in, stream_in};
 
-mod checked;
-mod kind;
-
-pub use checked::Checked;
-use kind::kind_of;
+use crate::kind::kind_of;
 use std::alloc::Global;
 use template_code::Instructions;
-use template_code_shapes::Stop;
+use crate::Stop;
 use template_values_errors::{Error, ErrorKind};
+use crate::checked::Checked;
 
 /// Accepts a stream in which each place has one shape however it is reached, each reached instruction
 /// is admissible with that shape, and at the end nothing is open and no operand is left, which is a

@@ -3,7 +3,7 @@ use Rattle.std.specs.Prelude.{option_map}
 use Rattle.template_code.specs.Listing.{code_in}
 use Rattle.template_code_shapes.specs.Outlines.{shape_of}
 use Rattle.template_code_shapes.proofs.Finishing.{good_end, ends_badly, told_first}
-use Rattle.template_code_checked.proofs.kind.kind_of.Goals as goal
+use Rattle.template_code_shapes.proofs.kind.kind_of.Goals as goal
 
 pub returns-in-Some-clause-good : goal.returns-in-Some-clause-good
 returns-in-Some-clause-good c =

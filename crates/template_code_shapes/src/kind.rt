@@ -10,7 +10,7 @@ ghost use Rattle.template_code_shapes.specs.declared.StreamKind.{StreamKind};
 
 use std::alloc::Global;
 use template_code::Instructions;
-use template_code_shapes::{Outline, Stop, StreamKind, shape_at_end};
+use crate::{Outline, Stop, StreamKind, shape_at_end};
 
 /// What kind of stream the instructions are, by the shape at their end.
 pub(crate) fn kind_of(alloc: Global, code: &Instructions<'_>) -> Result<StreamKind, Stop>

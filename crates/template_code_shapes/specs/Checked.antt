@@ -1,7 +1,7 @@
 -- What contracts see of a stream that was accepted.
 use Rattle.template_code.specs.declared.listing.Instructions.{Instructions}
 use Rattle.template_code_shapes.specs.declared.StreamKind.{StreamKind}
-use Rattle.template_code_checked.specs.declared.checked.Checked.{Checked}
+use Rattle.template_code_shapes.specs.declared.checked.Checked.{Checked}
 
 -- the instructions, as they were given
 abbrev pub stream_in : Checked → Instructions

@@ -5,7 +5,7 @@ ghost use Rattle.template_code.specs.Listing.{code_in};
 ghost use Rattle.template_code_shapes.specs.Streams.{IsGood};
 
 use template_code::Instructions;
-use template_code_shapes::StreamKind;
+use crate::StreamKind;
 
 /// Instructions that [`verify`](crate::verify) accepted: whatever a run of them is answered, none ever lacks an
 /// operand, and at their end a template's leave nothing and an expression's leave its value.
@@ -17,7 +17,7 @@ pub struct Checked<'source> {
 }
 
 impl<'source> Checked<'source> {
-    ghost use Rattle.template_code_checked.specs.Checked.{kind_in, stream_in};
+    ghost use Rattle.template_code_shapes.specs.Checked.{kind_in, stream_in};
 
     /// The instructions.
     pub fn instructions(&self) -> &Instructions<'source>
