@@ -2,3 +2,4 @@ pub mod Pairs
 pub mod Settling
 pub mod Along
 pub mod Chains
+pub mod Joined

@@ -9,7 +9,7 @@ ghost use Rattle.template_walk.specs.Containers.{pairs_with};
 
 use crate::operators::settled;
 use std::alloc::Global;
-use template_compiler_literals::literals;
+use crate::literal_values::literals;
 use template_tree::Expr;
 use template_values_core::{Entry, Value};
 use template_values_errors::Error;

@@ -3,6 +3,7 @@
 
 mod constants;
 mod containers;
+mod literal_values;
 mod operators;
 
 pub use constants::as_const;

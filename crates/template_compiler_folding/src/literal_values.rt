@@ -1,5 +1,4 @@
 //! The values of literals.
-#![tactic(auto)]
 
 ghost use Rattle.std.specs.Prelude.{◌≡◌, IfOk, IfErr, option_map};
 ghost use Rattle.template_values_errors.specs.Memory.{NoMemory};

@@ -2,8 +2,8 @@
 use Rattle.std.proofs.Common.{◌≡◌, drop}
 use Rattle.template_tree.specs.View.{expressions_in}
 use Rattle.template_walk.specs.Constants.{literals_of}
-use Rattle.template_compiler_literals.proofs.Joined.{joined}
-use Rattle.template_compiler_literals.proofs.literals.Given as goal
+use Rattle.template_compiler_folding.proofs.Joined.{joined}
+use Rattle.template_compiler_folding.proofs.literal_values.literals.Given as goal
 
 abbrev pub invariant-loop-expr : goal.invariant-loop-expr
 invariant-loop-expr l = record {

@@ -1,5 +1,0 @@
-use Rattle.template_compiler_literals.proofs.Joined.{other_than_literal}
-use Rattle.template_compiler_literals.proofs.literal.Goals as goal
-
-pub returns-in_default : goal.returns-in_default
-returns-in_default c = other_than_literal c.args.expr.now c.in_default.not-Const
