@@ -10,7 +10,7 @@ use Rattle.template_tree_statements.specs.declared.statements.Stmt.{Stmt}
 use Rattle.template_values_errors.specs.Memory.{NoMemory}
 use Rattle.template_code.specs.Code.{Code}
 use Rattle.template_compiler_codegen.specs.Statements.{template_code}
-use Rattle.template_compiler_numbers.specs.Numbers.{numbered_in}
+use Rattle.template_compiler_generator.specs.Numbers.{numbered_in}
 use Rattle.template_compiler_statement_codegen.specs.Listed.{body_in}
 use Rattle.template_compiler_syntax.specs.Syntax.{Syntax, IsUsable}
 use Rattle.template_compiler_sources.specs.Source.{IsSource, RefusesSource, source_of}

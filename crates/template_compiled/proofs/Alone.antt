@@ -10,7 +10,7 @@ use Rattle.template_tree.specs.declared.expressions.Expr.{Expr}
 use Rattle.template_walk.specs.Runnable.{IsRunnable}
 use Rattle.template_code.specs.Code.{Code}
 use Rattle.template_compiler_codegen.specs.Statements.{standalone_code}
-use Rattle.template_compiler_numbers.specs.Numbers.{numbered_in}
+use Rattle.template_compiler_generator.specs.Numbers.{numbered_in}
 use Rattle.template_compiler_tokens.specs.Token.{Token}
 use Rattle.template_compiler_sources.proofs.Spelling.{one_spelled, some_spelled}
 use Rattle.template_compiler_grammar.specs.TreeReader.{expression_at}

@@ -6,7 +6,7 @@ use Rattle.template_tree.specs.Tree.{Expression, constant}
 use Rattle.template_walk.specs.Runnable.{IsRunnable}
 use Rattle.template_code.specs.Code.{Code}
 use Rattle.template_compiler_codegen.specs.Statements.{standalone_code}
-use Rattle.template_compiler_numbers.specs.Numbers.{numbered_in}
+use Rattle.template_compiler_generator.specs.Numbers.{numbered_in}
 use Rattle.template_compiler_tokens.specs.Steps.{Read}
 use Rattle.template_compiler_grammar.specs.TreeReader.{expression_at}
 use Rattle.template_compiler_sources.proofs.Spelling.{some_spelled}

@@ -4,7 +4,7 @@ use Rattle.template_tree.specs.Tree.{Statements}
 use Rattle.template_walk.specs.Blocks.{Block, blocks_in, block_named}
 use Rattle.template_code.specs.Streams.{BlockStream}
 use Rattle.template_compiler_codegen.specs.Statements.{template_code}
-use Rattle.template_compiler_numbers.specs.Numbers.{numbered_in}
+use Rattle.template_compiler_generator.specs.Numbers.{numbered_in}
 
 -- a block's stream: the code of its body, whose filters and tests have numbers of their own
 abbrev pub stream_of : Block → BlockStream

@@ -19,7 +19,7 @@ use std::borrow::CowStr;
 use std::collections::BTreeSet;
 use std::marker::Model;
 use template_code::Instructions;
-use template_compiler_numbers::number_names;
+use template_compiler_generator::number_names;
 use template_compiler_sources::parse_expr;
 use template_names_statements::find_undeclared;
 use template_tree::{Expr, Span, Spanned};

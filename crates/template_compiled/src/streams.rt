@@ -12,7 +12,7 @@ use std::alloc::Global;
 use std::borrow::CowStr;
 use template_code::{Instructions, CompiledBlock};
 use template_compiler_blocks::blocks;
-use template_compiler_numbers::number_names;
+use template_compiler_generator::number_names;
 use template_tree_statements::{Block, Stmt};
 use template_values_errors::Error;
 

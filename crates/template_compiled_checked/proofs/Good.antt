@@ -12,7 +12,7 @@ use Rattle.template_code.specs.declared.blocks.CompiledBlock.{CompiledBlock}
 use Rattle.template_code_shapes.specs.Streams.{IsGood}
 use Rattle.template_code_shapes.specs.declared.StreamKind.TheVariants.{Template}
 use Rattle.template_compiler_codegen.specs.Statements.{template_code}
-use Rattle.template_compiler_numbers.specs.Numbers.{numbered_in}
+use Rattle.template_compiler_generator.specs.Numbers.{numbered_in}
 use Rattle.template_compiler_generator.specs.Acceptance.{TemplatesAreAccepted}
 use Rattle.template_compiler_generator.specs.Drafts.{Draft}
 use Rattle.template_compiled.specs.Streams.{stream_of, streams_of}

@@ -58,8 +58,8 @@ pub use Rattle.template_compiler_codegen.specs.Core as CodeCore
 pub use Rattle.template_compiler_codegen.specs.Expressions as ExpressionCode
 pub use Rattle.template_compiler_codegen.specs.Statements as StatementCode
 pub use Rattle.template_compiler_codegen.specs.Laws
-pub use Rattle.template_compiler_numbers.specs.Numbers
-pub use Rattle.template_compiler_numbers.specs.Laws as NumberLaws
+pub use Rattle.template_compiler_generator.specs.Numbers
+pub use Rattle.template_compiler_generator.specs.NumberLaws as NumberLaws
 pub use Rattle.template_compiler_emission.specs.Puts
 pub use Rattle.template_compiler_statement_codegen.specs.Listed
 pub use Rattle.template_compiler_generator.specs.Alone

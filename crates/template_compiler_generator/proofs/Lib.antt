@@ -14,3 +14,6 @@ pub mod Pieces
 mod CallBlocks
 mod Numbers
 pub mod Accepted
+pub mod Alike
+pub mod Naming
+pub mod Passing

@@ -8,8 +8,8 @@ use Rattle.template_code_shapes.specs.declared.StreamKind.{StreamKind}
 use Rattle.template_code_shapes.specs.Shapes.{Shape, Form, single_form, counted_form, counting_form, lowered, taken, closure_taken, given, body_of, opened, loop_opened, innermost_loop}
 use Rattle.template_code_shapes.specs.Effects.{Effect, effect_of, adds, code_before, ends_capture, falling, is_behind, is_iterate, jumping, leans, loads_one, made, making, may_jump, may_lead, swapped, texts_loaded, traded}
 use Rattle.template_code_shapes.specs.Streams.{IsCertificate, Leads}
-use Rattle.template_compiler_numbers.specs.Numbers.{bare, numbered_in}
-use Rattle.template_compiler_numbers.proofs.Alike.{bare_in}
+use Rattle.template_compiler_generator.specs.Numbers.{bare, numbered_in}
+use Rattle.template_compiler_generator.proofs.Alike.{bare_in}
 
 -- what is read of an instruction at another place
 bare_leans : (o : Option Code) → leans (option_map bare o) ≡ leans o

@@ -6,7 +6,7 @@ use Rattle.template_code_shapes.specs.declared.StreamKind.TheVariants.{Template,
 use Rattle.template_code_shapes.specs.Streams.{IsGood}
 use Rattle.template_compiler_codegen.specs.Expressions.{expression_code}
 use Rattle.template_compiler_codegen.specs.Statements.{no_ways, statements_code}
-use Rattle.template_compiler_numbers.specs.Numbers.{numbered_in}
+use Rattle.template_compiler_generator.specs.Numbers.{numbered_in}
 use Rattle.template_compiler_generator.specs.Drafts.{Draft, Generates}
 
 -- Whatever is generated for a runnable template, onto no code, is a good stream of a template with its numbers.

@@ -5,3 +5,5 @@ pub mod Laws
 pub mod Certificates
 pub mod Pieces
 pub mod Acceptance
+pub mod Numbers
+pub mod NumberLaws

@@ -11,7 +11,7 @@ ghost use Rattle.template_compiler_codegen.specs.Expressions.{expression_code};
 ghost use Rattle.template_compiler_codegen.specs.Statements.{no_ways, statements_code, target_code};
 ghost use Rattle.template_compiler_generator.specs.Alone.{CanStand, statements_of};
 ghost use Rattle.template_compiler_emission.specs.Puts.{NoRoom};
-ghost use Rattle.template_compiler_numbers.specs.Numbers.{numbered_in};
+ghost use Rattle.template_compiler_generator.specs.Numbers.{numbered_in};
 ghost use Rattle.template_compiler_generator.specs.Drafts.{Generates, IsTooLong, MarksBehind, is_branch, is_choice, is_loop, jumps_of, leap_of, loop_flags, next_jump, span_on, with_block, with_blocks, with_choice, with_choice_end, with_chosen, with_code, with_code_from, with_else, with_end, with_if, with_jump, with_line, with_loop, with_loop_end, with_marked, with_span, with_told, without_span};
 ghost use Rattle.template_compiler_generator.specs.View.{draft_of, open_of, refused_of};
 
@@ -21,7 +21,7 @@ use std::alloc::Global;
 use template_code::{Instruction, Instructions, LOOP_FLAG_RECURSIVE, LOOP_FLAG_WITH_LOOP_VAR, buffer_size_hint};
 use template_compiler_emission::Leap;
 use template_compiler_expression_codegen::compile_expr;
-use template_compiler_numbers::number_names;
+use crate::number_names;
 use template_compiler_statement_codegen::{compile_assignment, compile_statements};
 use template_tree::{Expr, Span};
 use template_tree_statements::Stmt;

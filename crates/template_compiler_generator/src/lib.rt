@@ -6,10 +6,14 @@ ghost use Rattle.template_compiler_generator.specs.Laws.{IfGenerates, ElseGenera
 
 mod alone;
 mod blocks;
+mod call_numbers;
 mod certificates;
 mod generator;
+mod numbers;
 mod verified;
 
+pub use numbers::number_names;
+pub use call_numbers::numbers_run_alike;
 pub use certificates::{
     expressions_are_certified, expressions_go_on, expressions_perform_anywhere,
     statements_perform_anywhere, templates_are_certified, templates_go_on,

@@ -7,7 +7,7 @@ ghost use Rattle.template_code_shapes.specs.Streams.{IsGood};
 ghost use Rattle.template_code_shapes.specs.declared.StreamKind.{StreamKind};
 ghost use Rattle.template_compiler_codegen.specs.Statements.{standalone_code, template_code};
 ghost use Rattle.template_compiler_emission.specs.Puts.{NoRoom};
-ghost use Rattle.template_compiler_numbers.specs.Numbers.{numbered_in};
+ghost use Rattle.template_compiler_generator.specs.Numbers.{numbered_in};
 ghost use Rattle.template_compiler_generator.specs.Acceptance.{ExpressionsAreAccepted, TemplatesAreAccepted};
 ghost use Rattle.template_compiler_generator.specs.Alone.{CanStand, statements_of};
 ghost use Rattle.template_tree_statements.specs.View.{statement_of};

@@ -5,8 +5,8 @@ use Rattle.template_process.specs.Drive.{ends}
 use Rattle.template_process.specs.Trace.{Run, behind, ended, run}
 use Rattle.template_code.specs.Code.{Operand, Code}
 use Rattle.template_code.specs.Steps.{values_in}
-use Rattle.template_compiler_numbers.specs.Numbers.{numbered_in}
-use Rattle.template_compiler_numbers.proofs.Alike.{numbers_run_alike}
+use Rattle.template_compiler_generator.specs.Numbers.{numbered_in}
+use Rattle.template_compiler_generator.proofs.Alike.{numbers_run_alike}
 use Rattle.template_machine_meaning.specs.Surroundings.{Programs, answer}
 use Rattle.template_machine_meaning.specs.World.{World}
 use Rattle.template_machine_going.specs.Outcomes.{Stops, faults, runs_out, strays}

@@ -8,8 +8,8 @@ use Rattle.template_code.specs.Code.{Code, single, apply_filter, perform_test}
 use Rattle.template_code.specs.Counting.{MacroPlace, counts_of, offset_of, names_listed, macro_from, macro_at, rounds_from, rounds_at}
 use Rattle.template_code.specs.Steps.{exec}
 use Rattle.template_compiler_codegen.specs.Statements.{template_code}
-use Rattle.template_compiler_numbers.specs.Numbers.{bare, numbered_in}
-use Rattle.template_compiler_numbers.proofs.Alike.{bare_in, numbers_run_alike}
+use Rattle.template_compiler_generator.specs.Numbers.{bare, numbered_in}
+use Rattle.template_compiler_generator.proofs.Alike.{bare_in, numbers_run_alike}
 use Rattle.template_machine_meaning.specs.Keys.{Part, whole, body_of, rounds_of}
 use Rattle.template_machine_codes.specs.Codes.{body_coded, part_coded}
 use Rattle.template_machine_renders.specs.Programs.{body_in, part_in}

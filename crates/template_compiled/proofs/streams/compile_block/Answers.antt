@@ -4,7 +4,7 @@ use Rattle.template_tree_parts.specs.Listed.{statements_in}
 use Rattle.template_tree_statements.specs.declared.statements.Stmt.{Stmt}
 use Rattle.template_walk.specs.Runnable.{AreRunnableStatements}
 use Rattle.template_compiler_codegen.specs.Statements.{no_ways, statements_code}
-use Rattle.template_compiler_numbers.specs.Numbers.{numbered_in}
+use Rattle.template_compiler_generator.specs.Numbers.{numbered_in}
 use Rattle.template_compiled.proofs.Bodies.{stream_with}
 use Rattle.template_compiled.proofs.streams.compile_block.Goals as goal
 

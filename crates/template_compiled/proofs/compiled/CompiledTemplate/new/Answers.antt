@@ -4,7 +4,7 @@ use Rattle.template_tree_statements.specs.View.{statement_of}
 use Rattle.template_walk.specs.Runnable.{AreRunnableStatements}
 use Rattle.template_code.specs.Code.{Code}
 use Rattle.template_compiler_codegen.specs.Statements.{no_ways, statements_code}
-use Rattle.template_compiler_numbers.specs.Numbers.{numbered_in}
+use Rattle.template_compiler_generator.specs.Numbers.{numbered_in}
 use Rattle.template_compiler_statement_codegen.specs.Listed.{body_in}
 use Rattle.template_compiler_sources.specs.Source.{IsSource}
 use Rattle.template_compiler_syntax.specs.Syntax.{Syntax}

@@ -3,7 +3,7 @@ ghost use Rattle.std.specs.Prelude.{◌≡◌, ◌≤◌, IfOk, IfErr, OnOk, OnE
 ghost use Rattle.std.specs.List.{position};
 ghost use Rattle.template_values_errors.specs.Memory.{NoMemory};
 ghost use Rattle.template_code.specs.Listing.{code_in, places_in, IsSameTemplate};
-ghost use Rattle.template_compiler_numbers.specs.Numbers.{Numbers, bare, name_at, names_at, number_among, numbered_in, with_name};
+ghost use Rattle.template_compiler_generator.specs.Numbers.{Numbers, bare, name_at, names_at, number_among, numbered_in, with_name};
 
 use std::alloc::Global;
 use template_code::{Instruction, Instructions, LocalId, MAX_LOCALS};

@@ -6,8 +6,8 @@ use Rattle.template_code.specs.Code.{Operand, Code, apply_filter, perform_test}
 use Rattle.template_code.specs.Counting.{counts_of, counts_before}
 use Rattle.template_code.specs.Prices.{price_of, steps}
 use Rattle.template_code.specs.Steps.{deed, act, exec}
-use Rattle.template_compiler_numbers.specs.Numbers.{Names, names_with, numbered, numbered_behind, numbered_in, no_names, bare}
-use Rattle.template_compiler_numbers.specs.Laws.{NumbersRunAlike}
+use Rattle.template_compiler_generator.specs.Numbers.{Names, names_with, numbered, numbered_behind, numbered_in, no_names, bare}
+use Rattle.template_compiler_generator.specs.NumberLaws.{NumbersRunAlike}
 
 -- a number leaves an instruction as it is else
 pub bare_numbered : (names : Names) (c : Code) → bare (numbered names c) ≡ bare c

@@ -5,8 +5,8 @@ use Rattle.template_code.specs.Code.{Code, apply_filter, perform_test, emit}
 use Rattle.template_code.specs.View.{code_of}
 use Rattle.template_code.specs.declared.instruction.Instruction.{Instruction}
 use Rattle.template_code.specs.declared.instruction.Instruction.TheVariants as instructions
-use Rattle.template_compiler_numbers.specs.Numbers.{Names, Numbers, bare, name_at, name_of, names_at, names_past, names_with, number_among, numbered, numbered_at, numbered_behind, with_name}
-use Rattle.template_compiler_numbers.proofs.Alike.{bare_numbered}
+use Rattle.template_compiler_generator.specs.Numbers.{Names, Numbers, bare, name_at, name_of, names_at, names_past, names_with, number_among, numbered, numbered_at, numbered_behind, with_name}
+use Rattle.template_compiler_generator.proofs.Alike.{bare_numbered}
 
 -- the code up to a place, and that behind it with its numbers
 abbrev pub passed : List Code → ℕ → Names → List Code

@@ -6,7 +6,7 @@ use Rattle.std.proofs.lemmas.List.{length-map, length-append}
 use Rattle.std.proofs.lemmas.List.Folds.{position_or_len_push}
 use Rattle.std.proofs.lemmas.List.Sums.{prefix_len-le-length}
 use Rattle.std.proofs.lemmas.Slice.Eq.{bytes_eq-Decides}
-use Rattle.template_compiler_numbers.specs.Numbers.{no_number, number_among, place_among, with_name}
+use Rattle.template_compiler_generator.specs.Numbers.{no_number, number_among, place_among, with_name}
 
 abbrev is_name : List ℕ → List ℕ → Bool
 is_name name = λ other. bytes_eq other name

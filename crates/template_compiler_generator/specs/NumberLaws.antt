@@ -2,7 +2,7 @@
 use Rattle.std.specs.Prelude.{◌≡◌, ℕ, List}
 use Rattle.template_code.specs.Code.{Operand, Code}
 use Rattle.template_code.specs.Steps.{exec}
-use Rattle.template_compiler_numbers.specs.Numbers.{numbered_in}
+use Rattle.template_compiler_generator.specs.Numbers.{numbered_in}
 
 -- Code does the same with its numbers as without them.
 abbrev pub NumbersRunAlike : Type 0

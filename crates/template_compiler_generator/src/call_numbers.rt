@@ -1,11 +1,7 @@
 //! The numbers under which a stream knows the filters and the tests that it names.
-#![tactic(auto)]
 
-ghost use Rattle.template_compiler_numbers.specs.Laws.{NumbersRunAlike};
+ghost use Rattle.template_compiler_generator.specs.NumberLaws.{NumbersRunAlike};
 
-mod numbers;
-
-pub use numbers::number_names;
 
 /// A law, as the contract of a function that does nothing: code does the same with its numbers as without them.
 pub fn numbers_run_alike()
