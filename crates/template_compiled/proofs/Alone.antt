@@ -16,7 +16,7 @@ use Rattle.template_compiler_sources.proofs.Spelling.{one_spelled, some_spelled}
 use Rattle.template_compiler_grammar.specs.TreeReader.{expression_at}
 use Rattle.template_compiler_grammar.proofs.Laws.{tree_complete}
 use Rattle.template_compiler_grammar.proofs.Sound.{expression_sound}
-use Rattle.template_compiler_runnable.proofs.Expressions.{expression_runs}
+use Rattle.template_compiler_laws.proofs.RunnableExpressions.{expression_runs}
 use Rattle.template_compiler_tokens.specs.Steps.{Read}
 use Rattle.template_compiler_sources.specs.Source.{IsExpressionSource, RefusesExpression, expression_source}
 use Rattle.template_compiled.specs.Expressions.{HasExpression, IsFaithfulExpression, code_alone, expression_in, read_alone}

@@ -2,7 +2,7 @@
 use Rattle.std.proofs.Common.{◌≡◌, ℕ, List, Result, Ok, Err, refl, ap, ◌∙◌}
 use Rattle.template_tree.specs.Tree.{Statement, Statements, template}
 use Rattle.template_walk.specs.Runnable.{IsRunnableTemplate}
-use Rattle.template_compiler_runnable.proofs.Statements.{template_runs}
+use Rattle.template_compiler_laws.proofs.RunnableStatements.{template_runs}
 use Rattle.template_compiler_statement_codegen.specs.Listed.{IsRunnableTree, body_in}
 use Rattle.template_compiler_tokens.specs.Token.{Token, TokenFault}
 use Rattle.template_compiler_syntax.specs.Syntax.{Syntax, IsUsable}

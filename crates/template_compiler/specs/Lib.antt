@@ -66,7 +66,7 @@ pub use Rattle.template_compiler_generator.specs.Alone
 pub use Rattle.template_compiler_generator.specs.Drafts
 pub use Rattle.template_compiler_generator.specs.View as DraftView
 pub use Rattle.template_compiler_generator.specs.Laws as DraftLaws
-pub use Rattle.template_compiler_runnable.specs.Laws as TreeLaws
+pub use Rattle.template_compiler_laws.specs.Laws as TreeLaws
 pub use Rattle.template_compiled.specs.Sources
 pub use Rattle.template_compiled.specs.Compiled
 pub use Rattle.template_compiled.specs.Streams as TemplateStreams

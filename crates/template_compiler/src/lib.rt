@@ -61,7 +61,7 @@ pub use template_compiler_codegen::{
 pub use template_compiler_folding::{as_const, fold_list, fold_map, fold_tuple};
 pub use template_compiler_generator::{CodeGenerator, blocks_generate, number_names, numbers_run_alike};
 pub use template_compiler_grammar::template_laws::{is_decided, one_template, reads_the_grammar};
-pub use template_compiler_runnable::{expressions_run, templates_run};
+pub use template_compiler_laws::{expressions_run, templates_run};
 pub use template_compiler_sources::{error_of, read_expression_tokens, Parser, parse, parse_expr};
 pub use template_compiler_statement_codegen::{compile_expr, compile_template};
 pub use template_compiler_stream::{Fault, First, Refusal, TokenStream as ExpressionTokens};

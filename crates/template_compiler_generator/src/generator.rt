@@ -433,7 +433,7 @@ impl<'source> CodeGenerator<'source> {
     /// Adds the instructions of an expression, which gives its value. They come from the expression, whatever line and
     /// spans are open. Linear in the expression, besides what the operators of constant trees cost.
     ///
-    /// Every expression that a source has can be given (`expressions_run` of `template_compiler_runnable`). One that is made by
+    /// Every expression that a source has can be given (`expressions_run` of `template_compiler_laws`). One that is made by
     /// hand must have what each of them has: a value in each filter, and a comparison in each chain of them.
     ///
     /// # Errors
@@ -458,7 +458,7 @@ impl<'source> CodeGenerator<'source> {
     /// and spans are open; of a block they are its call, as its body is a stream of its own. Linear in the tree, besides what the
     /// operators of constant trees cost.
     ///
-    /// Every template that a source has can be given (`templates_run` of `template_compiler_runnable`), and every statement of it that
+    /// Every template that a source has can be given (`templates_run` of `template_compiler_laws`), and every statement of it that
     /// is no `break` and no `continue` of a loop around it. A tree that is made by hand must have what each of them has: `break` and
     /// `continue` in loops alone, a filter over each body that is filtered, targets where values are stored, no template within, and
     /// expressions as [`CodeGenerator::compile_expr`] takes them.

@@ -15,9 +15,9 @@ use Rattle.template_code.specs.Code.{Code, get_attr, set_attr, get_item, slice, 
 use Rattle.template_compiler_codegen.specs.Core.{Core, flat}
 use Rattle.template_compiler_codegen.specs.Expressions.{Coded, unary_code, then_code, one, nothing, dropped, loaded, skipped, either_code, binary_code, entry_count, listed_core, mapped_core, at_most_one, stretches_core, entries_stretches_core, list_count, rest_count, merged_core, map_count, keywords_core, keyword_count, run_core, passed_core, passed_count, block_core, called_core, no_number, expression_core, object_core, positional_cores, keyword_cores, expression_code, optional_code, expressions_code, codes_of, entries_code, chain_code, linked_code, filter_code, filters_code, passed_code, argument_count}
 use Rattle.template_compiler_codegen.specs.Statements.{Ways, no_ways, own_ways, closing_with, target_code, targets_code, assignments_code, loop_flags, no_flags, one_item, rounds_code, iterable_code, keep_code, kept_code, loop_end_code, branches_code, left_by, printed_core, imports_core, apart_core, parameter_core, parameters_core, enclosed_core, macro_flags, declared_core, calling_core, statements_core, statement_code, statements_code}
-use Rattle.template_code_bounds.proofs.Sizes.{expression_size, optional_size, expressions_size, arguments_size, chain_size, links_size, target_size, targets_size, stored_size, iterable_size, assignments_size, defaults_size, statement_size, statements_size}
-use Rattle.template_code_bounds.proofs.Depth.{IsWithin, AreWithin}
-use Rattle.template_code_bounds.proofs.Names.{more_targets_size, declared_more}
+use Rattle.template_compiler_laws.proofs.Sizes.{expression_size, optional_size, expressions_size, arguments_size, chain_size, links_size, target_size, targets_size, stored_size, iterable_size, assignments_size, defaults_size, statement_size, statements_size}
+use Rattle.template_compiler_laws.proofs.Depth.{IsWithin, AreWithin}
+use Rattle.template_compiler_laws.proofs.Names.{more_targets_size, declared_more}
 
 abbrev AtMost : Coded → ℕ → Type 0
 AtMost f n = (place : ℕ) → length (f place) ≤ n

@@ -6,7 +6,7 @@ use Rattle.template_compiler_tokens.specs.Token.{Token}
 use Rattle.template_compiler_grammar.specs.Words.{Level}
 use Rattle.template_compiler_grammar.specs.Trees.{Paired, Written}
 use Rattle.template_compiler_grammar.specs.Grammar.{IsExpression, unconditional, if_alone, if_else, IsBinary, operands, IsOperands, operands_end, operands_more, IsOperand, factor, text_operand, term, conjunct, disjunct, IsNegation, negation, no_negation, IsComparison, comparison, IsLinks, links_end, links_operator, links_not_in, IsPower, no_power, power, IsFiltered, filtered_value, IsFilters, filters_end, filters_more, IsFilterParts, filter_parts, is_test, is_not_test, IsFilter, filter, IsTest, test, bare_test, IsOptionalArguments, no_list, a_list, IsUnary, minus_sign, primary, IsParts, parts_end, parts_more, IsPart, attribute_part, number_part, subscript_part, call_part, IsSubscript, item_subscript, slice_subscript, IsBound, no_bound, a_bound, IsStep, no_step, a_step, IsPrimary, name_primary, word_primary, number_primary, text_primary, paren_primary, list_primary, map_primary, IsParen, empty_tuple, in_parens, tuple, IsItems, items_end, items_last, items_more, IsPairs, pairs_end, pairs_last, pairs_more, IsArgumentList, argument_list, IsArguments, arguments_end, arguments_last, arguments_next, IsArgument, positional_argument, keyword_argument, spread_argument, keyword_spread_argument, IsFilterChain, chain_end, chain_more}
-use Rattle.template_compiler_runnable.proofs.Trees.{and_runs, and_link_runs, compared_runs, tested_runs, ArgumentRuns, WrittenRuns, and_written_runs, followed_runs}
+use Rattle.template_compiler_laws.proofs.Trees.{and_runs, and_link_runs, compared_runs, tested_runs, ArgumentRuns, WrittenRuns, and_written_runs, followed_runs}
 
 abbrev PairsRun : Paired → Type 0
 PairsRun p = AreRunnable p.0 × AreRunnable p.1

@@ -19,7 +19,7 @@ use Rattle.template_compiler_syntax.specs.Stripping.{stripped_from, stripped_to,
 use Rattle.template_compiler_syntax.specs.Flat.{tokens_of, template_text, IsTokens, source_tokens}
 use Rattle.template_compiler_syntax.proofs.Data.{less_blanks_le}
 use Rattle.template_compiler_sources.specs.Scoped.{after, is_scoped, taken_words, unscoped}
-use Rattle.template_code_bounds.proofs.Weights.{weight, weight-append, takes_weight}
+use Rattle.template_compiler_laws.proofs.Weights.{weight, weight-append, takes_weight}
 
 -- one more than what is left, where something is left
 abbrev room : ℕ → ℕ

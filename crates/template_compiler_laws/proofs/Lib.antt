@@ -9,3 +9,6 @@ mod Tokens
 mod Lengths
 mod Spelled
 mod Bounds
+mod Trees
+pub mod RunnableExpressions
+pub mod RunnableStatements

@@ -7,9 +7,9 @@ use Rattle.template_compiler_tokens.specs.Token.{Token, identifier}
 use Rattle.template_compiler_grammar.specs.TemplateTrees.{Branches, Parameters}
 use Rattle.template_compiler_grammar.specs.Grammar.{IsFilterChain, chain_end, chain_more}
 use Rattle.template_compiler_grammar.specs.TemplateGrammar.{Around, IsStored, stored, IsMore, more_end, more_next, IsTarget, name_target, path_target, paren_target, IsTargets, targets, IsMoreTargets, targets_end, targets_next, IsPath, path_end, path_more, IsValue, value, IsValues, values, IsAssignment, assignment, IsAssignments, none_assigned, some_assigned, IsLoopFilter, no_loop_filter, a_loop_filter, IsImport, same_name, other_name, IsParameter, plain_parameter, default_parameter, IsParameters, none_declared, some_declared, IsOptionalParameters, not_declared, declared, IsStatements, statements_end, statements_next, IsStatement, text_statement, print_statement, for_statement, if_statement, with_statement, set_statement, set_block_statement, autoescape_statement, filter_statement, block_statement, import_statement, from_statement, extends_statement, include_statement, macro_statement, call_statement, do_statement, break_statement, continue_statement, IsBranches, branches_end, branches_next, IsElse, no_else, an_else, IsTemplate, whole_template}
-use Rattle.template_code_bounds.proofs.Sizes.{expression_size, optional_size, expressions_size, target_size, targets_size, iterable_size, assignments_size, defaults_size, imports_size, statement_size, statements_size, branches_size, and_expression_size, and_target_size, and_default_size, and_assignment_size, and_import_size, and_statement_size, and_branch_size, unpacked_size, together_size, branched_size}
-use Rattle.template_code_bounds.proofs.Expressions.{expression_bound, binary_bound, filter_bound}
-use Rattle.template_code_bounds.proofs.Weights.{letters, weight, word_weighs, context_weighs, missing_weighs, block_end_weighs}
+use Rattle.template_compiler_laws.proofs.Sizes.{expression_size, optional_size, expressions_size, target_size, targets_size, iterable_size, assignments_size, defaults_size, imports_size, statement_size, statements_size, branches_size, and_expression_size, and_target_size, and_default_size, and_assignment_size, and_import_size, and_statement_size, and_branch_size, unpacked_size, together_size, branched_size}
+use Rattle.template_compiler_laws.proofs.Expressions.{expression_bound, binary_bound, filter_bound}
+use Rattle.template_compiler_laws.proofs.Weights.{letters, weight, word_weighs, context_weighs, missing_weighs, block_end_weighs}
 
 -- twice the code of a target, which a loop with a condition stores in two places
 stored_bound : {e : Expression} {ts us : List Token} → IsStored ts e us → 2 * target_size 150 e + 201 * weight us ≤ 201 * weight ts

@@ -1,7 +1,7 @@
 //! Laws of trees: what is read has a walk.
-#![tactic(auto)]
 
-ghost use Rattle.template_compiler_runnable.specs.Laws.{ExpressionsRun, TemplatesRun};
+ghost use Rattle.template_compiler_laws.specs.Laws.{ExpressionsRun, TemplatesRun};
+
 
 /// A law, as the contract of a function that does nothing: an expression that the grammar reads has a walk.
 pub fn expressions_run()

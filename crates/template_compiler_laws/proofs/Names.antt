@@ -11,7 +11,7 @@ use Rattle.template_names.specs.Among.{Among}
 use Rattle.template_names.specs.Names.{reversed, is_stored_in, is_stored_by, is_stored_everywhere}
 use Rattle.template_names.specs.Enclosed.{without, standing, standing_if_given, standing_in_each, standing_in_links, standing_in_arguments, standing_in_argument, used_by_target, used_by_targets, used_from, used_of_arguments, is_caller, is_loop, used_of_macro, used_by, used_in, in_order, enclosed_names}
 use Rattle.template_walk.specs.Statements.{imported_names, stored_as}
-use Rattle.template_code_bounds.proofs.Sizes.{expression_size, optional_size, expressions_size, argument_size, arguments_size, chain_size, links_size, target_size, targets_size, assignments_size, stored_size, imports_size, iterable_size, defaults_size, statement_size, statements_size}
+use Rattle.template_compiler_laws.proofs.Sizes.{expression_size, optional_size, expressions_size, argument_size, arguments_size, chain_size, links_size, target_size, targets_size, assignments_size, stored_size, imports_size, iterable_size, defaults_size, statement_size, statements_size}
 
 fewer_kept : (t : Bool) (x : List ℕ) (kept all : List (List ℕ)) → length kept ≤ length all → length (cond t (x ∷ kept) kept) ≤ suc (length all)
 fewer_kept true x kept all h = omega (arith, h)

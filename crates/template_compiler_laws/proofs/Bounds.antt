@@ -2,14 +2,14 @@
 use Rattle.std.proofs.Common.{get_or, arith}
 use Rattle.template_walk.specs.Blocks.{blocks_in}
 use Rattle.template_compiler_codegen.specs.Statements.{no_ways}
-use Rattle.template_code_bounds.specs.Bounds.{TemplatesAreBounded, BlocksAreBounded, ExpressionsAreBounded, ShortTextsFit}
-use Rattle.template_code_bounds.proofs.Expressions.{expression_bound}
-use Rattle.template_code_bounds.proofs.Statements.{template_bound}
-use Rattle.template_code_bounds.proofs.Tokens.{taken_bound}
-use Rattle.template_code_bounds.proofs.Spelled.{spelled_bound}
-use Rattle.template_code_bounds.proofs.Lengths.{expression_most, statements_most}
-use Rattle.template_code_bounds.proofs.Blocks.{blocks_within}
-use Rattle.template_code_bounds.proofs.Depth.{tree_within, blocks_stand}
+use Rattle.template_compiler_laws.specs.Bounds.{TemplatesAreBounded, BlocksAreBounded, ExpressionsAreBounded, ShortTextsFit}
+use Rattle.template_compiler_laws.proofs.Expressions.{expression_bound}
+use Rattle.template_compiler_laws.proofs.Statements.{template_bound}
+use Rattle.template_compiler_laws.proofs.Tokens.{taken_bound}
+use Rattle.template_compiler_laws.proofs.Spelled.{spelled_bound}
+use Rattle.template_compiler_laws.proofs.Lengths.{expression_most, statements_most}
+use Rattle.template_compiler_laws.proofs.Blocks.{blocks_within}
+use Rattle.template_compiler_laws.proofs.Depth.{tree_within, blocks_stand}
 
 pub templates_are_bounded : TemplatesAreBounded
 templates_are_bounded x source tokens tree usable spelled whole =

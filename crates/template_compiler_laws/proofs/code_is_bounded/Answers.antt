@@ -1,5 +1,5 @@
-use Rattle.template_code_bounds.proofs.Bounds.{templates_are_bounded, blocks_are_bounded, expressions_are_bounded, short_texts_fit}
-use Rattle.template_code_bounds.proofs.code_is_bounded.Goals as goal
+use Rattle.template_compiler_laws.proofs.Bounds.{templates_are_bounded, blocks_are_bounded, expressions_are_bounded, short_texts_fit}
+use Rattle.template_compiler_laws.proofs.code_is_bounded.Goals as goal
 
 pub returns-clause-templates : goal.returns-clause-templates
 returns-clause-templates c = templates_are_bounded

@@ -2,7 +2,7 @@
 use Rattle.std.proofs.Common.{◌≤◌, ℕ, suc, List, length, arith, length-drop}
 use Rattle.template_compiler_tokens.specs.Token.{Token}
 use Rattle.template_compiler_tokens.specs.Lexical.{token_at}
-use Rattle.template_code_bounds.proofs.Weights.{weight, takes_weight}
+use Rattle.template_compiler_laws.proofs.Weights.{weight, takes_weight}
 use Rattle.template_compiler_sources.specs.Spelled.{IsSpelled, spelled_end, spelled_blank, spelled_token, spelled_bad}
 
 pub spelled_bound : {s : List ℕ} {ts : List Token} → IsSpelled s ts → weight ts ≤ suc (length s)

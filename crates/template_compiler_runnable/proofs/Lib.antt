@@ -1,3 +1,0 @@
-mod Trees
-pub mod Expressions
-pub mod Statements
