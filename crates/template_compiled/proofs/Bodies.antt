@@ -10,8 +10,8 @@ use Rattle.template_tree_statements.specs.declared.statements.Block.{Block as Bl
 use Rattle.template_code.specs.Code.{Code}
 use Rattle.template_walk.specs.Blocks.{Block, block_among}
 use Rattle.template_walk.specs.Runnable.{AreRunnableStatements}
-use Rattle.template_compiler_blocks.specs.Seen.{tree_of, trees_in}
-use Rattle.template_compiler_blocks.proofs.Runnable.{RunsByItself}
+use Rattle.template_names_needed.specs.Seen.{tree_of, trees_in}
+use Rattle.template_names_needed.proofs.Runnable.{RunsByItself}
 use Rattle.template_code.specs.Streams.{BlockStream, stream_in, streams_in, stream_among}
 use Rattle.template_compiled.specs.Streams.{stream_of}
 use Rattle.template_code.specs.declared.blocks.CompiledBlock.{CompiledBlock}

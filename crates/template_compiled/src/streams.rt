@@ -4,14 +4,14 @@ ghost use Rattle.template_values_errors.specs.Memory.{NoMemory};
 ghost use Rattle.template_tree_parts.specs.Listed.{statements_in};
 ghost use Rattle.template_walk.specs.Runnable.{AreRunnableStatements};
 ghost use Rattle.template_code.specs.Streams.{stream_in, streams_in};
-ghost use Rattle.template_compiler_blocks.specs.Seen.{tree_of};
+ghost use Rattle.template_names_needed.specs.Seen.{tree_of};
 ghost use Rattle.template_compiled.specs.Streams.{stream_of, streams_of};
 
 use crate::room::put_body;
 use std::alloc::Global;
 use std::borrow::CowStr;
 use template_code::{Instructions, CompiledBlock};
-use template_compiler_blocks::blocks;
+use template_names_needed::blocks;
 use template_compiler_generator::number_names;
 use template_tree_statements::{Block, Stmt};
 use template_values_errors::Error;

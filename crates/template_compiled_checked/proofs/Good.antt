@@ -5,7 +5,7 @@ use Rattle.std.proofs.lemmas.List.Elements.{All-nil, All-cons, All-head, All-tai
 use Rattle.template_tree.specs.Tree.{Statements}
 use Rattle.template_walk.specs.Blocks.{Block, blocks_in}
 use Rattle.template_walk.specs.Runnable.{IsRunnableTemplate}
-use Rattle.template_compiler_blocks.proofs.Runnable.{RunsByItself, blocks_run}
+use Rattle.template_names_needed.proofs.Runnable.{RunsByItself, blocks_run}
 use Rattle.template_code.specs.Code.{Code}
 use Rattle.template_code.specs.Streams.{BlockStream, streams_in}
 use Rattle.template_code.specs.declared.blocks.CompiledBlock.{CompiledBlock}

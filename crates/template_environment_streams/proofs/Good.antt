@@ -12,7 +12,7 @@ use Rattle.template_code.specs.Streams.{BlockStream, stream_among}
 use Rattle.template_code_shapes.specs.Streams.{IsGood}
 use Rattle.template_code_shapes.specs.declared.StreamKind.{StreamKind}
 use Rattle.template_code_shapes.specs.declared.StreamKind.TheVariants.{Template}
-use Rattle.template_compiler_blocks.proofs.Runnable.{RunsByItself, blocks_run}
+use Rattle.template_names_needed.proofs.Runnable.{RunsByItself, blocks_run}
 use Rattle.template_compiler_generator.specs.Acceptance.{TemplatesAreAccepted}
 use Rattle.template_machine_meaning.specs.Keys as keys
 use Rattle.template_machine_meaning.specs.Keys.{own, block_of}

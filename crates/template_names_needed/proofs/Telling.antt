@@ -7,7 +7,7 @@ use Rattle.template_tree_parts.specs.Listed.{statements_in}
 use Rattle.template_walk.specs.Blocks.{Block, blocks_in}
 use Rattle.template_walk.specs.Imported.{is_imported}
 use Rattle.template_machine_meaning.specs.Isolation.{is_needed, is_used_by_block, is_used_by_rounds}
-use Rattle.template_compiler_blocks.specs.Seen.{trees_in}
+use Rattle.template_names_needed.specs.Seen.{trees_in}
 use Rattle.template_names.specs.Among.{Adds, Among, is_among, just, nothing}
 use Rattle.template_names.specs.Goes.{Goes, knows, no_place, tells}
 use Rattle.template_names.specs.Names.{IsToldFor, Places, anywhere, is_stored_everywhere, is_used, place_within}

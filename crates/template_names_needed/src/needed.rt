@@ -11,7 +11,7 @@ use crate::imported::imported_names;
 use crate::rounds::recursive_loops;
 use std::alloc::{AllocError, Global};
 use std::collections::BTreeSet;
-use template_compiler_blocks::blocks;
+use crate::blocks;
 use template_names::{Names, add_each};
 use template_names_closures::use_loop_rounds;
 use template_names_statements::{use_region, add_names};

@@ -1,6 +1,6 @@
 //! The blocks among statements.
 ghost use Rattle.std.specs.Prelude.{◌≡◌, ◌++◌, IfOk, refl};
-ghost use Rattle.template_compiler_blocks.specs.Seen.{is_entered, own_blocks, trees_in};
+ghost use Rattle.template_names_needed.specs.Seen.{is_entered, own_blocks, trees_in};
 ghost use Rattle.template_tree_parts.specs.Kinds.{is_block};
 ghost use Rattle.template_tree_parts.specs.Listed.{statements_in};
 ghost use Rattle.template_tree_statements.specs.View.{statement_of};

@@ -2,7 +2,7 @@
 use Rattle.std.proofs.Common.{◌≡◌, List, [], ◌∷◌, ◌++◌, refl, ap}
 use Rattle.std.specs.Borrow.{Bor}
 use Rattle.template_tree_statements.specs.declared.statements.Block.{Block as BlockNode}
-use Rattle.template_compiler_blocks.specs.Seen.{tree_of, trees_in}
+use Rattle.template_names_needed.specs.Seen.{tree_of, trees_in}
 
 pub trees_push : (xs : List (Bor BlockNode)) (x : Bor BlockNode) → trees_in (xs ++ x ∷ []) ≡ trees_in xs ++ tree_of x.now ∷ []
 trees_push [] x = refl

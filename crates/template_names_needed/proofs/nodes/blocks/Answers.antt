@@ -2,9 +2,9 @@ use Rattle.std.proofs.Common.{◌<◌, ◌≤◌, length, [], ◌++◌, append_a
 use Rattle.template_tree_parts.specs.Within.{joined}
 use Rattle.template_tree_parts.proofs.Picked.{all_done, one_more}
 use Rattle.template_tree_parts.specs.Listed.{statements_in}
-use Rattle.template_compiler_blocks.specs.Seen.{own_blocks, trees_in}
-use Rattle.template_compiler_blocks.proofs.Taking.{blocks_of}
-use Rattle.template_compiler_blocks.proofs.nodes.blocks.Goals as goal
+use Rattle.template_names_needed.specs.Seen.{own_blocks, trees_in}
+use Rattle.template_names_needed.proofs.BlockTaking.{blocks_of}
+use Rattle.template_names_needed.proofs.nodes.blocks.Goals as goal
 
 pub loop-i-preserved : goal.loop-i-preserved
 loop-i-preserved c =

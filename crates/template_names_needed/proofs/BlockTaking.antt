@@ -6,7 +6,7 @@ use Rattle.template_tree_parts.specs.Kinds.{is_block, is_call_block, is_macro, i
 use Rattle.template_tree_parts.specs.Within.{joined, picked_among}
 use Rattle.template_tree_parts.proofs.Picked.{said}
 use Rattle.template_walk.specs.Blocks.{blocks_by, blocks_in}
-use Rattle.template_compiler_blocks.specs.Seen.{is_entered, own_blocks}
+use Rattle.template_names_needed.specs.Seen.{is_entered, own_blocks}
 
 own_first : (s : Statement) → blocks_by s ≡ own_blocks s ++ (if is_entered s then blocks_in (body_in s) ++ blocks_in (other_in s) else [])
 own_first (for_loop target e condition recursive body otherwise) = refl

@@ -5,10 +5,10 @@ use Rattle.template_tree_statements.specs.declared.statements.Block.{Block as Bl
 use Rattle.template_tree_statements.specs.declared.statements.Stmt.{Stmt}
 use Rattle.template_tree_parts.proofs.Others.{no_block}
 use Rattle.template_tree_parts.proofs.BodyTrees.{block_tree}
-use Rattle.template_compiler_blocks.specs.Seen.{own_blocks, tree_of, trees_in}
-use Rattle.template_compiler_blocks.proofs.Lists.{trees_push}
-use Rattle.template_compiler_blocks.proofs.Taking.{none_picked}
-use Rattle.template_compiler_blocks.proofs.nodes.take_block.Goals as goal
+use Rattle.template_names_needed.specs.Seen.{own_blocks, tree_of, trees_in}
+use Rattle.template_names_needed.proofs.Lists.{trees_push}
+use Rattle.template_names_needed.proofs.BlockTaking.{none_picked}
+use Rattle.template_names_needed.proofs.nodes.take_block.Goals as goal
 
 pub returns-in_ok-push-in-Block : goal.returns-in_ok-push-in-Block
 returns-in_ok-push-in-Block c =

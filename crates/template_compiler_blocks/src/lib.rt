@@ -1,6 +1,0 @@
-//! The blocks of a template.
-#![tactic(auto)]
-
-mod nodes;
-
-pub use nodes::blocks;
