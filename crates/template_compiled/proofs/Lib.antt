@@ -6,3 +6,5 @@ pub mod Updates
 pub mod Listing
 pub mod Refusals
 pub mod Bodies
+mod Blocks
+mod Good

@@ -5,3 +5,4 @@ pub mod Plain
 pub mod Expressions
 pub mod Standing
 pub mod Streams
+pub mod Checked

@@ -2,6 +2,7 @@
 //! And the templates that stand, each under its name.
 #![tactic(auto)]
 
+mod checked;
 mod compiled;
 mod config;
 mod expression;
@@ -10,6 +11,7 @@ mod room;
 mod streams;
 mod templates;
 
+pub use checked::{CheckedTemplate, CheckedBlock, check_template};
 pub use compiled::{CompiledTemplate, one_refusal, one_tree, plain_text, trees_run};
 pub use config::TemplateConfig;
 pub use expression::{

@@ -24,7 +24,7 @@ use Rattle.template_compiled.specs.Sources.{tree_in}
 use Rattle.template_compiled.specs.Standing.{compiled_at}
 use Rattle.template_compiled.specs.Streams.{stream_of}
 use Rattle.template_compiled.proofs.Trees.{tree_runs}
-use Rattle.template_compiled_checked.proofs.Good.{tree_is_good}
+use Rattle.template_compiled.proofs.Good.{tree_is_good}
 use Rattle.template_environment.specs.Standing.{unit_of}
 use Rattle.template_environment.specs.declared.registry.Registry.{Registry}
 use Rattle.template_environment_streams.specs.Held.{codes_at}

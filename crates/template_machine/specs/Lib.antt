@@ -75,7 +75,7 @@ pub use Rattle.template_compiled.specs.Compiled
 pub use Rattle.template_compiled.specs.Expressions as ExpressionSources
 pub use Rattle.template_compiled.specs.Plain as PlainSources
 pub use Rattle.template_compiled.specs.Streams as TemplateStreams
-pub use Rattle.template_compiled_checked.specs.Checked as CheckedTemplates
+pub use Rattle.template_compiled.specs.Checked as CheckedTemplates
 pub use Rattle.template_environment.specs.Isolation
 pub use Rattle.template_environment.specs.Outcomes
 pub use Rattle.template_environment.specs.Escaped

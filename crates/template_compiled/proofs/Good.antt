@@ -16,7 +16,7 @@ use Rattle.template_compiler_generator.specs.Numbers.{numbered_in}
 use Rattle.template_compiler_generator.specs.Acceptance.{TemplatesAreAccepted}
 use Rattle.template_compiler_generator.specs.Drafts.{Draft}
 use Rattle.template_compiled.specs.Streams.{stream_of, streams_of}
-use Rattle.template_compiled_checked.specs.Checked.{IsGoodBlock}
+use Rattle.template_compiled.specs.Checked.{IsGoodBlock}
 
 -- a draft that holds no more than its code
 abbrev drafted : List Code → Draft

@@ -7,7 +7,7 @@ use Rattle.template_code.specs.declared.blocks.CompiledBlock.{CompiledBlock}
 use Rattle.template_code_shapes.specs.Checked.{kind_in, stream_in}
 use Rattle.template_code_shapes.specs.Streams.{IsGood}
 use Rattle.template_code_shapes.specs.declared.StreamKind.TheVariants.{Template}
-use Rattle.template_compiled_checked.specs.declared.CheckedBlock.{CheckedBlock}
+use Rattle.template_compiled.specs.declared.checked.CheckedBlock.{CheckedBlock}
 
 -- a block's name, whether a template that extends this one has to give a body of its own, and the code of its body here
 abbrev pub checked_stream : CheckedBlock → BlockStream

@@ -3,8 +3,8 @@ use Rattle.template_code.specs.Code.{Code}
 use Rattle.template_code_shapes.specs.Streams.{IsGood}
 use Rattle.template_code_shapes.specs.declared.StreamKind.TheVariants.{Template}
 use Rattle.template_compiled.specs.Sources.{tree_in}
-use Rattle.template_compiled_checked.proofs.Good.{blocks_good, tree_is_good}
-use Rattle.template_compiled_checked.proofs.check_template.Goals as goal
+use Rattle.template_compiled.proofs.Good.{blocks_good, tree_is_good}
+use Rattle.template_compiled.proofs.checked.check_template.Goals as goal
 
 pub accepted-requires : goal.accepted-requires
 accepted-requires c =

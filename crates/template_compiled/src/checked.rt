@@ -1,5 +1,4 @@
 //! The streams of a compiled template, as streams that were accepted: what runs a stream that it is handed takes no other.
-#![tactic(auto)]
 
 ghost use Rattle.std.specs.Prelude.{◌≡◌, IfOk, IfErr};
 ghost use Rattle.std.specs.List.{All};
@@ -12,13 +11,13 @@ ghost use Rattle.template_code_shapes.specs.declared.StreamKind.{StreamKind};
 ghost use Rattle.template_compiled.specs.Compiled.{code_for};
 ghost use Rattle.template_compiled.specs.Sources.{tree_in};
 ghost use Rattle.template_compiled.specs.Streams.{streams_of};
-ghost use Rattle.template_compiled_checked.specs.Checked.{IsGoodBlock, IsOfTemplate, checked_stream, checked_streams};
+ghost use Rattle.template_compiled.specs.Checked.{IsGoodBlock, IsOfTemplate, checked_stream, checked_streams};
 
 use std::alloc::Global;
 use std::borrow::CowStr;
 use template_code::{Instructions, CompiledBlock};
 use template_code_shapes::{Checked, verify};
-use template_compiled::{CompiledTemplate, trees_run};
+use crate::{CompiledTemplate, trees_run};
 use template_compiler_generator::templates_are_accepted;
 use template_values_errors::Error;
 

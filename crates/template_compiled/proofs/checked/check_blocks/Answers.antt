@@ -3,10 +3,10 @@ use Rattle.std.specs.List.{All}
 use Rattle.std.proofs.lemmas.List.Elements.{All-append, All-cons, All-nil, All-tail}
 use Rattle.template_code.specs.Streams.{stream_in}
 use Rattle.template_code.specs.declared.blocks.CompiledBlock.{CompiledBlock}
-use Rattle.template_compiled_checked.specs.Checked.{IsGoodBlock, IsOfTemplate, checked_stream}
-use Rattle.template_compiled_checked.specs.declared.CheckedBlock.{CheckedBlock}
-use Rattle.template_compiled_checked.proofs.Blocks.{one_more}
-use Rattle.template_compiled_checked.proofs.check_blocks.Goals as goal
+use Rattle.template_compiled.specs.Checked.{IsGoodBlock, IsOfTemplate, checked_stream}
+use Rattle.template_compiled.specs.declared.checked.CheckedBlock.{CheckedBlock}
+use Rattle.template_compiled.proofs.Blocks.{one_more}
+use Rattle.template_compiled.proofs.checked.check_blocks.Goals as goal
 
 pub loop-block-preserved : goal.loop-block-preserved
 loop-block-preserved c =

@@ -1,8 +1,8 @@
 use Rattle.std.proofs.Common.{◌≡◌, ◌++◌, map}
 use Rattle.std.specs.List.{All}
 use Rattle.template_code.specs.Streams.{stream_in}
-use Rattle.template_compiled_checked.specs.Checked.{IsGoodBlock, IsOfTemplate, checked_stream}
-use Rattle.template_compiled_checked.proofs.check_blocks.Given as goal
+use Rattle.template_compiled.specs.Checked.{IsGoodBlock, IsOfTemplate, checked_stream}
+use Rattle.template_compiled.proofs.checked.check_blocks.Given as goal
 
 -- what was checked and what is left are the blocks; what is left is good
 abbrev pub invariant-loop-block : goal.invariant-loop-block

@@ -3,8 +3,8 @@ use Rattle.std.proofs.Common.{◌≡◌, List, [], ◌∷◌, ◌++◌, map, app
 use Rattle.std.proofs.lemmas.List.{map_push}
 use Rattle.template_code.specs.Streams.{BlockStream, stream_in}
 use Rattle.template_code.specs.declared.blocks.CompiledBlock.{CompiledBlock}
-use Rattle.template_compiled_checked.specs.Checked.{checked_stream}
-use Rattle.template_compiled_checked.specs.declared.CheckedBlock.{CheckedBlock}
+use Rattle.template_compiled.specs.Checked.{checked_stream}
+use Rattle.template_compiled.specs.declared.checked.CheckedBlock.{CheckedBlock}
 
 pub one_more : (before new : List CheckedBlock) (b : CheckedBlock) (block : CompiledBlock) (left rest all : List CompiledBlock)
     → new ≡ before ++ b ∷ [] → rest ≡ block ∷ left → checked_stream b ≡ stream_in block
