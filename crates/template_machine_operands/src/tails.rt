@@ -1,5 +1,4 @@
 //! The end of a list.
-#![tactic(auto)]
 
 ghost use Rattle.std.specs.Prelude.{◌≡◌, ◌-◌, ◌≤◌, length, take, drop, IfOk, OnOk, OnErr};
 
