@@ -2,7 +2,7 @@
 use crate::report::Report;
 use serde_json::Value as Json;
 use std::alloc::Global;
-use template_machine_fuel::FuelTracker;
+use template_machine_going::FuelTracker;
 use template_rows_streams::instruction;
 
 /// Whether each of the instructions is let run, then what remains of the fuel and what was consumed; each with a `;` behind

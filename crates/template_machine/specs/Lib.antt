@@ -33,8 +33,8 @@ pub use Rattle.template_code.specs.Prices
 pub use Rattle.template_code.specs.View as InstructionCodes
 pub use Rattle.template_code.specs.Listing
 pub use Rattle.template_code.specs.Streams as BlockStreams
-pub use Rattle.template_machine_fuel.specs.Paying
-pub use Rattle.template_machine_fuel.specs.Trackers
+pub use Rattle.template_machine_going.specs.Paying
+pub use Rattle.template_machine_going.specs.Trackers
 pub use Rattle.template_machine_operands.specs.Operands
 pub use Rattle.template_machine_meaning.specs.World
 pub use Rattle.template_machine_meaning.specs.Functions

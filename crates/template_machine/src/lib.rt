@@ -118,7 +118,7 @@ pub use template_machine_frames::Closures;
 pub use template_machine_frames::Context;
 pub use template_machine_frames::Frame;
 pub use template_machine_frames::LoopState;
-pub use template_machine_fuel::FuelTracker;
+pub use template_machine_going::FuelTracker;
 pub use template_machine_globals::Globals;
 pub use template_values_items::Items;
 pub use template_machine_meaning::every_evaluation_gives;

@@ -9,3 +9,5 @@ pub mod Told
 pub mod Outcomes
 pub mod Comings
 pub mod Bounds
+pub mod Trackers
+-- what contracts here cite of the crates below

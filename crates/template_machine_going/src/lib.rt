@@ -5,9 +5,13 @@
 ghost use Rattle.template_machine_going.specs.Laws.{ActsGo, FaultsOn, FaultsThere, GoesNowhere, GoesOn, RunsOutOn, RunsOutThere, SpentThere, WantsOn, WantsThere};
 
 mod bounds;
+mod fuel;
 mod outcomes;
 mod stop;
+mod tracking;
 
+pub use tracking::FuelTracker;
+pub use fuel::{charge, levels};
 pub use bounds::{beginnings_stay, ends_stay, uncut_stays};
 pub use outcomes::{outcomes_follow, steps_come_out, strays_on};
 pub use stop::Stop;

@@ -16,7 +16,7 @@ pub struct FuelTracker {
 }
 
 impl FuelTracker {
-    ghost use Rattle.template_machine_fuel.specs.Trackers.{fuel_in, remaining_in};
+    ghost use Rattle.template_machine_going.specs.Trackers.{fuel_in, remaining_in};
 
     /// A fuel of which nothing is consumed.
     pub fn new(fuel: u64) -> FuelTracker

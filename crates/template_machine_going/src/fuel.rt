@@ -1,13 +1,9 @@
 //! What instructions cost of a fuel, and what was consumed of it.
-#![tactic(auto)]
 
 ghost use Rattle.std.specs.Prelude.{◌≡◌, ◌≤◌, ◌+◌, ◌∷◌, [], ℕ, IfErr, OnOk, OnErr, Some, option_map};
 ghost use Rattle.template_machine_going.specs.Paying.{Paid, IsSpent};
 
-mod tracking;
-
 use template_values_errors::{Error, ErrorKind};
-pub use tracking::FuelTracker;
 
 /// Takes the price of an instruction of what is left of a fuel, if one is set. A fuel n lets n - 1 steps run, and a fuel
 /// of 0 none; what costs nothing always runs.

@@ -1,6 +1,6 @@
 -- What contracts see of a tracker of fuel.
 use Rattle.std.specs.Prelude.{ℕ}
-use Rattle.template_machine_fuel.specs.declared.tracking.FuelTracker.{FuelTracker}
+use Rattle.template_machine_going.specs.declared.tracking.FuelTracker.{FuelTracker}
 
 -- the fuel that it began with
 abbrev pub fuel_in : FuelTracker → ℕ
