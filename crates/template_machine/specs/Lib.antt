@@ -56,7 +56,7 @@ pub use Rattle.template_machine_meaning.specs.Surroundings
 pub use Rattle.template_machine_meaning.specs.Meaning
 pub use Rattle.template_machine_meaning.specs.Laws
 pub use Rattle.template_machine_meaning.specs.Keeps
-pub use Rattle.template_machine_globals.specs.Globals
+pub use Rattle.template_machine_blocks.specs.Globals
 pub use Rattle.template_machine_loops.specs.Loops
 pub use Rattle.template_machine_frames.specs.Frames
 pub use Rattle.template_machine_frames.specs.Names as ExportedNames

@@ -1,3 +1,5 @@
 pub mod Streams
 pub mod Codes
 pub mod Stack
+pub mod Globals
+pub mod GlobalCodes

@@ -7,7 +7,7 @@ ghost use Rattle.std.specs.Map.Iter.{deref_pair};
 ghost use Rattle.std.specs.Ordering.{nat_cmp};
 ghost use Rattle.template_values_errors.specs.Memory.{NoMemory};
 ghost use Rattle.template_machine_meaning.specs.World.{local_at};
-ghost use Rattle.template_machine_globals.specs.Globals.{own_globals, with_global, without_global};
+ghost use Rattle.template_machine_blocks.specs.Globals.{own_globals, with_global, without_global};
 
 use crate::functions::{DICT, NAMESPACE, RANGE};
 use std::alloc::Global;
@@ -28,7 +28,7 @@ pub struct Globals {
 
 impl Model for Globals {
     ghost use Rattle.template_machine_meaning.specs.World as worlds;
-    ghost use Rattle.template_machine_globals.specs.Codes.{globals_code};
+    ghost use Rattle.template_machine_blocks.specs.GlobalCodes.{globals_code};
 
     ghost Value = { worlds.Globals };
 

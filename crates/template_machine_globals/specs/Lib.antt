@@ -1,2 +1,0 @@
-pub mod Globals
-pub mod Codes
