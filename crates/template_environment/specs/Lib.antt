@@ -10,7 +10,7 @@ pub mod Evaluations
 pub mod Plain
 pub mod Namespaces
 -- what contracts here cite of the crates below
-pub use Rattle.template_machine_blocks.specs.Globals
+pub use Rattle.template_machine_tables.specs.Globals
 pub use Rattle.template_compiled.specs.Sources
 pub use Rattle.template_compiled.specs.Compiled
 pub use Rattle.template_machine_meaning.specs.Isolation

@@ -2,13 +2,13 @@
 ghost use Rattle.std.specs.Prelude.{◌≡◌, ◌≤◌, ◌⊎◌, ◌^◌, ◌++◌, ◌∷◌, [], ℕ, List, None, Some, Err, IfErr, OnErr, OnOk, bytes_eq, if◌then◌else◌};
 ghost use Rattle.template_values_errors.specs.Memory.{NoMemory};
 ghost use Rattle.template_values_model.specs.Val as values;
-ghost use Rattle.template_machine_blocks.specs.Globals.{with_global};
+ghost use Rattle.template_machine_tables.specs.Globals.{with_global};
 ghost use Rattle.template_environment.specs.Extras.{Puts, next_number};
 
 use crate::environment::Environment;
 use crate::extensions::put;
 use template_callables::Extension;
-use template_machine_blocks::OWN_FUNCTIONS;
+use template_machine_tables::OWN_FUNCTIONS;
 use template_machine_surroundings::EscapeRule;
 use template_values_core::Value;
 use template_values_errors::{Error, ErrorKind};

@@ -9,7 +9,7 @@ use std::alloc::Global;
 use std::collections::BTreeMap;
 use template_callables::Extension;
 use template_environment_histories::put_under;
-use template_machine_blocks::OWN_FUNCTIONS;
+use template_machine_tables::OWN_FUNCTIONS;
 use template_values_errors::Error;
 
 // What a user brought to an environment.

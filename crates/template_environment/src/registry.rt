@@ -6,7 +6,7 @@ ghost use Rattle.template_compiled.specs.Standing.{compiled_at};
 
 use std::alloc::Global;
 use template_compiled::{CompiledTemplate, CompiledTemplates, TemplateConfig};
-use template_machine_blocks::Globals;
+use template_machine_tables::Globals;
 use template_machine_renders::Rules;
 use template_values_core::Value;
 use template_values_errors::{Error, UndefinedBehavior};
@@ -30,7 +30,7 @@ impl<'source> Registry<'source> {
     ghost use Rattle.std.specs.Prelude.{◌≡◌, None, Some, OnOk, OnErr, IfErr, bytes_eq, if◌then◌else◌};
     ghost use Rattle.template_values_errors.specs.Memory.{NoMemory};
     ghost use Rattle.template_compiled.specs.Compiled.{IsFaithful};
-    ghost use Rattle.template_machine_blocks.specs.Globals.{with_global, without_global};
+    ghost use Rattle.template_machine_tables.specs.Globals.{with_global, without_global};
     ghost use Rattle.template_environment.specs.Standing.{global_at, settings_of, source_at};
 
     // The template goes in the place of one that stands under its name.

@@ -56,12 +56,12 @@ pub use Rattle.template_machine_meaning.specs.Surroundings
 pub use Rattle.template_machine_meaning.specs.Meaning
 pub use Rattle.template_machine_meaning.specs.Laws
 pub use Rattle.template_machine_meaning.specs.Keeps
-pub use Rattle.template_machine_blocks.specs.Globals
+pub use Rattle.template_machine_tables.specs.Globals
 pub use Rattle.template_machine_loops.specs.Loops
 pub use Rattle.template_machine_frames.specs.Frames
 pub use Rattle.template_machine_frames.specs.Names as ExportedNames
-pub use Rattle.template_machine_blocks.specs.Streams as Homes
-pub use Rattle.template_machine_blocks.specs.Stack as BlockBodies
+pub use Rattle.template_machine_tables.specs.Streams as Homes
+pub use Rattle.template_machine_tables.specs.Stack as BlockBodies
 pub use Rattle.template_machine_state.specs.Changes
 pub use Rattle.template_machine_state.specs.Loaded
 pub use Rattle.template_machine_calls.specs.Left as CallsLeft

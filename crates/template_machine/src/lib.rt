@@ -113,7 +113,7 @@ pub use template_environment::namespace;
 pub use template_environment::none_ask_names;
 pub use template_environment::plain_renders;
 pub use template_environment::undeclared_names_matter;
-pub use template_machine_blocks::{BlockStack, Globals};
+pub use template_machine_tables::{BlockStack, Globals};
 pub use template_machine_frames::Closures;
 pub use template_machine_frames::Context;
 pub use template_machine_frames::Frame;

@@ -5,7 +5,7 @@ use Rattle.template_values_errors.specs.declared.ErrorKind.{ErrorKind}
 use Rattle.template_values_model.specs.Val.{Val}
 use Rattle.template_process.specs.Process.{tells, fails, done}
 use Rattle.template_code.specs.Streams.{stream_in}
-use Rattle.template_machine_blocks.specs.Streams.{home_of, stream_of}
+use Rattle.template_machine_tables.specs.Streams.{home_of, stream_of}
 use Rattle.template_machine_meaning.specs.World.{Loop, Macro, Rounds, World, has_room}
 use Rattle.template_machine_meaning.specs.Macros.{Bound, macro_levels, macro_within}
 use Rattle.template_machine_meaning.specs.Rounds.{rounds_plan, rounds_within}

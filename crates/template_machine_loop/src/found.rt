@@ -3,7 +3,7 @@ ghost use Rattle.std.specs.Prelude.{◌≡◌, ◌==◌, ◌&&◌, ◌∷◌, []
 ghost use Rattle.template_code.specs.Listing.{code_in};
 ghost use Rattle.template_code.specs.Streams.{stream_in};
 ghost use Rattle.template_values_errors.specs.declared.ErrorKind.TheVariants.{InvalidOperation};
-ghost use Rattle.template_machine_blocks.specs.Streams.{home_of, stream_of};
+ghost use Rattle.template_machine_tables.specs.Streams.{home_of, stream_of};
 ghost use Rattle.template_machine_meaning.specs.Blocks.{super_plan};
 ghost use Rattle.template_machine_steps.specs.Performs.{SparesSink};
 ghost use Rattle.template_machine_loop.specs.Found.{FindsBehind, FindsBody, IsRefused, RefusesBody};

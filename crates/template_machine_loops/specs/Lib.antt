@@ -1,5 +1,5 @@
 pub mod Rounds
 pub mod Loops
 -- what contracts above cite of a crate below
-pub use Rattle.template_machine_blocks.specs.Codes
-pub use Rattle.template_machine_blocks.specs.Streams
+pub use Rattle.template_machine_tables.specs.Codes
+pub use Rattle.template_machine_tables.specs.Streams

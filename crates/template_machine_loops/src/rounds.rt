@@ -2,7 +2,7 @@
 ghost use Rattle.std.specs.Prelude.{◌≡◌};
 ghost use Rattle.template_machine_loops.specs.Rounds.{rounds_in};
 
-use template_machine_blocks::Stream;
+use template_machine_tables::Stream;
 
 /// Where the rounds of a loop that may be called again are at home.
 #[derive(Clone, Copy)]

@@ -5,7 +5,7 @@ ghost use Rattle.template_machine_operations.specs.Called.{Comes};
 use crate::called::Called;
 use crate::functions::call_function;
 use std::alloc::Global;
-use template_machine_blocks::Globals;
+use template_machine_tables::Globals;
 use template_values_core::{Content, Value};
 use template_values_errors::{Error, ErrorKind};
 use template_values_operators::refusal;

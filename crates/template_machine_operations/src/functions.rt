@@ -7,7 +7,7 @@ use crate::dicts::dict;
 use crate::namespaces::namespace;
 use crate::ranges::range_given;
 use std::alloc::Global;
-use template_machine_blocks::{DICT, OWN_FUNCTIONS, RANGE};
+use template_machine_tables::{DICT, OWN_FUNCTIONS, RANGE};
 use template_values_core::Value;
 use template_values_errors::Error;
 use template_values_operators::refusal;

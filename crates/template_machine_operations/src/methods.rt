@@ -13,7 +13,7 @@ ghost use Rattle.template_machine_operations.specs.Called.{ComesOr};
 use crate::called::Called;
 use crate::calls::call_value;
 use std::alloc::Global;
-use template_machine_blocks::Globals;
+use template_machine_tables::Globals;
 use template_values_core::{Content, Entry, Value};
 use template_values_errors::{Error, ErrorKind};
 use template_values_forms::{LoopView, MacroView, Records};

@@ -3,7 +3,7 @@ use Rattle.std.proofs.Common.{◌≡◌, ◌∙◌, ap, subst, ℕ, Bool, List, 
 use Rattle.std.specs.Prelude.{option_copied}
 use Rattle.template_machine_meaning.specs.Plans.{Caller, after_by, calls_super, outermost}
 use Rattle.template_machine_meaning.specs.World.{Capture, World}
-use Rattle.template_machine_blocks.specs.Streams.{stream_of}
+use Rattle.template_machine_tables.specs.Streams.{stream_of}
 use Rattle.template_machine_state.specs.Loaded.{names_in}
 use Rattle.template_machine_state.specs.declared.state.State.TheInside.{Inside}
 

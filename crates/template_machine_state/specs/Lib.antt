@@ -6,5 +6,5 @@ pub mod Cuts
 -- what contracts above cite of a crate below
 pub use Rattle.template_machine_frames.specs.Names
 pub use Rattle.template_machine_loops.specs.Rounds
-pub use Rattle.template_machine_blocks.specs.Stack
-pub use Rattle.template_machine_blocks.specs.Streams
+pub use Rattle.template_machine_tables.specs.Stack
+pub use Rattle.template_machine_tables.specs.Streams

@@ -1,7 +1,7 @@
 //! What is put back behind a run within a run.
 
 use std::marker::Model;
-use template_machine_blocks::{BlockStack, Stream};
+use template_machine_tables::{BlockStack, Stream};
 use template_values_errors::AutoEscape;
 
 /// What a state had before a run within it began, and has again behind that; and how many frames and captures it had open, and
@@ -27,7 +27,7 @@ pub struct Caller<'env> {
 impl<'env> Model for Caller<'env> {
     ghost use Rattle.std.specs.Prelude.{◌+◌, ◌^◌, ◌<◌, option_copied, reverse};
     ghost use Rattle.template_machine_meaning.specs.Plans as plans;
-    ghost use Rattle.template_machine_blocks.specs.Streams.{stream_of};
+    ghost use Rattle.template_machine_tables.specs.Streams.{stream_of};
     ghost use Rattle.template_machine_state.specs.Codes.{caller_code};
 
     ghost Value = { plans.Caller };

@@ -11,7 +11,7 @@ ghost use Rattle.template_machine_meaning.specs.Keeps.{KeepsBodies};
 ghost use Rattle.template_machine_meaning.specs.Keys.{block_of};
 ghost use Rattle.template_machine_meaning.specs.World.{Loop, depth_of, empty_frame};
 ghost use Rattle.template_code.specs.Streams.{heads_of, streams_in};
-ghost use Rattle.template_machine_blocks.specs.Streams.{home_of, stream_of};
+ghost use Rattle.template_machine_tables.specs.Streams.{home_of, stream_of};
 ghost use Rattle.template_machine_frames.specs.Rounds.{rounds_in};
 ghost use Rattle.template_machine_state.specs.Changes.{bound_to, caller_named, found_as, macro_at, stream_begun, with_parent};
 
@@ -25,7 +25,7 @@ use crate::written::{begin_if, cut, drop_last, end_last, take_written};
 use std::alloc::Global;
 use std::mem;
 use template_code::CompiledBlock;
-use template_machine_blocks::{BlockStack, Home, Stream};
+use template_machine_tables::{BlockStack, Home, Stream};
 use template_machine_frames::{Frame, LoopState, Rounds};
 use template_values_items::Items;
 use template_values_core::Value;

@@ -9,7 +9,7 @@ ghost use Rattle.template_machine_state.specs.Cuts.{CutOne, loops_cut};
 ghost use Rattle.template_machine_state.specs.Room.{HasRoom};
 
 use template_machine_frames::{Context, LoopState};
-use template_machine_records::Given;
+use template_machine_tables::Given;
 
 // There is room to keep as many loops as there are frames, and one more, where one is opened that may have to be kept; tells
 // whether memory was given. Mostly there is room, or no loop that has its variable.

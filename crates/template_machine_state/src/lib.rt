@@ -15,6 +15,5 @@ mod written;
 
 pub use caller::Caller;
 pub use state::State;
-pub use template_machine_blocks::{Behind, Body, Home, Stream};
+pub use template_machine_tables::{Behind, Body, Home, Stream, MacroRecord};
 pub use template_machine_frames::{LoopState, Rounds};
-pub use template_machine_records::MacroRecord;

@@ -21,7 +21,7 @@ ghost use Rattle.template_machine_frames.specs.Frames.{Becomes};
 use crate::state::State;
 use std::alloc::Global;
 use template_machine_frames::LoopState;
-use template_machine_records::MacroRecord;
+use template_machine_tables::MacroRecord;
 use template_values_core::{Content, Entry, Value};
 use template_values_errors::{Error, ErrorKind};
 use template_values_forms::{LoopView, MacroView, Records};

@@ -8,7 +8,7 @@ ghost use Rattle.template_machine_meaning.specs.Closures.{put_in_closure, stands
 ghost use Rattle.template_machine_meaning.specs.Macros.{macro_made};
 ghost use Rattle.template_machine_meaning.specs.Surroundings.{gave_none, pushed, rounds_here};
 ghost use Rattle.template_machine_meaning.specs.World.{Loop, counted_loop, empty_frame, has_room, loop_frame, loop_over};
-ghost use Rattle.template_machine_blocks.specs.Streams.{stream_of};
+ghost use Rattle.template_machine_tables.specs.Streams.{stream_of};
 ghost use Rattle.template_machine_frames.specs.Frames.{innermost_loop, Becomes};
 ghost use Rattle.template_machine_frames.specs.Loops.{GivesNoNumber};
 ghost use Rattle.template_machine_state.specs.Changes.{OnlyStored, asked, closed, enclosed, loop_closed, making_of, stored, stored_there, writing};
@@ -17,10 +17,9 @@ use crate::leaving::{cut_loop, make_room};
 use crate::records::may_hold_loop;
 use crate::state::State;
 use std::alloc::Global;
-use template_machine_blocks::Stream;
+use template_machine_tables::{Stream, MacroRecord};
 use template_machine_frames::{Frame, LoopState, Rounds};
 use template_values_items::Items;
-use template_machine_records::MacroRecord;
 use template_values_core::Value;
 use template_values_errors::{Error, ErrorKind};
 

@@ -6,7 +6,7 @@ use Rattle.template_code.specs.Code as codes
 use Rattle.template_code.specs.Listing.{code_in}
 use Rattle.template_code.specs.View.{code_of}
 use Rattle.template_code.specs.Streams.{stream_in}
-use Rattle.template_machine_blocks.specs.Streams.{home_of}
+use Rattle.template_machine_tables.specs.Streams.{home_of}
 use Rattle.template_machine_meaning.specs.World.{World, empty_frame, loop_frame}
 use Rattle.template_machine_meaning.specs.Records.{known_of, loop_of, macro_of}
 use Rattle.template_machine_meaning.specs.Rounds.{again_plan, loop_again, recurse_plan, rounds_plan, rounds_within}

@@ -1,3 +1,0 @@
-mod Naming
-mod Lasting
-pub mod Cloned

@@ -1,4 +1,0 @@
-pub mod Placing
-pub mod Replacing
-pub mod Comparing
-pub mod Calling

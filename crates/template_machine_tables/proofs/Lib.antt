@@ -1,0 +1,7 @@
+mod Naming
+mod Lasting
+pub mod Cloned
+pub mod Placing
+pub mod Replacing
+pub mod Comparing
+pub mod Calling
