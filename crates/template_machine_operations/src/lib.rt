@@ -17,7 +17,9 @@ mod printing;
 mod ranges;
 mod sequence;
 mod spreads;
+mod undefined;
 
+pub use undefined::{refusal, forbids_printing, forbids_operator};
 pub use called::Called;
 pub use calls::{call_found, call_named, call_value};
 pub use containers::{build_kwargs, build_list, build_map, build_tuple};

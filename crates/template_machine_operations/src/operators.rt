@@ -7,7 +7,8 @@ ghost use Rattle.template_machine_meaning.specs.Replies.{guarded, kinded};
 ghost use Rattle.template_machine_operations.specs.Answers.{Answers, answered};
 
 use std::alloc::Global;
-use template_machine_undefined::{forbids_link, forbids_operator, forbids_truth, refusal};
+use crate::undefined::{forbids_link, forbids_truth};
+use crate::{forbids_operator, refusal};
 use template_tree::{BinOpKind, CompareOpKind};
 use template_values_core::Value;
 use template_values_errors::{Error, UndefinedBehavior};

@@ -14,7 +14,7 @@ ghost use Rattle.template_machine_operations.specs.Texts.{safe_text_in};
 use itoa::Buffer;
 use std::str;
 use template_machine_surroundings::{Sink, write_text};
-use template_machine_undefined::{forbids_printing, refusal};
+use crate::{forbids_printing, refusal};
 use template_values_core::{Content, Value};
 use template_values_errors::{AutoEscape, Error, UndefinedBehavior};
 use template_values_forms::Records;

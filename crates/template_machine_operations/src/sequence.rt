@@ -10,7 +10,8 @@ ghost use Rattle.template_machine_operations.specs.Answers.{Answers};
 
 use std::alloc::Global;
 use template_values_items::{Items, items_of};
-use template_machine_undefined::{forbids_iterating, refusal};
+use crate::undefined::forbids_iterating;
+use crate::refusal;
 use template_values_core::{Content, Value};
 use template_values_errors::{Error, ErrorKind, UndefinedBehavior};
 use template_values_forms::{NoRecords, Records};

@@ -4,7 +4,7 @@ ghost use Rattle.template_values_print.specs.Pieces.{Writes};
 ghost use Rattle.template_program_expression.specs.Told.{Makes, value_line, value_text};
 
 use std::alloc::Global;
-use template_machine_undefined::{forbids_printing, refusal};
+use template_machine_operations::{forbids_printing, refusal};
 use template_values_core::Value;
 use template_values_errors::{Error, UndefinedBehavior};
 use template_values_forms::NoRecords;

@@ -1,5 +1,4 @@
 //! What may be done with an undefined value, under each mode.
-#![tactic(auto)]
 
 ghost use Rattle.std.specs.Prelude.{◌≡◌, [], ◌∷◌, Err};
 ghost use Rattle.template_values_operators.specs.Kinds.{is_undefined};
