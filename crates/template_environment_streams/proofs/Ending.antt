@@ -24,10 +24,10 @@ use Rattle.template_machine_renders.specs.Handed.{backed, begun_run, handed, han
 use Rattle.template_machine_renders.specs.Programs as units
 use Rattle.template_machine_renders.proofs.Handed.{stream_stays}
 use Rattle.template_machine_state.specs.Changes.{stream_begun}
-use Rattle.template_machine_streams.specs.Laws.{EveryStreamEnds, EveryStreamLeaves, Leaves, ListsAll, MayRun}
-use Rattle.template_machine_streams.specs.Streams as streams
-use Rattle.template_machine_streams.specs.Streams.{Codes, IsLoopReached, IsSound, part_run}
-use Rattle.template_machine_streams.proofs.Sound.{sound_after, sound_left, sound_of}
+use Rattle.template_machine_codes.specs.StreamLaws.{EveryStreamEnds, EveryStreamLeaves, Leaves, ListsAll, MayRun}
+use Rattle.template_machine_codes.specs.Streams as streams
+use Rattle.template_machine_codes.specs.Streams.{Codes, IsLoopReached, IsSound, part_run}
+use Rattle.template_machine_codes.proofs.Sound.{sound_after, sound_left, sound_of}
 use Rattle.template_compiled.specs.Compiled.{Compiled}
 use Rattle.template_compiled.specs.Standing.{compiled_at}
 use Rattle.template_environment.specs.Extras.{UserAnswers, joins_by}

@@ -17,8 +17,8 @@ use Rattle.template_compiler_generator.specs.Acceptance.{TemplatesAreAccepted}
 use Rattle.template_machine_meaning.specs.Keys as keys
 use Rattle.template_machine_meaning.specs.Keys.{own, block_of}
 use Rattle.template_machine_renders.specs.Programs as units
-use Rattle.template_machine_streams.specs.Laws.{AreAllVerified}
-use Rattle.template_machine_streams.specs.Streams.{Codes, IsVerified}
+use Rattle.template_machine_codes.specs.StreamLaws.{AreAllVerified}
+use Rattle.template_machine_codes.specs.Streams.{Codes, IsVerified}
 use Rattle.template_compiled.specs.Compiled.{Compiled}
 use Rattle.template_compiled.specs.Sources.{tree_in}
 use Rattle.template_compiled.specs.Standing.{compiled_at}

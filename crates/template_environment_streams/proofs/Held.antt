@@ -7,7 +7,7 @@ use Rattle.template_machine_meaning.specs.Keys as keys
 use Rattle.template_machine_meaning.specs.Keys.{Home, Stream, own, block_of}
 use Rattle.template_machine_meaning.specs.Records.{all_loops}
 use Rattle.template_machine_meaning.specs.World.{Loop, Macro, World}
-use Rattle.template_machine_streams.specs.Streams.{AreRoundsReached, Codes, IsBodyReached, IsLoopReached, IsSound}
+use Rattle.template_machine_codes.specs.Streams.{AreRoundsReached, Codes, IsBodyReached, IsLoopReached, IsSound}
 use Rattle.template_compiled.specs.Compiled.{Compiled}
 use Rattle.template_environment.specs.declared.registry.Registry.{Registry}
 use Rattle.template_environment_streams.specs.Held.{codes_at, is_known, is_known_home}

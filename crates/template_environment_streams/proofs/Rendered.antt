@@ -14,9 +14,9 @@ use Rattle.template_machine_codes.specs.Codes.{codes_of}
 use Rattle.template_machine_codes.proofs.Alike.{code_means_tree}
 use Rattle.template_machine_renders.specs.Programs as units
 use Rattle.template_machine_renders.proofs.Handed.{key_stays}
-use Rattle.template_machine_streams.specs.Laws.{EveryStreamEnds, ListsAll, MayRun}
-use Rattle.template_machine_streams.specs.Streams as streams
-use Rattle.template_machine_streams.specs.Streams.{Codes, IsLoopReached, IsSound}
+use Rattle.template_machine_codes.specs.StreamLaws.{EveryStreamEnds, ListsAll, MayRun}
+use Rattle.template_machine_codes.specs.Streams as streams
+use Rattle.template_machine_codes.specs.Streams.{Codes, IsLoopReached, IsSound}
 use Rattle.template_compiled.specs.Compiled.{Compiled, standing_of}
 use Rattle.template_compiled.specs.Standing.{compiled_at}
 use Rattle.template_environment.specs.Extras.{Brought, UserAnswers}

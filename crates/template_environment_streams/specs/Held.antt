@@ -8,7 +8,7 @@ use Rattle.template_code_shapes.specs.Checked as checked
 use Rattle.template_code_shapes.specs.declared.checked.Checked.{Checked}
 use Rattle.template_machine_meaning.specs.Keys.{Home, kept, Stream, home_of}
 use Rattle.template_machine_renders.specs.Programs.{code_at}
-use Rattle.template_machine_streams.specs.Streams.{Codes, IsSound}
+use Rattle.template_machine_codes.specs.Streams.{Codes, IsSound}
 use Rattle.template_compiled.specs.Compiled.{Compiled}
 use Rattle.template_environment.specs.Extras.{UserAnswers}
 use Rattle.template_environment.specs.Reading.{registry_of}

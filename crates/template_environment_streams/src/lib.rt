@@ -7,7 +7,7 @@ ghost use Rattle.template_process.specs.Approximants.{IsFinished};
 ghost use Rattle.template_machine_meaning.specs.Keys.{Head};
 ghost use Rattle.template_machine_meaning.specs.World.{Globals};
 ghost use Rattle.template_code_shapes.specs.Checked.{kind_in};
-ghost use Rattle.template_machine_streams.specs.Laws.{Leaves};
+ghost use Rattle.template_machine_codes.specs.StreamLaws.{Leaves};
 ghost use Rattle.template_environment.specs.Extras.{user_answers};
 ghost use Rattle.template_environment.specs.States.{frameless, own_in, stream_in, world_in};
 ghost use Rattle.template_environment_streams.specs.Held.{HoldsReached, IsRendered, KeepsReached};
@@ -16,7 +16,7 @@ use template_callables::Extension;
 use template_code_shapes::Checked;
 use template_compiler_generator::templates_are_accepted;
 use template_environment::{State, names_list_all};
-use template_machine_streams::{every_stream_ends, every_stream_leaves};
+use template_machine_codes::{every_stream_ends, every_stream_leaves};
 
 /// A law: each run of a stream that is handed in to a state ends, and its own instructions leave one value, if it is an expression's, or
 /// nothing, unless they end with a fault; as long as the state holds what was

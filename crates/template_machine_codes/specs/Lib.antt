@@ -1,2 +1,4 @@
 pub mod Codes
 pub mod Laws
+pub mod Streams
+pub mod StreamLaws

@@ -3,6 +3,12 @@
 
 ghost use Rattle.template_machine_codes.specs.Laws.{CodeMeansExpression, CodeMeansTree, CodesMeanKeys};
 
+mod streams;
+
+pub use streams::{every_stream_ends, every_stream_leaves, every_first_run_ends};
+
+
+
 /// A tree's meaning that is finished is its code's meaning under every bound that is great enough.
 pub fn code_means_tree()
     ensures { CodeMeansTree }

@@ -15,8 +15,8 @@ use Rattle.template_machine_meaning.specs.Plans.{Within, enters, caller_of, afte
 use Rattle.template_machine_meaning.specs.Surroundings.{plan, Programs, runners, answer}
 use Rattle.template_machine_meaning.proofs.Settling.{Walk, Passes, answered, behind-behind}
 use Rattle.template_machine_meaning.proofs.Entering.{KeyEnds, Finds, found_run, Reads}
-use Rattle.template_machine_streams.specs.Streams.{Codes}
-use Rattle.template_machine_streams.proofs.Sound.{Sound, sound_after}
+use Rattle.template_machine_codes.specs.Streams.{Codes}
+use Rattle.template_machine_codes.proofs.Sound.{Sound, sound_after}
 
 module _ (codes : Codes) where
   pub record Stops {O : Type 0} (s : Programs) (w : World) (P : Walk O) : Type 0 where

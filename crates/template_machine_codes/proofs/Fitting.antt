@@ -11,8 +11,8 @@ use Rattle.template_machine_meaning.specs.World.{Loop, Frame, World, counted_loo
 use Rattle.template_machine_meaning.specs.Leaving.{is_held, loop_left}
 use Rattle.template_machine_meaning.specs.Surroundings.{is_own, asked_once}
 use Rattle.template_machine_meaning.proofs.Keeping.{loops_of, met, unloaded, top, IsFramed, may_ask}
-use Rattle.template_machine_streams.specs.Streams.{Codes}
-use Rattle.template_machine_streams.proofs.Sound.{Each, each_joined, LoopSound, Sound, sound_framed, Held}
+use Rattle.template_machine_codes.specs.Streams.{Codes}
+use Rattle.template_machine_codes.proofs.Sound.{Each, each_joined, LoopSound, Sound, sound_framed, Held}
 
 -- What lies away below the rounds that are called: operands of these forms, and so many escapes and captures. Below a run of its own
 -- nothing lies away.

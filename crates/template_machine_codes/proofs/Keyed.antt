@@ -27,14 +27,14 @@ use Rattle.template_machine_meaning.specs.Laws.{MayBegin, MayGoRound, MayStart}
 use Rattle.template_machine_meaning.proofs.Keeping.{Keeps, Ran, loops_of, met, unloaded, same_many, same_depth, IsFramed}
 use Rattle.template_machine_meaning.proofs.Entering.{Finds, KeyEnds, Starts, Rounded}
 use Rattle.template_machine_meaning.proofs.Ends.{found_parent}
-use Rattle.template_machine_streams.specs.Streams.{Codes, body_run, part_run, programs_of, IsVerified, IsBodyReached, AreRoundsReached, in_rounds, IsLoopReached, IsPartReached}
-use Rattle.template_machine_streams.specs.Laws.{AreAllVerified, MayRun, EveryStreamEnds, Leaves, EveryStreamLeaves, EveryFirstRunEnds}
-use Rattle.template_machine_streams.proofs.Coming.{Bounded, Finishes, Fails, Comes}
-use Rattle.template_machine_streams.proofs.Fitting.{Away, nothing_away, Opens, none_open, round_open, never_closed, Fits, IsBase}
-use Rattle.template_machine_streams.proofs.Sound.{Sound, sound_of, sound_left}
-use Rattle.template_machine_streams.proofs.Settling.{KeyFaults, KeyComes}
-use Rattle.template_machine_streams.proofs.Within.{LeavesSo, AllReach}
-use Rattle.template_machine_streams.proofs.Running.{LeftAtEnd, runs_from}
+use Rattle.template_machine_codes.specs.Streams.{Codes, body_run, part_run, programs_of, IsVerified, IsBodyReached, AreRoundsReached, in_rounds, IsLoopReached, IsPartReached}
+use Rattle.template_machine_codes.specs.StreamLaws.{AreAllVerified, MayRun, EveryStreamEnds, Leaves, EveryStreamLeaves, EveryFirstRunEnds}
+use Rattle.template_machine_codes.proofs.Coming.{Bounded, Finishes, Fails, Comes}
+use Rattle.template_machine_codes.proofs.Fitting.{Away, nothing_away, Opens, none_open, round_open, never_closed, Fits, IsBase}
+use Rattle.template_machine_codes.proofs.Sound.{Sound, sound_of, sound_left}
+use Rattle.template_machine_codes.proofs.Settling.{KeyFaults, KeyComes}
+use Rattle.template_machine_codes.proofs.Within.{LeavesSo, AllReach}
+use Rattle.template_machine_codes.proofs.Running.{LeftAtEnd, runs_from}
 
 -- behind what was left by a run whose template extends another
 one_less : (captures : List Capture) (n : ℕ) → length captures ≡ suc n → length (around_innermost captures) ≡ n

@@ -34,11 +34,11 @@ use Rattle.template_machine_meaning.specs.Calls.{view_of, call_plan}
 use Rattle.template_machine_meaning.specs.Surroundings.{Programs, plan, unpacked, unpacked_into, text_reply, printed_reply, formatted_reply, format_reply, answer}
 use Rattle.template_machine_meaning.proofs.Settling.{answered}
 use Rattle.template_machine_meaning.proofs.Keeping.{Keeps, keeps_itself, loops_of, met, top, IsFramed, on_frames_is}
-use Rattle.template_machine_streams.specs.Streams.{Codes, IsBodyReached}
-use Rattle.template_machine_streams.proofs.Sound.{Each, each_append, MacroSound, LoopSound, Sound, Held, held_itself}
-use Rattle.template_machine_streams.proofs.Settling.{Settles, settles_now, settles_failed, settles_value, settles_items, settles_given, settles_before, settles_to}
-use Rattle.template_machine_streams.proofs.Calling.{settles_plan, call_comes}
-use Rattle.template_machine_streams.proofs.Within.{AllReach, Holds, Enters, holds_stand, entries, settles_super}
+use Rattle.template_machine_codes.specs.Streams.{Codes, IsBodyReached}
+use Rattle.template_machine_codes.proofs.Sound.{Each, each_append, MacroSound, LoopSound, Sound, Held, held_itself}
+use Rattle.template_machine_codes.proofs.Settling.{Settles, settles_now, settles_failed, settles_value, settles_items, settles_given, settles_before, settles_to}
+use Rattle.template_machine_codes.proofs.Calling.{settles_plan, call_comes}
+use Rattle.template_machine_codes.proofs.Within.{AllReach, Holds, Enters, holds_stand, entries, settles_super}
 
 module _ (names : List (List ℕ)) (codes : Codes) (s : Programs) (w : World) (sound : Sound codes w) where
   abbrev HeldSo : {O : Type 0} → O → World → Type 0

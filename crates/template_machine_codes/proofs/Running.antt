@@ -33,16 +33,16 @@ use Rattle.template_machine_meaning.specs.Keys.{standing, Stream, Head}
 use Rattle.template_machine_meaning.specs.Blocks.{is_among}
 use Rattle.template_machine_meaning.specs.Surroundings.{Programs, rounds_here, is_own, asked_once}
 use Rattle.template_machine_meaning.proofs.Keeping.{loops_of, met, IsFramed}
-use Rattle.template_machine_streams.specs.Streams.{Codes, IsBodyReached, AreRoundsReached}
-use Rattle.template_machine_streams.proofs.Sound.{Sound, Held}
-use Rattle.template_machine_streams.proofs.Within.{AllReach}
-use Rattle.template_machine_streams.proofs.Making.{macro_reached, loop_reached}
-use Rattle.template_machine_streams.proofs.Coming.{Comes, comes_steps, comes_more, comes_over}
-use Rattle.template_machine_streams.proofs.Taking as takes
-use Rattle.template_machine_streams.proofs.Taking.{over, some_mapped, some_tested}
-use Rattle.template_machine_streams.proofs.Stepping.{IsPlain, plain}
-use Rattle.template_machine_streams.proofs.Fitting.{Away, nothing_away, least_of, Opens, with_open, loop_open, recursive_open, low_of, enough_open, closed_all, Looped, looped, with_closed, loop_closes, LoopClosed, RoundsOver, Fits, IsBase, fits_on, framed_at, depth_at, fits_loops, fits_framed, fits_counted, fits_left, top_sound, owns, closes}
-use Rattle.template_machine_streams.proofs.Scoping.{with_pushed, loop_opened, in_loop, loop_pushed, next_world, last_world, next_loops, last_loops, item_asked, given_none, behind_loop, loop_popped, rounds_left, rest_loops, behind_with, with_loops, with_popped, escaping, escape_pushed, escape_popped, capture_pushed, capture_popped}
+use Rattle.template_machine_codes.specs.Streams.{Codes, IsBodyReached, AreRoundsReached}
+use Rattle.template_machine_codes.proofs.Sound.{Sound, Held}
+use Rattle.template_machine_codes.proofs.Within.{AllReach}
+use Rattle.template_machine_codes.proofs.Making.{macro_reached, loop_reached}
+use Rattle.template_machine_codes.proofs.Coming.{Comes, comes_steps, comes_more, comes_over}
+use Rattle.template_machine_codes.proofs.Taking as takes
+use Rattle.template_machine_codes.proofs.Taking.{over, some_mapped, some_tested}
+use Rattle.template_machine_codes.proofs.Stepping.{IsPlain, plain}
+use Rattle.template_machine_codes.proofs.Fitting.{Away, nothing_away, least_of, Opens, with_open, loop_open, recursive_open, low_of, enough_open, closed_all, Looped, looped, with_closed, loop_closes, LoopClosed, RoundsOver, Fits, IsBase, fits_on, framed_at, depth_at, fits_loops, fits_framed, fits_counted, fits_left, top_sound, owns, closes}
+use Rattle.template_machine_codes.proofs.Scoping.{with_pushed, loop_opened, in_loop, loop_pushed, next_world, last_world, next_loops, last_loops, item_asked, given_none, behind_loop, loop_popped, rounds_left, rest_loops, behind_with, with_loops, with_popped, escaping, escape_pushed, escape_popped, capture_pushed, capture_popped}
 
 -- how many items the innermost loop has left
 abbrev left_in : List (Option Loop) → ℕ

@@ -14,7 +14,7 @@ use Rattle.template_machine_meaning.specs.Plans.{ran}
 use Rattle.template_machine_meaning.specs.Blocks.{is_among}
 use Rattle.template_machine_meaning.specs.Surroundings.{answer, runners}
 use Rattle.template_machine_meaning.specs.Laws.{MayStart}
-use Rattle.template_machine_streams.specs.Streams.{Codes, programs_of, IsVerified, IsSound, IsPartReached}
+use Rattle.template_machine_codes.specs.Streams.{Codes, programs_of, IsVerified, IsSound, IsPartReached}
 
 -- so many names are enough to list all templates that stand
 abbrev pub ListsAll : Around → List (List ℕ) → Type 0

@@ -8,7 +8,7 @@ use Rattle.template_machine_meaning.specs.Plans.{Purpose, includes, calls_block,
 use Rattle.template_machine_meaning.specs.Rounds.{innermost_loop}
 use Rattle.template_machine_meaning.proofs.Keeping.{Keeps, keeps_itself, loops_of}
 use Rattle.template_machine_meaning.proofs.Included.{loops_writes}
-use Rattle.template_machine_streams.specs.Streams.{Codes, IsBodyReached, IsLoopReached, IsSound}
+use Rattle.template_machine_codes.specs.Streams.{Codes, IsBodyReached, IsLoopReached, IsSound}
 
 -- each of them is so
 abbrev pub Each : {X : Type 0} → (X → Type 0) → List X → Type 0

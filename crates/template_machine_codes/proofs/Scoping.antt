@@ -18,7 +18,7 @@ use Rattle.template_machine_meaning.specs.Undefined.{forbids_iterating}
 use Rattle.template_machine_meaning.specs.Replies.{told, changed, refused, kinded, guarded, changed_with}
 use Rattle.template_machine_meaning.specs.Surroundings.{Programs, pushed, rounds_here, opened_loop, is_own, asked_once, next_reply, gave_none, closed_reply, escape_named, escape_put_back, answer}
 use Rattle.template_machine_meaning.proofs.Keeping.{loops_of, Top, top, on_own_is, on_loop_is}
-use Rattle.template_machine_streams.proofs.Coming.{Bounded, Comes, comes_behind}
+use Rattle.template_machine_codes.proofs.Coming.{Bounded, Comes, comes_behind}
 
 module _ (s : Programs) (w : World) (keeps : Option (List Val) → World → Type 0) (stays : keeps None w) where
   -- an event that is done leads to what follows, in another world

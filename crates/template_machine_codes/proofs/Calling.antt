@@ -25,9 +25,9 @@ use Rattle.template_machine_meaning.specs.Surroundings.{Programs, plan, runners,
 use Rattle.template_machine_meaning.proofs.Settling.{answered}
 use Rattle.template_machine_meaning.proofs.Entering.{Reads}
 use Rattle.template_machine_meaning.proofs.Calling.{Stands}
-use Rattle.template_machine_streams.specs.Streams.{Codes}
-use Rattle.template_machine_streams.proofs.Sound.{Sound}
-use Rattle.template_machine_streams.proofs.Settling.{Settles, settles_given, KeyComes, settles_entered}
+use Rattle.template_machine_codes.specs.Streams.{Codes}
+use Rattle.template_machine_codes.proofs.Sound.{Sound}
+use Rattle.template_machine_codes.proofs.Settling.{Settles, settles_given, KeyComes, settles_entered}
 
 -- a value is told, or a fault, in such a world
 abbrev pub Tells : (World → Type 0) → World → Told → Type 0

@@ -15,8 +15,8 @@ use Rattle.template_code_shapes.specs.Effects.{Effect, falling, is_iterate, may_
 use Rattle.template_code_shapes.specs.declared.StreamKind.{StreamKind}
 use Rattle.template_code_shapes.specs.Streams.{Reached, falls_to, enters_at, IsGood}
 use Rattle.template_machine_meaning.specs.Keys.{Stream}
-use Rattle.template_machine_streams.specs.Streams.{Codes, IsBodyReached, AreRoundsReached, floor_at, in_rounds}
-use Rattle.template_machine_streams.proofs.Taking.{some_mapped, some_tested}
+use Rattle.template_machine_codes.specs.Streams.{Codes, IsBodyReached, AreRoundsReached, floor_at, in_rounds}
+use Rattle.template_machine_codes.proofs.Taking.{some_mapped, some_tested}
 
 some_is : {A : Type 0} (x y : A) → Some x ≡ Some y → x ≡ y
 some_is x y e = cc

@@ -30,13 +30,13 @@ use Rattle.template_machine_meaning.specs.Keys.{standing, Head}
 use Rattle.template_machine_meaning.specs.Blocks.{is_among}
 use Rattle.template_machine_meaning.specs.Surroundings.{Programs, attribute_given, item_given}
 use Rattle.template_machine_meaning.proofs.Keeping.{IsFramed}
-use Rattle.template_machine_streams.specs.Streams.{Codes, IsBodyReached}
-use Rattle.template_machine_streams.proofs.Sound.{Sound, Held, held_itself}
-use Rattle.template_machine_streams.proofs.Within.{AllReach, settles_block, settles_super_block, settles_recurse, settles_load, settles_include}
-use Rattle.template_machine_streams.proofs.Coming.{Comes, comes_then}
-use Rattle.template_machine_streams.proofs.Answering as answers
-use Rattle.template_machine_streams.proofs.Taking as takes
-use Rattle.template_machine_streams.proofs.Taking.{over, some_mapped, some_bound, some_tested}
+use Rattle.template_machine_codes.specs.Streams.{Codes, IsBodyReached}
+use Rattle.template_machine_codes.proofs.Sound.{Sound, Held, held_itself}
+use Rattle.template_machine_codes.proofs.Within.{AllReach, settles_block, settles_super_block, settles_recurse, settles_load, settles_include}
+use Rattle.template_machine_codes.proofs.Coming.{Comes, comes_then}
+use Rattle.template_machine_codes.proofs.Answering as answers
+use Rattle.template_machine_codes.proofs.Taking as takes
+use Rattle.template_machine_codes.proofs.Taking.{over, some_mapped, some_bound, some_tested}
 
 -- the forms of items on top of operands
 forms_over : (vs : List Val) (operands : List Operand) → map form_of (map single vs ++ operands) ≡ replicate (length vs) single_form ++ map form_of operands

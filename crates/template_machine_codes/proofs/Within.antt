@@ -31,10 +31,10 @@ use Rattle.template_machine_meaning.proofs.Entering.{Starts, Rounded, Leaves}
 use Rattle.template_machine_meaning.proofs.Blocks.{text_back, macro_back, rounds_kept}
 use Rattle.template_machine_meaning.proofs.Included.{loops_writes}
 use Rattle.template_machine_meaning.proofs.Calling.{Stands}
-use Rattle.template_machine_streams.proofs.Settling.{Settles, settles_failed, settles_done, KeyComes, comes_so, settles_entered}
-use Rattle.template_machine_streams.proofs.Calling.{PlanComes, Entered, Entries}
-use Rattle.template_machine_streams.specs.Streams.{Codes, IsBodyReached, AreRoundsReached, IsPartReached}
-use Rattle.template_machine_streams.proofs.Sound.{Each, LoopSound, Sound, macro_sound, loop_sound, innermost_sound, Held, held_itself, held_after}
+use Rattle.template_machine_codes.proofs.Settling.{Settles, settles_failed, settles_done, KeyComes, comes_so, settles_entered}
+use Rattle.template_machine_codes.proofs.Calling.{PlanComes, Entered, Entries}
+use Rattle.template_machine_codes.specs.Streams.{Codes, IsBodyReached, AreRoundsReached, IsPartReached}
+use Rattle.template_machine_codes.proofs.Sound.{Each, LoopSound, Sound, macro_sound, loop_sound, innermost_sound, Held, held_itself, held_after}
 
 -- what a part keeps
 abbrev pub LeavesSo : List (List ℕ) → Codes → Key → World → World → Type 0

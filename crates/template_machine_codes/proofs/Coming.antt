@@ -9,9 +9,9 @@ use Rattle.template_code.specs.Prices.{steps}
 use Rattle.template_machine_meaning.specs.World.{World}
 use Rattle.template_machine_meaning.specs.Surroundings.{Programs, answer}
 use Rattle.template_machine_meaning.proofs.Settling.{Walk, behind-behind}
-use Rattle.template_machine_streams.specs.Streams.{Codes}
-use Rattle.template_machine_streams.proofs.Sound.{Sound}
-use Rattle.template_machine_streams.proofs.Settling.{Settles}
+use Rattle.template_machine_codes.specs.Streams.{Codes}
+use Rattle.template_machine_codes.proofs.Sound.{Sound}
+use Rattle.template_machine_codes.proofs.Settling.{Settles}
 
 -- a process under each bound
 abbrev pub Bounded : Type 0

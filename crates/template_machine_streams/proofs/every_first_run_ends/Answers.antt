@@ -1,5 +1,0 @@
-use Rattle.template_machine_streams.proofs.Keyed as laws
-use Rattle.template_machine_streams.proofs.every_first_run_ends.Goals as goal
-
-pub returns : goal.returns
-returns c = laws.every_first_run_ends

@@ -1,5 +1,0 @@
-use Rattle.template_machine_streams.proofs.Keyed as laws
-use Rattle.template_machine_streams.proofs.every_stream_leaves.Goals as goal
-
-pub returns : goal.returns
-returns c = laws.every_stream_leaves
