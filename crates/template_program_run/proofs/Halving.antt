@@ -10,9 +10,9 @@ use Rattle.std.specs.Cmp.{tied_itself}
 use Rattle.std.specs.Cmp.Lexicographic.{bytes_decides, nat_list_cmp_total, slice_cmp, texts_ties}
 use Rattle.std.proofs.lemmas.List.Sorted.{searchable_from_sorted}
 use Rattle.std.proofs.lemmas.Map.Keys.{sorted_head, sorted_tail}
-use Rattle.template_program_folder.specs.Views.{file_names}
+use Rattle.template_program_files.specs.Views.{file_names}
 use Rattle.template_program_run.specs.Folders.{TellsText}
-use Rattle.template_program_folder.specs.declared.files.FolderFile.{FolderFile}
+use Rattle.template_program_files.specs.declared.folder_files.FolderFile.{FolderFile}
 
 -- a fact of every name holds of each one
 at_name : (P : List ℕ → Type 0) (files : List FolderFile) (i : ℕ) (d : FolderFile) → AllByRecursion P (file_names files)

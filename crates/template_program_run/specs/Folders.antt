@@ -6,10 +6,10 @@ use Rattle.std.specs.Cmp.Lexicographic.{slice_cmp}
 use Rattle.std.specs.Ordering.{nat_cmp}
 use Rattle.std.specs.declared.alloc.Global.{Global}
 use Rattle.template_compiler_syntax.specs.Syntax.{Syntax}
-use Rattle.template_program_folder.specs.Below.{IsBelow, IsNamedBelow, maybe, name_below, surely}
-use Rattle.template_program_folder.specs.Refused.{IsRefused}
-use Rattle.template_program_folder.specs.Views.{SaysText, file_names}
-use Rattle.template_program_folder.specs.declared.files.FolderFile.{FolderFile}
+use Rattle.template_program_files.specs.Below.{IsBelow, IsNamedBelow, maybe, name_below, surely}
+use Rattle.template_program_files.specs.Refused.{IsRefused}
+use Rattle.template_program_files.specs.Views.{SaysText, file_names}
+use Rattle.template_program_files.specs.declared.folder_files.FolderFile.{FolderFile}
 use Rattle.template_program_reached.specs.Sifted.{Sifts}
 use Rattle.template_program_run.specs.Templates.{AreTemplates, LacksTemplate, input_limit}
 use Rattle.template_program_run.specs.Naming.{Naming, main_of, reads_input_beside}

@@ -1,6 +1,6 @@
 -- What is told of what a run reads.
 use Rattle.std.specs.Prelude.{ℕ, Bool, List, Option}
-use Rattle.template_program_folder.specs.Below.{Standing}
+use Rattle.template_program_files.specs.Below.{Standing}
 
 -- what stands in folders and in files, by their paths; whether a read of the input may fail, but for want of memory; and the
 -- input's bytes

@@ -14,7 +14,7 @@ use crate::naming::{Naming, check_naming, reads_input};
 use crate::options::Options;
 use crate::telling::refuse_file;
 use template_program_check::check_to;
-use template_program_folder::Folders;
+use template_program_files::Folders;
 use template_program_output::Output;
 use template_program_parts::{FileFault, FileSystem, Reader};
 use template_program_words::{CheckWords, Words};

@@ -15,7 +15,7 @@ use crate::naming::{Naming, named_main, reads_input_beside};
 use crate::options::Options;
 use std::alloc::{AllocError, Global};
 use template_compiler_syntax::SyntaxConfig;
-use template_program_folder::{FolderFile, Folders, read_folder};
+use template_program_files::{FolderFile, Folders, read_folder};
 use template_program_parts::{FileFault, FileSystem, Reader};
 use template_program_reached::readable;
 

@@ -16,7 +16,7 @@ use crate::options::Options;
 use crate::origins::origins_of;
 use crate::{Command, Request};
 use std::alloc::Global;
-use template_program_folder::Folders;
+use template_program_files::Folders;
 use template_program_parts::{
     FileFault, FileSystem, ReadWrapper, Reader, read_text, read_text_file,
 };

@@ -2,11 +2,11 @@
 ghost use Rattle.std.specs.Cmp.Lexicographic.{slice_cmp};
 ghost use Rattle.std.specs.List.Sorted.{IsStrictlySortedBy};
 ghost use Rattle.std.specs.Ordering.{nat_cmp};
-ghost use Rattle.template_program_folder.specs.Views.{file_names};
+ghost use Rattle.template_program_files.specs.Views.{file_names};
 
 use crate::inputs::INPUT_LIMIT;
 use crate::named::{check_main, check_path, is_absolute};
-use template_program_folder::{FolderFile, Folders, read_folder};
+use template_program_files::{FolderFile, Folders, read_folder};
 use template_program_parts::{FileFault, FileSystem, read_file, read_text_file};
 use template_program_words::{RenderWords, Words};
 

@@ -3,10 +3,10 @@ ghost use Rattle.std.specs.Prelude.{◌≡◌, ◌⊎◌, All, Contains, IfErr, 
 ghost use Rattle.std.specs.Cmp.Lexicographic.{slice_cmp};
 ghost use Rattle.std.specs.List.Sorted.{IsStrictlySortedBy};
 ghost use Rattle.std.specs.Ordering.{nat_cmp};
-ghost use Rattle.template_program_folder.specs.Views.{file_names};
+ghost use Rattle.template_program_files.specs.Views.{file_names};
 ghost use Rattle.template_program_run.specs.Folders.{IsLacking, IsNoText, IsPathIn, MayBeMain, RefusesMain, RefusesPaths, TellsText, is_absolute as begins_absolute};
 
-use template_program_folder::FolderFile;
+use template_program_files::FolderFile;
 use template_program_parts::FileFault;
 
 /// Refuses a path that names no text in the folder, unless it is an absolute one. Takes log n comparisons a path for n

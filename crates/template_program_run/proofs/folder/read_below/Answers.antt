@@ -1,5 +1,5 @@
 use Rattle.std.proofs.Common.{All, IfSome, List, rules, subst}
-use Rattle.template_program_folder.specs.declared.files.FolderFile.{FolderFile}
+use Rattle.template_program_files.specs.declared.folder_files.FolderFile.{FolderFile}
 use Rattle.std.proofs.lemmas.Result.{IfOk-weaker}
 use Rattle.template_program_parts.specs.Context.{text_pairs}
 use Rattle.template_program_run.specs.Folders.{no_folder, no_main, no_path, IsPathIn, MayBeMain, RefusesMain, RefusesPaths}

@@ -3,7 +3,7 @@ use Rattle.std.proofs.lemmas.Fn.{always_returns_same}
 use Rattle.std.specs.Cmp.Lexicographic.{slice_cmp}
 use Rattle.std.specs.Ordering.{nat_cmp}
 use Rattle.std.specs.Prelude.{is_some, string_bytes}
-use Rattle.template_program_folder.specs.declared.files.FolderFile.{FolderFile}
+use Rattle.template_program_files.specs.declared.folder_files.FolderFile.{FolderFile}
 use Rattle.template_program_run.specs.Folders.{TellsText}
 use Rattle.template_program_run.proofs.Halving.{absent_parted, names_searchable, same_name, tells_text}
 use Rattle.template_program_run.proofs.named.has_text.Goals as goal

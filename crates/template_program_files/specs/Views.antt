@@ -1,10 +1,10 @@
 -- What contracts see of entries, names and files.
 use Rattle.std.specs.Prelude.{◌≡◌, ℕ, List, map, Option, None, Some, String, string_bytes, string_len, IsUtf8}
 use Rattle.std.specs.declared.alloc.Global.{Global}
-use Rattle.template_program_folder.specs.Below.{Standing, file, folder}
-use Rattle.template_program_folder.specs.declared.files.FolderFile.{FolderFile}
-use Rattle.template_program_folder.specs.declared.folders.Entry.{Entry}
-use Rattle.template_program_folder.specs.declared.folders.Entry.TheVariants.{File, Folder}
+use Rattle.template_program_files.specs.Below.{Standing, file, folder}
+use Rattle.template_program_files.specs.declared.folder_files.FolderFile.{FolderFile}
+use Rattle.template_program_files.specs.declared.folders.Entry.{Entry}
+use Rattle.template_program_files.specs.declared.folders.Entry.TheVariants.{File, Folder}
 
 abbrev pub entry_of : Entry → Standing
 entry_of (File name) = file (string_bytes name)

@@ -4,9 +4,9 @@ ghost use Rattle.std.specs.List.{All, Contains};
 ghost use Rattle.std.specs.List.Sorted.{IsStrictlySortedBy};
 ghost use Rattle.std.specs.Cmp.Lexicographic.{slice_cmp};
 ghost use Rattle.std.specs.Ordering.{nat_cmp};
-ghost use Rattle.template_program_folder.specs.Below.{IsBelow, IsNamedBelow, maybe, name_below, surely};
-ghost use Rattle.template_program_folder.specs.Refused.{IsRefused, LacksFile};
-ghost use Rattle.template_program_folder.specs.Views.{SaysText, file_names, names_in, text_size};
+ghost use Rattle.template_program_files.specs.Below.{IsBelow, IsNamedBelow, maybe, name_below, surely};
+ghost use Rattle.template_program_files.specs.Refused.{IsRefused, LacksFile};
+ghost use Rattle.template_program_files.specs.Views.{SaysText, file_names, names_in, text_size};
 
 use crate::folders::Folders;
 use crate::listing::files_below;

@@ -2,11 +2,11 @@ use Rattle.std.proofs.Common.{◌≡◌, ◌∙◌, ◌++◌, codes, List, ℕ, 
 use Rattle.std.specs.List.{All, Contains}
 use Rattle.std.proofs.lemmas.Result.{IfOk-weaker, err_from_is_err_and}
 use Rattle.template_program_parts.specs.declared.faults.FileFault.TheVariants.{File}
-use Rattle.template_program_folder.specs.Below.{IsBelow, IsFolderBelow, IsNamedBelow, maybe, name_below, surely}
-use Rattle.template_program_folder.specs.Refused.{LacksFile, no_file, no_folder}
-use Rattle.template_program_folder.specs.Views.{names_in}
-use Rattle.template_program_folder.proofs.Named.{all_among}
-use Rattle.template_program_folder.proofs.files.read_folder.Goals as goal
+use Rattle.template_program_files.specs.Below.{IsBelow, IsFolderBelow, IsNamedBelow, maybe, name_below, surely}
+use Rattle.template_program_files.specs.Refused.{LacksFile, no_file, no_folder}
+use Rattle.template_program_files.specs.Views.{names_in}
+use Rattle.template_program_files.proofs.Named.{all_among}
+use Rattle.template_program_files.proofs.folder_files.read_folder.Goals as goal
 
 pub returns-clause-complete : goal.returns-clause-complete
 returns-clause-complete g c =

@@ -4,9 +4,9 @@ use Rattle.std.specs.List.{All}
 use Rattle.std.specs.List.Sorted.{IsStrictlySortedBy}
 use Rattle.std.specs.Cmp.Lexicographic.{slice_cmp}
 use Rattle.std.specs.Ordering.{nat_cmp}
-use Rattle.template_program_folder.specs.Below.{Standing, IsFolderBelow, IsNamedBelow, maybe}
-use Rattle.template_program_folder.specs.Views.{SaysText, file_names, text_size}
-use Rattle.template_program_folder.specs.declared.files.FolderFile.{FolderFile}
+use Rattle.template_program_files.specs.Below.{Standing, IsFolderBelow, IsNamedBelow, maybe}
+use Rattle.template_program_files.specs.Views.{SaysText, file_names, text_size}
+use Rattle.template_program_files.specs.declared.folder_files.FolderFile.{FolderFile}
 
 -- behind the first files of the names stands one of which nothing is told, or with which the limit is reached
 pub record LacksFile (content : List ℕ → Option (List ℕ)) (path : List ℕ) (limit : ℕ) (names : List (List ℕ)) : Type 0 where

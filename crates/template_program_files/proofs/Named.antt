@@ -8,7 +8,7 @@ use Rattle.std.specs.Ordering.{nat_cmp}
 use Rattle.std.specs.declared.cmp.Ordering.TheVariants.{Less}
 use Rattle.std.specs.String.{string_cmp}
 use Rattle.std.proofs.lemmas.List.Elements.{All-contains, Contains-get_or}
-use Rattle.template_program_folder.specs.Views.{names_in}
+use Rattle.template_program_files.specs.Views.{names_in}
 
 below_names : (x : String Global) (ys : List (String Global)) → AllByRecursion (λ y. string_cmp x y ≡ Less) ys
     → AllByRecursion (λ b. slice_cmp nat_cmp (string_bytes x) b ≡ Less) (names_in ys)

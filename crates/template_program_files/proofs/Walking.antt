@@ -10,9 +10,9 @@ use Rattle.template_program_parts.specs.declared.faults.FileFault.TheVariants.{F
 use Rattle.std.proofs.lemmas.List.{append-nil, get_or-map, append_assoc, get_or_append_left, get_or_default}
 use Rattle.std.proofs.lemmas.List.Elements.{All-append, All-get_or, Contains-append_left, Contains-append_right}
 use Rattle.std.proofs.lemmas.Option.{IfSome_then}
-use Rattle.template_program_folder.specs.Below.{Standing, file, folder, IsBelow, IsFolderBelow, IsNamedBelow, files_in, folders_in, maybe, name_below, surely}
-use Rattle.template_program_folder.specs.Views.{names_in}
-use Rattle.template_program_folder.proofs.Within.{all_files, all_folders, file_among, file_below, folder_among, folder_below, told_both}
+use Rattle.template_program_files.specs.Below.{Standing, file, folder, IsBelow, IsFolderBelow, IsNamedBelow, files_in, folders_in, maybe, name_below, surely}
+use Rattle.template_program_files.specs.Views.{names_in}
+use Rattle.template_program_files.proofs.Within.{all_files, all_folders, file_among, file_below, folder_among, folder_below, told_both}
 
 -- what is told to stand in the folder was found
 abbrev pub IsListed : (List ℕ → Option (List Standing)) → List ℕ → List (List ℕ) → List (List ℕ) → List ℕ → Type 0

@@ -3,8 +3,8 @@ use Rattle.std.proofs.Common.{◌≡◌, ◌+◌, ◌++◌, ◌<◌, sum_by, str
 use Rattle.std.specs.List.{All}
 use Rattle.std.specs.Option.{IfSome}
 use Rattle.std.specs.Vec.Iter.{into_iter_items}
-use Rattle.template_program_folder.specs.Views.{SaysText, file_names, names_in, text_size}
-use Rattle.template_program_folder.proofs.files.read_files.Given as goal
+use Rattle.template_program_files.specs.Views.{SaysText, file_names, names_in, text_size}
+use Rattle.template_program_files.proofs.folder_files.read_files.Given as goal
 
 abbrev pub invariant-loop-name : goal.invariant-loop-name
 invariant-loop-name g l =

@@ -7,9 +7,9 @@ use Rattle.std.proofs.lemmas.List.Filters.{dedup_is}
 use Rattle.std.proofs.lemmas.List.Kept.{Any-dedup, Contains-from_dedup, IsStrictlySortedBy-dedup}
 use Rattle.std.proofs.lemmas.List.Sorted.{Contains-permutation, IsPermutation-sym}
 use Rattle.std.proofs.lemmas.Slice.Eq.{bytes_eq-Decides}
-use Rattle.template_program_folder.specs.Views.{names_in}
-use Rattle.template_program_folder.proofs.Named.{name_of_text, names_ascend, text_of_name}
-use Rattle.template_program_folder.proofs.names.ordered.Goals as goal
+use Rattle.template_program_files.specs.Views.{names_in}
+use Rattle.template_program_files.proofs.Named.{name_of_text, names_ascend, text_of_name}
+use Rattle.template_program_files.proofs.names.ordered.Goals as goal
 
 pub returns-clause-ascending : goal.returns-clause-ascending
 returns-clause-ascending c =

@@ -4,7 +4,7 @@ ghost use Rattle.std.specs.List.{Contains};
 ghost use Rattle.std.specs.List.Sorted.{IsStrictlySortedBy};
 ghost use Rattle.std.specs.Cmp.Lexicographic.{slice_cmp};
 ghost use Rattle.std.specs.Ordering.{nat_cmp};
-ghost use Rattle.template_program_folder.specs.Views.{names_in};
+ghost use Rattle.template_program_files.specs.Views.{names_in};
 
 use std::alloc::{AllocError, Global};
 

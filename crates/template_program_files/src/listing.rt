@@ -1,8 +1,8 @@
 //! The files below a folder.
 ghost use Rattle.std.specs.Prelude.{◌≡◌, ◌∷◌, [], ◌++◌, ℕ, List, IfErr, IfOk, IsErrOf, None, OnOk, codes, string_bytes};
 ghost use Rattle.std.specs.List.{All, Contains};
-ghost use Rattle.template_program_folder.specs.Below.{IsBelow, IsFolderBelow, IsNamedBelow, files_in, folders_in, maybe, name_below, surely};
-ghost use Rattle.template_program_folder.specs.Views.{entry_of, names_in, standing_in};
+ghost use Rattle.template_program_files.specs.Below.{IsBelow, IsFolderBelow, IsNamedBelow, files_in, folders_in, maybe, name_below, surely};
+ghost use Rattle.template_program_files.specs.Views.{entry_of, names_in, standing_in};
 
 use crate::folders::{Entry, Folders};
 use crate::names::together;

@@ -8,11 +8,11 @@ use Rattle.template_program_parts.specs.Faults.{fault_of_read}
 use Rattle.template_program_parts.specs.declared.faults.FileFault.{FileFault}
 use Rattle.template_program_parts.specs.declared.faults.FileFault.TheVariants.{File}
 use Rattle.std.proofs.lemmas.List.{length-map}
-use Rattle.template_program_folder.specs.Below.{Standing, IsFolderBelow, files_in, folders_in, maybe}
-use Rattle.template_program_folder.specs.Views.{names_in, standing_in}
-use Rattle.template_program_folder.specs.declared.folders.Entry.{Entry}
-use Rattle.template_program_folder.proofs.Walking.{asked_at, named_next, nothing_told, walk_ends, walk_goes}
-use Rattle.template_program_folder.proofs.listing.files_below.Goals as goal
+use Rattle.template_program_files.specs.Below.{Standing, IsFolderBelow, files_in, folders_in, maybe}
+use Rattle.template_program_files.specs.Views.{names_in, standing_in}
+use Rattle.template_program_files.specs.declared.folders.Entry.{Entry}
+use Rattle.template_program_files.proofs.Walking.{asked_at, named_next, nothing_told, walk_ends, walk_goes}
+use Rattle.template_program_files.proofs.listing.files_below.Goals as goal
 
 pub returns-then-next-len-clause-complete : goal.returns-then-next-len-clause-complete
 returns-then-next-len-clause-complete g c = λ inner name below.

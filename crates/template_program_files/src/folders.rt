@@ -2,8 +2,8 @@
 ghost use Rattle.std.specs.Prelude.{◌≡◌, ℕ, List, Option, None, IfErr, IfOk, IfSome};
 ghost use Rattle.std.specs.IoError.{error_kind};
 ghost use Rattle.std.specs.declared.io.ErrorKind.TheVariants.{OutOfMemory};
-ghost use Rattle.template_program_folder.specs.Below.{Standing};
-ghost use Rattle.template_program_folder.specs.Views.{standing_in};
+ghost use Rattle.template_program_files.specs.Below.{Standing};
+ghost use Rattle.template_program_files.specs.Views.{standing_in};
 
 use std::alloc::Global;
 use std::fs::DirEntry;

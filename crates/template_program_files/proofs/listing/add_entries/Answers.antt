@@ -1,10 +1,10 @@
 use Rattle.std.proofs.Common.{◌≡◌, ◌∙◌, ◌+◌, ◌<◌, ◌∷◌, ◌++◌, [], List, ℕ, length, take, sym, ap, arith}
 use Rattle.std.proofs.lemmas.List.{append_assoc, map_more}
-use Rattle.template_program_folder.specs.Below.{files_in, folders_in}
-use Rattle.template_program_folder.specs.Views.{entry_of, names_in, standing_in}
-use Rattle.template_program_folder.specs.declared.folders.Entry.{Entry}
-use Rattle.template_program_folder.proofs.Within.{files_append, folders_append}
-use Rattle.template_program_folder.proofs.listing.add_entries.Goals as goal
+use Rattle.template_program_files.specs.Below.{files_in, folders_in}
+use Rattle.template_program_files.specs.Views.{entry_of, names_in, standing_in}
+use Rattle.template_program_files.specs.declared.folders.Entry.{Entry}
+use Rattle.template_program_files.proofs.Within.{files_append, folders_append}
+use Rattle.template_program_files.proofs.listing.add_entries.Goals as goal
 
 -- one more entry was found
 pub loop-entry-preserved : goal.loop-entry-preserved

@@ -4,8 +4,8 @@ use Rattle.std.specs.List.{All, Contains}
 use Rattle.std.specs.Option.{IfSome, IsSomeAnd}
 use Rattle.std.proofs.lemmas.List.{append-nil, append_assoc}
 use Rattle.std.proofs.lemmas.List.Elements.{All-cons, All-nil}
-use Rattle.template_program_folder.specs.Below.{Standing, file, folder, IsBelow, IsFolderBelow, IsWithin, path_of, IsNamedBelow, files_in, folders_in, name_below}
-use Rattle.template_program_folder.proofs.Named.{among_first, among_more}
+use Rattle.template_program_files.specs.Below.{Standing, file, folder, IsBelow, IsFolderBelow, IsWithin, path_of, IsNamedBelow, files_in, folders_in, name_below}
+use Rattle.template_program_files.proofs.Named.{among_first, among_more}
 
 -- the path from one folder on, in two ways
 regroup : (path f rest : List ℕ) → path ++ (f ++ codes "/" ++ rest) ≡ path ++ f ++ codes "/" ++ rest

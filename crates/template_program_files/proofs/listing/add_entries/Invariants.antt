@@ -1,8 +1,8 @@
 -- What stood among the entries so far was found.
 use Rattle.std.proofs.Common.{◌≡◌, ◌++◌, take}
-use Rattle.template_program_folder.specs.Below.{files_in, folders_in}
-use Rattle.template_program_folder.specs.Views.{names_in, standing_in}
-use Rattle.template_program_folder.proofs.listing.add_entries.Given as goal
+use Rattle.template_program_files.specs.Below.{files_in, folders_in}
+use Rattle.template_program_files.specs.Views.{names_in, standing_in}
+use Rattle.template_program_files.proofs.listing.add_entries.Given as goal
 
 abbrev pub invariant-loop-entry : goal.invariant-loop-entry
 invariant-loop-entry l =
