@@ -8,8 +8,7 @@ use crate::inputs::ReadContext;
 use crate::telling::tell_error;
 use std::alloc::Global;
 use template_program_output::Output;
-use template_program_places::write_placed;
-use template_program_refusals::{document_place, value_place, write_refused};
+use template_program_places::{write_placed, document_place, value_place, write_refused};
 use template_values_json::Floats;
 use template_values_errors::{Error, ErrorKind};
 

@@ -3,7 +3,7 @@ use Rattle.std.proofs.lemmas.Result.{err_from_is_err_and}
 use Rattle.template_program_output.specs.Lines.{error_line}
 use Rattle.template_program_output.proofs.Written.{writes_begun, writes_same, writes_then}
 use Rattle.template_program_places.specs.Told.{place_line}
-use Rattle.template_program_refusals.proofs.telling.write_error_and.Goals as goal
+use Rattle.template_program_places.proofs.refusal_telling.write_error_and.Goals as goal
 
 pub returns-in_err-write_error : goal.returns-in_err-write_error
 returns-in_err-write_error g c =

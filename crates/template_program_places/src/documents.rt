@@ -1,6 +1,6 @@
 //! The places where documents and values are refused.
 
-use crate::lines::{part_text, place_text};
+use crate::refusal_lines::{part_text, place_text};
 use crate::toml_places::toml_place;
 use std::alloc::Global;
 use template_program_contexts::{Document, Form};

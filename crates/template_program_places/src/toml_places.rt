@@ -1,6 +1,6 @@
 //! The places where documents of TOML are refused.
 
-use crate::lines::{part_text, place_text};
+use crate::refusal_lines::{part_text, place_text};
 use crate::paths::fault_path;
 use std::alloc::Global;
 
