@@ -13,8 +13,8 @@ use template_values_core::Value;
 use template_values_errors::Error;
 use template_values_forms::NoRecords;
 use template_values_items::get_attr;
-use template_values_operators::{negation, add};
 use template_values_operators::kinds::is_undefined;
+use template_values_operators::{add, negation};
 
 /// Whether a value is undefined, or where that counts too false.
 ///

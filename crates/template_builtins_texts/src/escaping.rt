@@ -16,7 +16,7 @@ use template_callables::CallView;
 use template_values_core::{Content, Value};
 use template_values_errors::{AutoEscape, Error, ErrorKind};
 use template_values_forms::NoRecords;
-use template_values_print::{Markup, Quoting, push, push_quoted, escape_to};
+use template_values_print::{Markup, Quoting, escape_to, push, push_quoted};
 
 pub(crate) fn string(
     alloc: Global,

@@ -4,9 +4,9 @@ ghost use Rattle.std.specs.Prelude.{◌≡◌, IfOk, IfErr, option_map};
 ghost use Rattle.template_values_errors.specs.Memory.{NoMemory};
 ghost use Rattle.template_code.specs.Streams.{stream_among, stream_in, streams_in};
 
+use crate::Instructions;
 use std::alloc::Global;
 use std::borrow::CowStr;
-use crate::Instructions;
 use template_values_errors::Error;
 
 /// A block of a template: its name, whether a template that extends this one has to give a body of its own, and the code of its

@@ -16,17 +16,17 @@ mod numbered;
 mod references;
 mod texts;
 
-pub use blocks::{CompiledBlock, own_blocks, block_among};
-pub use loops::iterates_past;
-pub use references::get_referenced_names;
-pub use texts::buffer_size_hint;
-pub use marks::{Mark, Marks};
+pub use blocks::{CompiledBlock, block_among, own_blocks};
 pub use instruction::{
     CaptureMode, CompareOp, Instruction, LOOP_FLAG_RECURSIVE, LOOP_FLAG_WITH_LOOP_VAR, LocalId,
     MACRO_CALLER, MAX_LOCALS,
 };
 pub use listing::Instructions;
+pub use loops::iterates_past;
+pub use marks::{Mark, Marks};
 pub use numbered::Part;
+pub use references::get_referenced_names;
+pub use texts::buffer_size_hint;
 
 /// Code that may run for more instructions does what it did, as far as that went.
 pub fn code_rises()

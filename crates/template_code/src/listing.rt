@@ -10,9 +10,9 @@ ghost use Rattle.template_code.specs.Told.{told_span};
 
 use crate::instruction::{Instruction, owned};
 use crate::numbered::{Part, count_before, is_counted, place_at, places_of};
+use crate::{Mark, Marks};
 use std::alloc::{AllocError, Global};
 use std::borrow::CowStr;
-use crate::{Mark, Marks};
 use template_tree::Span;
 use template_values_errors::{Error, ErrorKind, Place};
 

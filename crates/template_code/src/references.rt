@@ -6,8 +6,8 @@ ghost use Rattle.template_code.specs.Listing.{code_in};
 ghost use Rattle.template_code.specs.View.{code_of};
 ghost use Rattle.template_code.specs.References.{name_at, name_referred, names_before, names_with, is_jump_to, is_return, opens_body};
 
-use std::alloc::Global;
 use crate::{Instruction, Instructions, LOOP_FLAG_WITH_LOOP_VAR};
+use std::alloc::Global;
 use template_values_errors::Error;
 
 /// The names that the instructions at a place and before it refer to, the latest first, and each once: those that are

@@ -4,8 +4,8 @@ ghost use Rattle.std.specs.Prelude.{◌≡◌};
 ghost use Rattle.template_code.specs.Listing.{code_in};
 ghost use Rattle.template_code_shapes.specs.Streams.{IsGood};
 
-use template_code::Instructions;
 use crate::StreamKind;
+use template_code::Instructions;
 
 /// Instructions that [`verify`](crate::verify) accepted: whatever a run of them is answered, none ever lacks an
 /// operand, and at their end a template's leave nothing and an expression's leave its value.

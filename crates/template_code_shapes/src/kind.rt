@@ -8,9 +8,9 @@ ghost use Rattle.template_code_shapes.specs.Shapes.{Shape};
 ghost use Rattle.template_code_shapes.specs.Streams.{IsGood, end_of};
 ghost use Rattle.template_code_shapes.specs.declared.StreamKind.{StreamKind};
 
+use crate::{Outline, Stop, StreamKind, shape_at_end};
 use std::alloc::Global;
 use template_code::Instructions;
-use crate::{Outline, Stop, StreamKind, shape_at_end};
 
 /// What kind of stream the instructions are, by the shape at their end.
 pub(crate) fn kind_of(alloc: Global, code: &Instructions<'_>) -> Result<StreamKind, Stop>

@@ -15,10 +15,10 @@ mod verifying;
 mod ways;
 
 pub use checked::Checked;
-pub use verifying::verify;
 pub use desk::Stop;
 pub use outline::Outline;
 pub use pass::shape_at_end;
+pub use verifying::verify;
 
 /// Which of the two kinds a stream is.
 #[derive(Clone, Copy, Debug, PartialEq, Eq)]

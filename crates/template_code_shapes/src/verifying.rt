@@ -7,12 +7,12 @@ ghost use Rattle.template_code_shapes.specs.Passes.{IsBad};
 ghost use Rattle.template_code_shapes.specs.declared.StreamKind.{StreamKind};
 ghost use Rattle.template_code_shapes.specs.Checked.{kind_in, stream_in};
 
+use crate::Stop;
+use crate::checked::Checked;
 use crate::kind::kind_of;
 use std::alloc::Global;
 use template_code::Instructions;
-use crate::Stop;
 use template_values_errors::{Error, ErrorKind};
-use crate::checked::Checked;
 
 /// Accepts a stream in which each place has one shape however it is reached, each reached instruction
 /// is admissible with that shape, and at the end nothing is open and no operand is left, which is a

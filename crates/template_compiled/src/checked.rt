@@ -13,11 +13,11 @@ ghost use Rattle.template_compiled.specs.Sources.{tree_in};
 ghost use Rattle.template_compiled.specs.Streams.{streams_of};
 ghost use Rattle.template_compiled.specs.Checked.{IsGoodBlock, IsOfTemplate, checked_stream, checked_streams};
 
+use crate::{CompiledTemplate, trees_run};
 use std::alloc::Global;
 use std::borrow::CowStr;
-use template_code::{Instructions, CompiledBlock};
+use template_code::{CompiledBlock, Instructions};
 use template_code_shapes::{Checked, verify};
-use crate::{CompiledTemplate, trees_run};
 use template_compiler_generator::templates_are_accepted;
 use template_values_errors::Error;
 

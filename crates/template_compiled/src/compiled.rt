@@ -29,7 +29,7 @@ use std::alloc::Global;
 use std::borrow::CowStr;
 use std::collections::BTreeSet;
 use std::marker::Model;
-use template_code::{Instructions, buffer_size_hint, CompiledBlock, block_among, own_blocks};
+use template_code::{CompiledBlock, Instructions, block_among, buffer_size_hint, own_blocks};
 use template_compiler_generator::number_names;
 use template_compiler_sources::parse;
 use template_compiler_statement_codegen::children;

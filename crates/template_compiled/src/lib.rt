@@ -11,7 +11,7 @@ mod room;
 mod streams;
 mod templates;
 
-pub use checked::{CheckedTemplate, CheckedBlock, check_template};
+pub use checked::{CheckedBlock, CheckedTemplate, check_template};
 pub use compiled::{CompiledTemplate, one_refusal, one_tree, plain_text, trees_run};
 pub use config::TemplateConfig;
 pub use expression::{

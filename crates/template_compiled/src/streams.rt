@@ -10,9 +10,9 @@ ghost use Rattle.template_compiled.specs.Streams.{stream_of, streams_of};
 use crate::room::put_body;
 use std::alloc::Global;
 use std::borrow::CowStr;
-use template_code::{Instructions, CompiledBlock};
-use template_names_needed::blocks;
+use template_code::{CompiledBlock, Instructions};
 use template_compiler_generator::number_names;
+use template_names_needed::blocks;
 use template_tree_statements::{Block, Stmt};
 use template_values_errors::Error;
 

@@ -50,7 +50,11 @@
 
 pub mod ast;
 
-pub use template_code::{CaptureMode, CompareOp, Instruction, Instructions, LOOP_FLAG_RECURSIVE, LOOP_FLAG_WITH_LOOP_VAR, LocalId, MACRO_CALLER, MAX_LOCALS, code_rises, buffer_size_hint, get_referenced_names};
+pub use template_code::{
+    CaptureMode, CompareOp, Instruction, Instructions, LOOP_FLAG_RECURSIVE,
+    LOOP_FLAG_WITH_LOOP_VAR, LocalId, MACRO_CALLER, MAX_LOCALS, buffer_size_hint, code_rises,
+    get_referenced_names,
+};
 pub use template_compiled::{
     CompiledBlock, CompiledExpression, CompiledTemplate, CompiledTemplates, TemplateConfig,
     one_standalone_tree, one_tree, plain_text,
@@ -59,10 +63,12 @@ pub use template_compiler_codegen::{
     expressions_perform, macros_perform, rounds_perform, templates_perform,
 };
 pub use template_compiler_folding::{as_const, fold_list, fold_map, fold_tuple};
-pub use template_compiler_generator::{CodeGenerator, blocks_generate, number_names, numbers_run_alike};
+pub use template_compiler_generator::{
+    CodeGenerator, blocks_generate, number_names, numbers_run_alike,
+};
 pub use template_compiler_grammar::template_laws::{is_decided, one_template, reads_the_grammar};
 pub use template_compiler_laws::{expressions_run, templates_run};
-pub use template_compiler_sources::{error_of, read_expression_tokens, Parser, parse, parse_expr};
+pub use template_compiler_sources::{Parser, error_of, parse, parse_expr, read_expression_tokens};
 pub use template_compiler_statement_codegen::{compile_expr, compile_template};
 pub use template_compiler_stream::{Fault, First, Refusal, TokenStream as ExpressionTokens};
 pub use template_compiler_syntax::{StartMarker, SyntaxConfig, SyntaxConfigBuilder};

@@ -7,9 +7,9 @@ ghost use Rattle.template_tree.specs.View.{expressions_in};
 ghost use Rattle.template_walk.specs.Constants.{constant_of};
 ghost use Rattle.template_walk.specs.Containers.{pairs_with};
 
+use crate::literal_values::literals;
 use crate::operators::settled;
 use std::alloc::Global;
-use crate::literal_values::literals;
 use template_tree::Expr;
 use template_values_core::{Entry, Value};
 use template_values_errors::Error;

@@ -17,11 +17,13 @@ ghost use Rattle.template_compiler_generator.specs.View.{draft_of, open_of, refu
 
 use crate::alone::statements;
 use crate::blocks::{Block, Jump};
+use crate::number_names;
 use std::alloc::Global;
-use template_code::{Instruction, Instructions, LOOP_FLAG_RECURSIVE, LOOP_FLAG_WITH_LOOP_VAR, buffer_size_hint};
+use template_code::{
+    Instruction, Instructions, LOOP_FLAG_RECURSIVE, LOOP_FLAG_WITH_LOOP_VAR, buffer_size_hint,
+};
 use template_compiler_emission::Leap;
 use template_compiler_expression_codegen::compile_expr;
-use crate::number_names;
 use template_compiler_statement_codegen::{compile_assignment, compile_statements};
 use template_tree::{Expr, Span};
 use template_tree_statements::Stmt;

@@ -12,13 +12,13 @@ mod generator;
 mod numbers;
 mod verified;
 
-pub use numbers::number_names;
 pub use call_numbers::numbers_run_alike;
 pub use certificates::{
     expressions_are_certified, expressions_go_on, expressions_perform_anywhere,
     statements_perform_anywhere, templates_are_certified, templates_go_on,
 };
 pub use generator::CodeGenerator;
+pub use numbers::number_names;
 pub use verified::{
     expressions_are_accepted, templates_are_accepted, verified_expression, verified_template,
 };

@@ -18,7 +18,7 @@ ghost use Rattle.template_walk.specs.Runnable.{IsRunnable};
 use crate::{CodeGenerator, expressions_are_certified, templates_are_certified};
 use std::alloc::Global;
 use template_code::Instructions;
-use template_code_shapes::{Checked, verify, StreamKind, certified_is_good};
+use template_code_shapes::{Checked, StreamKind, certified_is_good, verify};
 use template_tree::Expr;
 use template_tree_statements::Stmt;
 use template_values_errors::Error;

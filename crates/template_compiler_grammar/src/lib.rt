@@ -4,17 +4,15 @@
 //! `specs/TemplateReader.antt`. Here is no code but laws.
 #![tactic(auto)]
 
-pub mod template_laws;
 mod derivations;
 mod laws;
 mod places;
+pub mod template_laws;
 mod templates;
 mod trees;
 
-pub use laws::{one_expression, is_decided, reads_the_grammar};
 pub use derivations::{stands_alone, stands_whole};
+pub use laws::{is_decided, one_expression, reads_the_grammar};
+pub use places::{reads_with_places, stands_once};
 pub use templates::{templates_read_with_places, templates_stand_once};
 pub use trees::own_span_first;
-pub use places::{reads_with_places, stands_once};
-
-

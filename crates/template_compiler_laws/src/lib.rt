@@ -8,8 +8,6 @@ mod runnable;
 
 pub use runnable::{expressions_run, templates_run};
 
-
-
 /// A law: the code of a template, of one of its blocks, or of an expression alone, has at most 201 instructions for each byte
 /// of its source, and 201 more. A source of fewer than 2^24 bytes so has fewer than 2^32 instructions.
 pub fn code_is_bounded()

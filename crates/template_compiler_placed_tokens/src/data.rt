@@ -12,7 +12,10 @@ use crate::inside::Piece;
 use crate::stage::Stage;
 use crate::starts::inside_from;
 use crate::words::{find_raw_end, only_word};
-use template_compiler_syntax::{Edge, Sign, StartFinder, comment_sign, data_start, data_text, find_line_end, find_text, is_first_on_line, newline_len, start_sign, StartMarker, SyntaxConfig};
+use template_compiler_syntax::{
+    Edge, Sign, StartFinder, StartMarker, SyntaxConfig, comment_sign, data_start, data_text,
+    find_line_end, find_text, is_first_on_line, newline_len, start_sign,
+};
 use template_compiler_tokens::Token;
 use template_values_errors::ErrorKind;
 

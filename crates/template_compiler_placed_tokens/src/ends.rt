@@ -6,7 +6,7 @@ ghost use Rattle.template_compiler_syntax.specs.Syntax.{Syntax};
 ghost use Rattle.template_compiler_placed_tokens.specs.Finds.{FindsDelimiter, FindsDelimitedEnd, FindsEnd, FindsOpenEnd, FindsPlainEnd};
 ghost use Rattle.template_compiler_placed_tokens.specs.Ends.{IsEndText, IsSegmentEnd};
 
-use template_compiler_syntax::{Sign, newline_len, stands_at, StartMarker, SyntaxConfig};
+use template_compiler_syntax::{Sign, StartMarker, SyntaxConfig, newline_len, stands_at};
 
 /// Whether white space that parts tokens stands at the place.
 pub fn is_white_at(bytes: &[u8], place: usize) -> bool

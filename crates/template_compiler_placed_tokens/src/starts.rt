@@ -5,7 +5,7 @@ ghost use Rattle.template_compiler_syntax.specs.Syntax.{start_text, IsSet};
 ghost use Rattle.template_compiler_syntax.specs.Places.{StandsAt};
 ghost use Rattle.template_compiler_syntax.specs.Segments.{inside_from as the_inside_from};
 
-use template_compiler_syntax::{start_sign, StartMarker, SyntaxConfig};
+use template_compiler_syntax::{StartMarker, SyntaxConfig, start_sign};
 
 /// Where the inside of the segment of the kind begins whose start marker stands at the place.
 pub fn inside_from(source: &str, syntax: &SyntaxConfig, kind: StartMarker, place: usize) -> usize

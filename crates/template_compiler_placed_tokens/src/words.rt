@@ -11,7 +11,7 @@ ghost use Rattle.template_compiler_syntax.specs.Segments.{inside_from as the_ins
 use crate::inside::{Found, next_place};
 use crate::starts::inside_from;
 use template_compiler_scanner::leading_name;
-use template_compiler_syntax::{Sign, find_text, StartMarker, SyntaxConfig};
+use template_compiler_syntax::{Sign, StartMarker, SyntaxConfig, find_text};
 
 /// The sign of a block's end, and the place behind it, if this name is the block's only word. Its inside begins at the place.
 #[inline(always)]

@@ -2,10 +2,10 @@
 use crate::NAME;
 use crate::report::Report;
 use std::alloc::Global;
-use template_compiler_tokens::{Place, Token, Tokens};
 use template_compiler_scanner::scan_token;
 use template_compiler_syntax::SyntaxConfig;
 use template_compiler_tokenizer::{TokenStream, Tokenizer};
+use template_compiler_tokens::{Place, Token, Tokens};
 use template_tree::Span;
 use template_values_errors::ErrorKind;
 

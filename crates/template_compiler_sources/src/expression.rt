@@ -10,9 +10,9 @@ ghost use Rattle.template_values_errors.specs.declared.ErrorKind.TheVariants.{To
 use crate::prefixes::Text;
 use crate::refused::refused_at;
 use crate::template::MAX_DEPTH;
+use crate::{error_of, read_expression_tokens};
 use std::alloc::Global;
 use template_compiler_expression_parser::read_expression;
-use crate::{error_of, read_expression_tokens};
 use template_compiler_stream::{Refusal, TokenStream};
 use template_tree::Expr;
 use template_values_errors::{Error, ErrorKind};

@@ -5,9 +5,9 @@ ghost use Rattle.template_compiler_stream.specs.declared.refusal.Refusal.TheVari
 
 use crate::refusals::fault_of;
 use std::alloc::Global;
-use template_compiler_tokens::Place;
 use template_compiler_scanner::scan_token;
 use template_compiler_stream::{Refusal, TokenStream};
+use template_compiler_tokens::Place;
 
 /// Reads a text as tokens alone, with white space between them, and what stands behind them where that is none. Linear.
 ///

@@ -21,10 +21,10 @@ mod source;
 mod source_tokens;
 mod template;
 
-pub use expression_tokens::read_expression_tokens;
-pub use refusals::error_of;
-pub use source_tokens::read_tokens;
 pub use expression::parse_expr;
+pub use expression_tokens::read_expression_tokens;
 pub use laws::{one_expression_fault, one_fault, one_placed_expression, one_placed_tree};
 pub use parser::Parser;
+pub use refusals::error_of;
 pub use source::parse;
+pub use source_tokens::read_tokens;

@@ -13,8 +13,8 @@ ghost use Rattle.template_compiler_tokens.specs.View.{token_of};
 
 use crate::expression::whole_expression;
 use crate::source::whole_template;
-use std::alloc::{AllocError, Global};
 use crate::{read_expression_tokens, read_tokens};
+use std::alloc::{AllocError, Global};
 use template_compiler_stream::{Fault, First, Refusal, TokenStream};
 use template_compiler_syntax::SyntaxConfig;
 use template_compiler_tokenizer::Tokenizer;

@@ -3,11 +3,11 @@ ghost use Rattle.std.specs.Prelude.{◌≡◌, ◌∷◌, []};
 ghost use Rattle.template_compiler_sources.specs.Kinds.{refused_kind};
 
 use crate::ends::ends_at;
+use crate::error_of;
 use crate::prefixes::{Text, take_first};
 use std::alloc::{AllocError, Global};
-use template_compiler_tokens::{Place as Position, Token};
-use crate::error_of;
 use template_compiler_stream::Refusal;
+use template_compiler_tokens::{Place as Position, Token};
 use template_tree::Span;
 use template_values_errors::{Error, Place};
 

@@ -4,10 +4,10 @@ ghost use Rattle.template_compiler_grammar.specs.TemplateReader.{template_of};
 ghost use Rattle.template_compiler_sources.specs.Wholes.{ParsedWhole};
 ghost use Rattle.template_compiler_tokens.specs.Places.{stretch};
 
-use crate::reads::ExpressionParser;
-use std::alloc::Global;
 use crate::distinct::are_distinct;
 use crate::names::block_names;
+use crate::reads::ExpressionParser;
+use std::alloc::Global;
 use template_compiler_statement_makers::Around;
 use template_compiler_statement_parser::read_statements;
 use template_compiler_stream::{Fault, Refusal, TokenStream};

@@ -8,7 +8,7 @@ ghost use Rattle.template_compiler_grammar.specs.TemplateReader.{here};
 ghost use Rattle.template_compiler_grammar.specs.Views.{node_of, placed_assignments_in};
 
 use std::alloc::Global;
-use template_compiler_statement_parts::{expect_tag_end, ReadsExpressions, read_assignments};
+use template_compiler_statement_parts::{ReadsExpressions, expect_tag_end, read_assignments};
 use template_compiler_stream::{Fault, Refusal, TokenStream};
 use template_tree::{Expr, Span, Spanned};
 use template_tree_statements::{AutoEscape, FilterBlock, IfCond};

@@ -7,7 +7,9 @@ ghost use Rattle.template_compiler_grammar.specs.TemplateReader.{here};
 ghost use Rattle.template_compiler_grammar.specs.Views.{node_of, optional_node_in};
 
 use std::alloc::Global;
-use template_compiler_statement_parts::{expect_tag_end, expect_word, read_flag, read_targets, ReadsExpressions, read_loop_filter};
+use template_compiler_statement_parts::{
+    ReadsExpressions, expect_tag_end, expect_word, read_flag, read_loop_filter, read_targets,
+};
 use template_compiler_stream::{Refusal, TokenStream};
 use template_tree::{Expr, Span, Spanned};
 use template_tree_statements::ForLoop;

@@ -10,7 +10,10 @@ ghost use Rattle.template_tree_statements.specs.declared.statements.Stmt.TheVari
 
 use std::alloc::{AllocError, Global};
 use template_compiler_statement_makers::makers;
-use template_compiler_statement_parts::{expect_tag_end, is_reserved, Parameters, ReadsExpressions, read_deeper_parameters, read_optional_parameters};
+use template_compiler_statement_parts::{
+    Parameters, ReadsExpressions, expect_tag_end, is_reserved, read_deeper_parameters,
+    read_optional_parameters,
+};
 use template_compiler_stream::{Fault, Refusal, Sign, TokenStream};
 use template_tree::{Call, Span, Spanned};
 use template_tree_statements::{CallBlock, Macro, Stmt};

@@ -8,7 +8,10 @@ ghost use Rattle.template_compiler_grammar.specs.Views.{node_of, statement_node_
 ghost use Rattle.template_tree_statements.specs.declared.statements.Stmt.TheVariants as statements;
 
 use std::alloc::Global;
-use template_compiler_statement_parts::{begins_values, expect_assign, expect_tag_end, read_more_targets, read_target, ReadsExpressions, read_values};
+use template_compiler_statement_parts::{
+    ReadsExpressions, begins_values, expect_assign, expect_tag_end, read_more_targets, read_target,
+    read_values,
+};
 use template_compiler_stream::{Refusal, TokenStream};
 use template_tree::{Expr, Span, Spanned};
 use template_tree_statements::{Set, SetBlock};

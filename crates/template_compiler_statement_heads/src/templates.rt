@@ -6,7 +6,10 @@ ghost use Rattle.template_compiler_grammar.specs.Views.{statement_node_of};
 ghost use Rattle.template_tree_statements.specs.declared.statements.Stmt.TheVariants as statements;
 
 use std::alloc::Global;
-use template_compiler_statement_parts::{expect_tag_end, expect_word, pass_context, read_imports, read_missing, read_stored, ReadsExpressions};
+use template_compiler_statement_parts::{
+    ReadsExpressions, expect_tag_end, expect_word, pass_context, read_imports, read_missing,
+    read_stored,
+};
 use template_compiler_stream::{Refusal, TokenStream};
 use template_tree::{Span, Spanned};
 use template_tree_statements::{Extends, FromImport, Import, Include};

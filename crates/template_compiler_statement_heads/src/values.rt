@@ -6,7 +6,7 @@ ghost use Rattle.template_compiler_grammar.specs.Views.{statement_node_of};
 ghost use Rattle.template_tree_statements.specs.declared.statements.Stmt.TheVariants as statements;
 
 use std::alloc::Global;
-use template_compiler_statement_parts::{expect_print_end, expect_tag_end, ReadsExpressions};
+use template_compiler_statement_parts::{ReadsExpressions, expect_print_end, expect_tag_end};
 use template_compiler_stream::{Fault, Refusal, TokenStream};
 use template_tree::{Span, Spanned};
 use template_tree_statements::{Do, EmitExpr};

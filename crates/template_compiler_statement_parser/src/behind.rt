@@ -16,7 +16,7 @@ use crate::kinds::{Leaf, read_leaf};
 use std::alloc::Global;
 use template_compiler_statement_heads::read_print;
 use template_compiler_statement_makers::Around;
-use template_compiler_statement_parts::{put, ReadsExpressions};
+use template_compiler_statement_parts::{ReadsExpressions, put};
 use template_compiler_stream::{Refusal, TokenStream};
 use template_tree::{Span, Spanned};
 use template_tree_statements::{EmitRaw, ForLoop, IfCond, Stmt};

@@ -20,9 +20,11 @@ ghost use Rattle.template_compiler_statement_makers.specs.Listed.{statement_node
 use crate::behind::{put_condition, put_leaf, put_loop, put_print, put_text};
 use crate::kinds::{Kind, Parent, kind_of};
 use std::alloc::Global;
-use {template_compiler_statement_heads as declarations, template_compiler_statement_heads as loops, template_compiler_statement_parts as parts};
+use template_compiler_statement_heads as declarations;
+use template_compiler_statement_heads as loops;
 use template_compiler_statement_heads::SetHead;
 use template_compiler_statement_makers::{Around, Opening, ends, makers, opening_named};
+use template_compiler_statement_parts as parts;
 use template_compiler_statement_parts::ReadsExpressions;
 use template_compiler_stream::{Fault, Refusal, TokenStream};
 use template_tree::{Span, Spanned};

@@ -34,15 +34,15 @@ mod targets;
 mod values;
 mod words;
 
-pub use expressions::ReadsExpressions;
-pub use parameters::{Parameters, read_deeper_parameters, read_optional_parameters};
-pub use values::{read_assignments, read_loop_filter, read_values};
 pub use ends::{
     expect_assign, expect_block_end, expect_paren_end, expect_print_end, expect_tag,
     expect_tag_end, expect_word,
 };
+pub use expressions::ReadsExpressions;
 pub use growth::put;
 pub use imports::read_imports;
 pub use names::{is_reserved, read_stored};
+pub use parameters::{Parameters, read_deeper_parameters, read_optional_parameters};
 pub use targets::{read_more_targets, read_target, read_targets};
+pub use values::{read_assignments, read_loop_filter, read_values};
 pub use words::{begins_tag, begins_values, pass_context, read_flag, read_missing, tag_word};

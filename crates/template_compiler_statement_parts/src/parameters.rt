@@ -9,8 +9,8 @@ ghost use Rattle.template_compiler_grammar.specs.TemplateReader.{deeper_paramete
 ghost use Rattle.template_compiler_tokens.specs.Steps.{all};
 
 use crate::expressions::ReadsExpressions;
-use std::alloc::Global;
 use crate::{expect_paren_end, put, read_stored};
+use std::alloc::Global;
 use template_compiler_stream::{Fault, Refusal, Sign, TokenStream};
 use template_tree::Expr;
 

@@ -9,8 +9,8 @@ ghost use Rattle.template_compiler_grammar.specs.Views.{node_of, nodes_in, optio
 ghost use Rattle.template_compiler_tokens.specs.Steps.{all};
 
 use crate::expressions::ReadsExpressions;
-use std::alloc::{AllocError, Global};
 use crate::{expect_assign, put, read_target};
+use std::alloc::{AllocError, Global};
 use template_compiler_stream::{Refusal, Sign, TokenStream};
 use template_tree::{Expr, Span};
 

@@ -5,8 +5,8 @@ ghost use Rattle.template_compiler_syntax.specs.Places.{sign_of, sign_at, sign_w
 ghost use Rattle.template_compiler_syntax.specs.Segments.{comment_sign as sign_of_comment, start_sign as sign_of_start};
 
 use crate::places::rest_from;
-use template_compiler_tokens::last_between;
 use crate::{StartMarker, SyntaxConfig};
+use template_compiler_tokens::last_between;
 
 /// The sign at an end of a segment.
 #[derive(Clone, Copy, Debug, PartialEq, Eq)]

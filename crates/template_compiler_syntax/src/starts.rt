@@ -10,9 +10,9 @@ ghost use Rattle.template_compiler_syntax.specs.Known.{IsKnown, IsSought, IsNear
 
 use crate::edges::Sign;
 use crate::places::{find_text, is_first_on_line, rest_from};
+use crate::{StartMarker, SyntaxConfig};
 use memchr::memchr;
 use template_compiler_tokens::goes_before;
-use crate::{StartMarker, SyntaxConfig};
 
 /// What is known of the start markers of one kind from a place on.
 #[derive(Clone, Copy)]

@@ -6,8 +6,8 @@ ghost use Rattle.template_compiler_syntax.specs.Stripping.{stripped_from, stripp
 
 use crate::edges::{Edge, Sign};
 use crate::places::{blanks_from, is_first_on_line, newline_len};
-use template_compiler_tokens::behind_white_space;
 use crate::{StartMarker, SyntaxConfig};
+use template_compiler_tokens::behind_white_space;
 
 /// The data between two places of a source, less the white space that what stands beside it takes.
 /// It takes time for the white space that goes alone.

@@ -9,8 +9,8 @@ use crate::reach::{Reached, read_data};
 use crate::segment::{Inner, read_inside};
 use std::alloc::Global;
 use template_compiler_placed_tokens::{Piece, SegmentEnd, Stage, next_piece};
-use template_compiler_tokens::{Stretch, next_span, Token};
 use template_compiler_syntax::{Edge, StartFinder, SyntaxConfig};
+use template_compiler_tokens::{Stretch, Token, next_span};
 use template_tree::Span;
 use template_values_errors::ErrorKind;
 

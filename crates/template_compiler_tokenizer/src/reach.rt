@@ -15,8 +15,11 @@ ghost use Rattle.template_compiler_tokenizer.specs.Reaches.{FindsBlack, HoldsNex
 
 use crate::all::push;
 use template_compiler_placed_tokens::{inside_from, is_nothing, is_white_at, only_word, raw_data};
-use template_compiler_tokens::{Stretch, next_span, Token};
-use template_compiler_syntax::{Edge, Sign, Start, StartFinder, comment_sign, data_between, find_text, StartMarker, SyntaxConfig};
+use template_compiler_syntax::{
+    Edge, Sign, Start, StartFinder, StartMarker, SyntaxConfig, comment_sign, data_between,
+    find_text,
+};
+use template_compiler_tokens::{Stretch, Token, next_span};
 use template_tree::Span;
 use template_values_errors::ErrorKind;
 

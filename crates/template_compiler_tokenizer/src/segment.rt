@@ -13,9 +13,9 @@ use std::alloc::Global;
 use template_compiler_placed_tokens::{
     Found, SegmentEnd, brackets_behind, end_token, next_place_of,
 };
-use template_compiler_tokens::{Stretch, next_span, Token};
 use template_compiler_scanner::{scan_digit, scan_mark, scan_name, scan_token};
 use template_compiler_syntax::{Sign, StartMarker};
+use template_compiler_tokens::{Stretch, Token, next_span};
 use template_tree::Span;
 use template_values_errors::ErrorKind;
 

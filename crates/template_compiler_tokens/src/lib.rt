@@ -15,9 +15,9 @@ mod token;
 mod tokens;
 
 pub use bytes::{behind_white_space, goes_before, is_low_surrogate, last_between};
+pub use laws::one_token;
 pub use place::Place;
 pub use starts::are_apart;
 pub use stretch::{Stretch, next_span, span_in};
-pub use laws::one_token;
 pub use token::Token;
 pub use tokens::Tokens;

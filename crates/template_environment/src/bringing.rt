@@ -8,8 +8,8 @@ ghost use Rattle.template_environment.specs.Extras.{Puts, next_number};
 use crate::environment::Environment;
 use crate::extensions::put;
 use template_callables::Extension;
-use template_machine_tables::OWN_FUNCTIONS;
 use template_machine_surroundings::EscapeRule;
+use template_machine_tables::OWN_FUNCTIONS;
 use template_values_core::Value;
 use template_values_errors::{Error, ErrorKind};
 

@@ -28,9 +28,9 @@ use std::borrow::CowStr;
 use template_callables::{Extension, NoExtension};
 use template_compiled::{CompiledTemplate, CompiledTemplates, TemplateConfig};
 use template_compiler_syntax::SyntaxConfig;
-use template_machine_tables::Globals;
 use template_machine_meaning::isolation;
 use template_machine_surroundings::{AutoEscapeRule, EscapeRule, StateIds};
+use template_machine_tables::Globals;
 use template_values_core::Value;
 use template_values_errors::{Error, ErrorKind, UndefinedBehavior};
 

@@ -6,8 +6,8 @@ ghost use Rattle.template_compiled.specs.Standing.{compiled_at};
 
 use std::alloc::Global;
 use template_compiled::{CompiledTemplate, CompiledTemplates, TemplateConfig};
-use template_machine_tables::Globals;
 use template_machine_renders::Rules;
+use template_machine_tables::Globals;
 use template_values_core::Value;
 use template_values_errors::{Error, UndefinedBehavior};
 

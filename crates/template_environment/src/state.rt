@@ -36,9 +36,9 @@ use template_machine_calls::{
     Entry, Reached, call_filter, call_found, call_test, format_value, turn_all,
 };
 use template_machine_going::Stop;
-use template_machine_surroundings::{NullWriter, Sink, StateIds};
 use template_machine_renders::{Templates, run_block, run_entry, run_stream};
 use template_machine_state::{Caller, State as MachineState};
+use template_machine_surroundings::{NullWriter, Sink, StateIds};
 use template_values_core::{Entry as MapEntry, Value};
 use template_values_errors::{AutoEscape, Error, ErrorKind, UndefinedBehavior};
 use template_values_forms::{LoopView, MacroView, Records};

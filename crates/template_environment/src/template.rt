@@ -19,8 +19,8 @@ use crate::state::{State, spend, unspent};
 use crate::using::UsesState;
 use template_callables::{Extension, NoExtension};
 use template_compiled::CompiledTemplate;
-use template_machine_surroundings::{Sink, StateIds};
 use template_machine_renders::run_template;
+use template_machine_surroundings::{Sink, StateIds};
 use template_values_core::Value;
 use template_values_errors::{AutoEscape, Error, ErrorKind};
 

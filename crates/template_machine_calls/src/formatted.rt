@@ -20,9 +20,9 @@ use template_callables::{Callbacks, FormatAnswer};
 use template_machine_going::Stop;
 use template_machine_operands::Operands;
 use template_machine_operations as values;
-use template_machine_surroundings::Sink;
-use template_machine_state::State;
 use template_machine_operations::forbids_printing;
+use template_machine_state::State;
+use template_machine_surroundings::Sink;
 use template_values_core::Value;
 use template_values_errors::{Error, ErrorKind};
 

@@ -5,9 +5,7 @@ ghost use Rattle.template_machine_codes.specs.Laws.{CodeMeansExpression, CodeMea
 
 mod streams;
 
-pub use streams::{every_stream_ends, every_stream_leaves, every_first_run_ends};
-
-
+pub use streams::{every_first_run_ends, every_stream_ends, every_stream_leaves};
 
 /// A tree's meaning that is finished is its code's meaning under every bound that is great enough.
 pub fn code_means_tree()

@@ -3,7 +3,6 @@
 
 ghost use Rattle.template_machine_codes.specs.StreamLaws.{EveryFirstRunEnds, EveryStreamEnds, EveryStreamLeaves};
 
-
 /// Every run of verified streams ends, whichever of them, or of their macros and of their loops that may be called again, is run: under
 /// some bound it comes to its end, or to a fault, and is never lost. What the run finds, macros and loops, comes from such streams too, and
 /// so does what it leaves, whichever its end.

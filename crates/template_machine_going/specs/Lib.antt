@@ -10,4 +10,5 @@ pub mod Outcomes
 pub mod Comings
 pub mod Bounds
 pub mod Trackers
+
 -- what contracts here cite of the crates below

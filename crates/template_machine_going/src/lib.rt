@@ -10,11 +10,11 @@ mod outcomes;
 mod stop;
 mod tracking;
 
-pub use tracking::FuelTracker;
-pub use fuel::{charge, levels};
 pub use bounds::{beginnings_stay, ends_stay, uncut_stays};
+pub use fuel::{charge, levels};
 pub use outcomes::{outcomes_follow, steps_come_out, strays_on};
 pub use stop::Stop;
+pub use tracking::FuelTracker;
 
 /// A machine that goes nowhere has gone, and goings follow one another.
 pub fn goings_follow<S>()

@@ -18,8 +18,8 @@ use crate::told::told_by;
 use crate::whole::run_whole;
 use std::alloc::Global;
 use template_machine_going::Stop;
-use template_machine_surroundings::Sink;
 use template_machine_state::State;
+use template_machine_surroundings::Sink;
 use template_values_core::Value;
 use template_values_errors::{Error, ErrorKind};
 

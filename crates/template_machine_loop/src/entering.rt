@@ -17,8 +17,8 @@ use std::alloc::Global;
 use template_code::Instruction;
 use template_machine_going::Stop;
 use template_machine_operands::Operands;
-use template_machine_surroundings::Sink;
 use template_machine_state::State;
+use template_machine_surroundings::Sink;
 use template_values_core::Value;
 use template_values_errors::{Error, ErrorKind};
 

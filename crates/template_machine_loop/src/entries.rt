@@ -21,8 +21,8 @@ use std::alloc::Global;
 use template_machine_calls::{Entering, Entry, turn_all};
 use template_machine_going::Stop;
 use template_machine_operands::Operands;
-use template_machine_surroundings::Sink;
 use template_machine_state::State;
+use template_machine_surroundings::Sink;
 use template_values_core::Value;
 
 /// Enters what a call came to, and puts on top what is made of its value. It stands alone, so that others have nothing of it.

@@ -10,7 +10,7 @@ ghost use Rattle.template_machine_loop.specs.Found.{FindsBehind, FindsBody, IsRe
 ghost use Rattle.template_machine_loop.specs.Programs.{block_at, code_at, kept_code, own_code, programs_under, roots_of, standing_of, template_at};
 
 use crate::templates::{Compiled, Program, Templates};
-use template_code::{Instructions, CompiledBlock, block_among};
+use template_code::{CompiledBlock, Instructions, block_among};
 use template_machine_state::{Body, Home, State, Stream};
 use template_values_errors::{Error, ErrorKind};
 

@@ -14,12 +14,12 @@ use crate::templates::{Compiled, Program, Templates};
 use crate::whole::run_whole;
 use std::alloc::Global;
 use template_machine_going::Stop;
-use template_values_items::Items;
 use template_machine_operations::choices_in;
-use template_machine_surroundings::Sink;
 use template_machine_state::State;
+use template_machine_surroundings::Sink;
 use template_values_core::Value;
 use template_values_errors::{Error, ErrorKind};
+use template_values_items::Items;
 
 // So many levels deeper an included template runs.
 const INCLUDE_LEVELS: usize = 10;

@@ -24,8 +24,8 @@ use template_code::Instructions;
 use template_machine_calls::{Bound, bind};
 use template_machine_going::Stop;
 use template_machine_operands::Operands;
-use template_machine_surroundings::Sink;
 use template_machine_state::{State, Stream};
+use template_machine_surroundings::Sink;
 use template_values_core::Value;
 use template_values_errors::{Error, ErrorKind};
 

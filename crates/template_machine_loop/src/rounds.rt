@@ -23,13 +23,13 @@ use crate::told::told_by;
 use std::alloc::Global;
 use template_code::Instructions;
 use template_machine_going::Stop;
-use template_values_items::Items;
 use template_machine_operands::Operands;
 use template_machine_operations as values;
-use template_machine_surroundings::Sink;
 use template_machine_state::{LoopState, Rounds, State};
+use template_machine_surroundings::Sink;
 use template_values_core::Value;
 use template_values_errors::{Error, ErrorKind};
+use template_values_items::Items;
 
 /// What of a loop is called again: where its rounds are at home, and whether it has its variable.
 #[derive(Clone, Copy)]

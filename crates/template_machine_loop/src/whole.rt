@@ -12,8 +12,8 @@ use crate::templates::{Program, Templates};
 use std::alloc::Global;
 use template_code::Instructions;
 use template_machine_going::Stop;
-use template_machine_surroundings::Sink;
 use template_machine_state::State;
+use template_machine_surroundings::Sink;
 use template_values_errors::{Error, ErrorKind};
 
 /// Runs code in a state as [`run_to_end`] does, and then, where it extends a template, that one's code in its place, in the same

@@ -19,7 +19,6 @@ mod sequence;
 mod spreads;
 mod undefined;
 
-pub use undefined::{refusal, forbids_printing, forbids_operator};
 pub use called::Called;
 pub use calls::{call_found, call_named, call_value};
 pub use containers::{build_kwargs, build_list, build_map, build_tuple};
@@ -34,3 +33,4 @@ pub use printing::{make_text, print, write};
 pub use ranges::range;
 pub use sequence::{choices_in, iterate, unpack};
 pub use spreads::{merge_kwargs, spread};
+pub use undefined::{forbids_operator, forbids_printing, refusal};

@@ -6,9 +6,9 @@ ghost use Rattle.template_machine_meaning.specs.Undefined.{forbids_operator, for
 ghost use Rattle.template_machine_meaning.specs.Replies.{guarded, kinded};
 ghost use Rattle.template_machine_operations.specs.Answers.{Answers, answered};
 
-use std::alloc::Global;
 use crate::undefined::{forbids_link, forbids_truth};
 use crate::{forbids_operator, refusal};
+use std::alloc::Global;
 use template_tree::{BinOpKind, CompareOpKind};
 use template_values_core::Value;
 use template_values_errors::{Error, UndefinedBehavior};

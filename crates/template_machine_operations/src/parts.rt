@@ -6,9 +6,9 @@ ghost use Rattle.template_machine_meaning.specs.Replies.{guarded, kinded};
 ghost use Rattle.template_machine_operations.specs.Answers.{Answers, answered};
 ghost use Rattle.std.specs.Prelude.{◌≡◌};
 
-use std::alloc::Global;
-use crate::undefined::{forbids_slicing, is_chainable, is_undefined};
 use crate::refusal;
+use crate::undefined::{forbids_slicing, is_chainable, is_undefined};
+use std::alloc::Global;
 use template_values_core::Value;
 use template_values_errors::{Error, UndefinedBehavior};
 use template_values_forms::Records;

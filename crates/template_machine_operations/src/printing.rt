@@ -11,14 +11,14 @@ ghost use Rattle.template_machine_meaning.specs.Replies.{guarded, kinded};
 ghost use Rattle.template_machine_operations.specs.Outcomes.{TellsFailures, Writes, Prints};
 ghost use Rattle.template_machine_operations.specs.Texts.{safe_text_in};
 
+use crate::{forbids_printing, refusal};
 use itoa::Buffer;
 use std::str;
 use template_machine_surroundings::{Sink, write_text};
-use crate::{forbids_printing, refusal};
 use template_values_core::{Content, Value};
 use template_values_errors::{AutoEscape, Error, UndefinedBehavior};
 use template_values_forms::Records;
-use template_values_print::{HTML_BLOCK, SHORT_TEXT, is_unmarked, put_html, escape_to};
+use template_values_print::{HTML_BLOCK, SHORT_TEXT, escape_to, is_unmarked, put_html};
 
 /// Puts a text into a sink. No byte of it is copied.
 ///

@@ -8,13 +8,13 @@ ghost use Rattle.template_machine_meaning.specs.Includes.{choices_in};
 ghost use Rattle.template_machine_meaning.specs.Replies.{guarded, kinded};
 ghost use Rattle.template_machine_operations.specs.Answers.{Answers};
 
-use std::alloc::Global;
-use template_values_items::{Items, items_of};
-use crate::undefined::forbids_iterating;
 use crate::refusal;
+use crate::undefined::forbids_iterating;
+use std::alloc::Global;
 use template_values_core::{Content, Value};
 use template_values_errors::{Error, ErrorKind, UndefinedBehavior};
 use template_values_forms::{NoRecords, Records};
+use template_values_items::{Items, items_of};
 
 /// What a loop goes over: the items of a list or tuple, which are shared, at once; the characters of a
 /// text and the keys of a map, keyword map, module or namespace, in time linear in their number;

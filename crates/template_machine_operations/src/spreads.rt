@@ -10,9 +10,9 @@ ghost use Rattle.template_machine_operations.specs.Entries.{entries_given};
 
 use crate::containers::build_kwargs;
 use crate::dicts::push_copies;
-use std::alloc::Global;
 use crate::undefined as undefined;
 use crate::undefined::forbids_iterating;
+use std::alloc::Global;
 use template_values_core::{Content, Entry, Value};
 use template_values_errors::{Error, UndefinedBehavior};
 use template_values_forms::Records;

@@ -9,10 +9,10 @@ ghost use Rattle.template_machine_steps.specs.Performs.{Performs, PerformsBehind
 
 use std::alloc::Global;
 use template_code::MACRO_CALLER;
-use template_values_items::Items;
 use template_machine_operands::Operands;
 use template_machine_state::State;
 use template_values_errors::{Error, ErrorKind};
+use template_values_items::Items;
 
 /// The closure that the innermost frame writes holds the name. As dear as [`State::enclose`].
 ///

@@ -10,8 +10,8 @@ ghost use Rattle.template_machine_perform.specs.Performs.{StepsWriting};
 use std::alloc::Global;
 use template_machine_operands::Operands;
 use template_machine_operations as values;
-use template_machine_surroundings::{NullWriter, Sink};
 use template_machine_state::State;
+use template_machine_surroundings::{NullWriter, Sink};
 use template_values_core::Value;
 use template_values_errors::{Error, UndefinedBehavior};
 

@@ -11,8 +11,8 @@ use std::alloc::Global;
 use template_code::Instructions;
 use template_machine_going::Stop;
 use template_machine_loop::{Program, Templates, run_to_end, run_whole};
-use template_machine_surroundings::Sink;
 use template_machine_state::State;
+use template_machine_surroundings::Sink;
 use template_values_core::Value;
 use template_values_errors::{Error, ErrorKind};
 

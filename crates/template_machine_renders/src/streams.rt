@@ -19,8 +19,8 @@ use template_code_shapes::Checked;
 use template_machine_going::Stop;
 use template_machine_loop::{Kept, Program, Templates, run_to_end, run_whole};
 use template_machine_operands::Operands;
-use template_machine_surroundings::Sink;
 use template_machine_state::State;
+use template_machine_surroundings::Sink;
 use template_values_core::Value;
 use template_values_errors::{Error, ErrorKind};
 

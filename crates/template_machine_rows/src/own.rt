@@ -1,8 +1,8 @@
 //! What a case may bring, by its types.
 use std::alloc::Global;
 use template_callables::{Extension, NoCallable, NoExtension, NoFormatter, NoJoin, NoMethod};
-use template_rows::{Brought, Joined};
 use template_machine_surroundings::{AutoEscapeRule, NoRule};
+use template_rows::{Brought, Joined};
 use template_values_errors::AutoEscape;
 
 /// What is made of what a case says.

@@ -25,11 +25,11 @@ use crate::written::{begin_if, cut, drop_last, end_last, take_written};
 use std::alloc::Global;
 use std::mem;
 use template_code::CompiledBlock;
-use template_machine_tables::{BlockStack, Home, Stream};
 use template_machine_frames::{Frame, LoopState, Rounds};
-use template_values_items::Items;
+use template_machine_tables::{BlockStack, Home, Stream};
 use template_values_core::Value;
 use template_values_errors::{AutoEscape, Error, ErrorKind};
+use template_values_items::Items;
 
 // So many levels deeper an included template runs.
 const INCLUDE_LEVELS: usize = 10;

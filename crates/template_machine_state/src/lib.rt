@@ -15,5 +15,5 @@ mod written;
 
 pub use caller::Caller;
 pub use state::State;
-pub use template_machine_tables::{Behind, Body, Home, Stream, MacroRecord};
 pub use template_machine_frames::{LoopState, Rounds};
+pub use template_machine_tables::{Behind, Body, Home, MacroRecord, Stream};

@@ -17,11 +17,11 @@ use crate::leaving::{cut_loop, make_room};
 use crate::records::may_hold_loop;
 use crate::state::State;
 use std::alloc::Global;
-use template_machine_tables::{Stream, MacroRecord};
 use template_machine_frames::{Frame, LoopState, Rounds};
-use template_values_items::Items;
+use template_machine_tables::{MacroRecord, Stream};
 use template_values_core::Value;
 use template_values_errors::{Error, ErrorKind};
+use template_values_items::Items;
 
 impl<'env> State<'env> {
     /// From now on the name has the value in the innermost frame, and in the closure that this one writes, if it writes one.

@@ -10,11 +10,11 @@ ghost use Rattle.template_machine_operands.specs.Operands.{operands_in};
 ghost use Rattle.template_machine_steps.specs.Performs.{Performs, ruled};
 
 use std::alloc::Global;
-use template_values_items::Items;
 use template_machine_operands::Operands;
 use template_machine_operations as values;
 use template_values_errors::{Error, ErrorKind, UndefinedBehavior};
 use template_values_forms::Records;
+use template_values_items::Items;
 
 /// Takes so many values, or a counted run where the count is left out, and gives their list. Linear in their number.
 ///

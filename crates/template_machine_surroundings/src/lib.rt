@@ -9,11 +9,11 @@ mod output;
 mod wrapper;
 mod writer;
 
-pub use wrapper::WriteWrapper;
-pub use output::{Sink, NullWriter, write_text};
 pub use escape::{
     AutoEscapeRule, EscapeRule, NoRule, default_auto_escape_callback, one_escape, one_rule,
 };
 pub use fault::SinkFault;
 pub use ids::StateIds;
+pub use output::{NullWriter, Sink, write_text};
+pub use wrapper::WriteWrapper;
 pub use writer::{Writer, rest_after, write_once};

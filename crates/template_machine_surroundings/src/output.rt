@@ -5,7 +5,7 @@ ghost use Rattle.std.specs.Io.KnownBytes.{Appends};
 ghost use Rattle.template_machine_surroundings.specs.Writes.{AppendsBeginning};
 ghost use Rattle.template_machine_surroundings.specs.Failures.{failures_in};
 
-use crate::{rest_after, SinkFault};
+use crate::{SinkFault, rest_after};
 
 /// What takes rendered bytes. A sink names the bytes that it has taken, or tells none, and counts
 /// its failures.

@@ -6,4 +6,5 @@ pub mod GlobalCodes
 pub mod RecordCodes
 pub mod Places
 pub mod Calls
+
 -- what contracts above cite of a crate below

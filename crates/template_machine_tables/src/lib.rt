@@ -16,10 +16,10 @@ mod namespace;
 mod namespaces;
 mod stack;
 
-pub use given::Given;
-pub use macros::MacroRecord;
-pub use namespaces::Namespaces;
 pub use functions::{DICT, NAMESPACE, OWN_FUNCTIONS, RANGE};
+pub use given::Given;
 pub use globals::Globals;
 pub use home::{Home, Stream};
+pub use macros::MacroRecord;
+pub use namespaces::Namespaces;
 pub use stack::{Behind, BlockStack, Body};

@@ -4,11 +4,11 @@ ghost use Rattle.template_values_forms.specs.Views as views;
 ghost use Rattle.template_machine_meaning.specs.Records.{macro_seen};
 ghost use Rattle.template_machine_tables.specs.Streams.{stream_of};
 
-use std::marker::Model;
 use crate::Stream;
-use template_values_items::Items;
+use std::marker::Model;
 use template_values_core::Value;
 use template_values_forms::MacroView;
+use template_values_items::Items;
 
 /// A macro: its name, the texts of its arguments, and whether it takes a caller; where its body is: a stream, and its number among
 /// the macros there; and the number of its closure, if it has one.

@@ -9,6 +9,6 @@ mod needed;
 mod nodes;
 mod rounds;
 
-pub use nodes::blocks;
 pub use imported::imported_names;
 pub use needed::{add_needed, find_needed};
+pub use nodes::blocks;

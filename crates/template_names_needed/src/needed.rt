@@ -7,14 +7,14 @@ ghost use Rattle.template_names.specs.Among.{Adds};
 ghost use Rattle.template_names_statements.specs.Found.{AddsSome};
 ghost use Rattle.template_names_needed.specs.Needed.{is_used_by_one, needed_by};
 
+use crate::blocks;
 use crate::imported::imported_names;
 use crate::rounds::recursive_loops;
 use std::alloc::{AllocError, Global};
 use std::collections::BTreeSet;
-use crate::blocks;
 use template_names::{Names, add_each};
 use template_names_closures::use_loop_rounds;
-use template_names_statements::{use_region, add_names};
+use template_names_statements::{add_names, use_region};
 use template_tree_statements::Stmt;
 
 /// The names that a template needs: those that it uses, those that one of its blocks, or of its recursive loops, uses by

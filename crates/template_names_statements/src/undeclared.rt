@@ -5,10 +5,10 @@ ghost use Rattle.template_tree_statements.specs.View.{statement_of};
 ghost use Rattle.template_names.specs.Names.{along, is_used, uses_place};
 ghost use Rattle.template_names_statements.specs.Found.{HasJust};
 
+use crate::use_statement;
 use std::alloc::{AllocError, Global};
 use std::collections::BTreeSet;
 use template_names::Names;
-use crate::use_statement;
 use template_tree_statements::Stmt;
 
 /// The names that a template uses, each once, in order; where `track_nested`, each with the dotted names that

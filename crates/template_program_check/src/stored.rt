@@ -9,7 +9,7 @@ ghost use Rattle.template_program_check.specs.Names.{is_stored_at, is_stored_by,
 
 use std::alloc::{AllocError, Global};
 use std::collections::BTreeSet;
-use template_code::{Instruction, Instructions, CompiledBlock};
+use template_code::{CompiledBlock, Instruction, Instructions};
 use template_compiled::CompiledTemplate;
 use template_names::add_name;
 

@@ -12,7 +12,7 @@ use crate::named::{Named, naming};
 use crate::stored::stored_names;
 use std::alloc::{AllocError, Global};
 use std::collections::BTreeSet;
-use template_code::{Instructions, CompiledBlock};
+use template_code::{CompiledBlock, Instructions};
 use template_compiled::CompiledTemplate;
 use template_values_errors::Error;
 

@@ -12,9 +12,9 @@ ghost use Rattle.template_program_contexts.specs.Values.{fault_of_values, values
 use crate::documents::{Document, document_entries};
 use crate::values::value_of_text;
 use std::alloc::Global;
-use template_values_json::Floats;
 use template_values_core::{Entry, Value};
 use template_values_errors::Error;
+use template_values_json::Floats;
 
 /// The context of a render: a map of the members of the documents, in order, of which a later one's replace those of the same names
 /// whole; over them a text for each definition of a name and its text; and over these for each name and JSON text the value that the

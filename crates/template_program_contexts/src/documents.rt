@@ -10,9 +10,9 @@ ghost use Rattle.template_values_json.specs.Contexts.{fault_of};
 use crate::texts::spelled_entries;
 use crate::toml_tables::toml_entries;
 use std::alloc::Global;
-use template_values_json::{Floats, entries_from_json};
 use template_values_core::Entry;
 use template_values_errors::Error;
+use template_values_json::{Floats, entries_from_json};
 
 /// What the bytes of a document are.
 #[derive(Clone, Copy, Debug, Drop, PartialEq, Eq)]

@@ -9,9 +9,9 @@ ghost use Rattle.template_program_contexts.specs.Values.{fault_of_data, fault_of
 use crate::texts::spelled_value;
 use crate::whole::{read_json, value_from};
 use std::alloc::Global;
-use template_values_json::Floats;
 use template_values_core::Value;
 use template_values_errors::Error;
+use template_values_json::Floats;
 
 /// The value that a text is as JSON.
 pub(crate) fn value_of_text(alloc: Global, text: &str, floats: Floats) -> Result<Value, Error>

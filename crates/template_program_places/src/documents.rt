@@ -4,8 +4,8 @@ use crate::refusal_lines::{part_text, place_text};
 use crate::toml_places::toml_place;
 use std::alloc::Global;
 use template_program_contexts::{Document, Form};
-use template_values_json::{ContextError, Floats, context_from_json_with};
 use template_values_errors::ErrorKind;
+use template_values_json::{ContextError, Floats, context_from_json_with};
 
 /// Where a document is refused as a context, behind its name: `site.json:3:14`, the line and the column in bytes where the reader
 /// stood, or `site.json: rows[3].price`, the path of a number that is refused, or of a date or a time of TOML; else the name alone.

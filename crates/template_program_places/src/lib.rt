@@ -16,6 +16,6 @@ mod telling;
 mod toml_places;
 
 pub use documents::{document_place, value_place};
-pub use refusal_telling::write_refused;
 pub use places::places_text;
+pub use refusal_telling::write_refused;
 pub use telling::{write_placed, write_placed_word};

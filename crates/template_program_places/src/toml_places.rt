@@ -1,7 +1,7 @@
 //! The places where documents of TOML are refused.
 
-use crate::refusal_lines::{part_text, place_text};
 use crate::paths::fault_path;
+use crate::refusal_lines::{part_text, place_text};
 use std::alloc::Global;
 
 /// Where a document of TOML is refused. Reads it again.

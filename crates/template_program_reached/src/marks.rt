@@ -12,7 +12,7 @@ use crate::loaded::loaded_names;
 use crate::places::place_of;
 use std::alloc::Global;
 use std::collections::BTreeMap;
-use template_compiler_syntax::{one_list_of_tokens, SyntaxConfig};
+use template_compiler_syntax::{SyntaxConfig, one_list_of_tokens};
 use template_values_errors::Error;
 
 // What is reached so far: a mark for each place, and the places in the order in which they were reached.

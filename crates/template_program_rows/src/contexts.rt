@@ -5,9 +5,9 @@ use std::alloc::Global;
 use std::fmt::Display;
 use template_program_contexts::{Document, Form, context_with, is_json};
 use template_rows::pairs_of;
-use template_values_json::{Floats, context_from_json_with};
 use template_values_core::Value;
 use template_values_errors::ErrorKind;
+use template_values_json::{Floats, context_from_json_with};
 
 /// What comes of a document, where floats are refused, and where they are texts.
 pub(crate) fn about_document(

@@ -21,8 +21,8 @@ use template_program_parts::{
     FileFault, FileSystem, ReadWrapper, Reader, read_text, read_text_file,
 };
 use template_program_words::{Definition, NamesWords, RenderWords, Words};
-use template_values_json::Floats;
 use template_values_errors::UndefinedBehavior;
+use template_values_json::Floats;
 
 /// An input of so many bytes or more is refused.
 pub(crate) const INPUT_LIMIT: usize = 1 << 32;

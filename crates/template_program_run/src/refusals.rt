@@ -8,9 +8,9 @@ use crate::inputs::ReadContext;
 use crate::telling::tell_error;
 use std::alloc::Global;
 use template_program_output::Output;
-use template_program_places::{write_placed, document_place, value_place, write_refused};
-use template_values_json::Floats;
+use template_program_places::{document_place, value_place, write_placed, write_refused};
 use template_values_errors::{Error, ErrorKind};
+use template_values_json::Floats;
 
 /// Writes the fault line of a context that was refused, and the place behind it where that is asked for.
 pub(crate) fn tell_refusal<F: Output>(

@@ -26,7 +26,7 @@ use crate::telling::{refuse_file, tell_error, tell_memory, tell_text, tell_word}
 use crate::values::check_values;
 use std::io;
 use template_program_contexts::Document;
-use template_program_files::{Placing, Folders};
+use template_program_files::{Folders, Placing};
 use template_program_output::{Output, write_flushed};
 use template_program_parts::{DONE, FileFault, FileSystem, MEMORY, Reader, WORDS};
 use template_program_words::{Words, WordsFault, read_words};

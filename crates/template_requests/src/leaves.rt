@@ -8,8 +8,8 @@ use crate::faults::MessageFault;
 use crate::member::Member;
 use json::Value as Json;
 use template_machine_surroundings::EscapeRule;
-use template_values_json::Floats;
 use template_values_errors::{AutoEscape, UndefinedBehavior};
+use template_values_json::Floats;
 
 /// The member of the name, where it stands and is not null: of equal names the last one.
 pub(crate) fn given<'tree, 'text>(

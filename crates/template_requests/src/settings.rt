@@ -10,8 +10,8 @@ use crate::member::Member;
 use crate::syntax::{SyntaxParts, syntax_in};
 use json::Value as Json;
 use template_machine_surroundings::EscapeRule;
-use template_values_json::Floats;
 use template_values_errors::UndefinedBehavior;
+use template_values_json::Floats;
 
 // How deep a render may be where the request does not say it.
 const DEFAULT_LIMIT: u64 = 500;

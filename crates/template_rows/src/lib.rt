@@ -16,10 +16,10 @@ mod streams;
 mod what;
 
 pub use brought::Brought;
-pub use joined::{Joined, Means};
-pub use what::{First, Named, Seen, What};
 pub use entries::{
     behavior_of, bytes_of, count_of, expect_names, kind_of, number_of, pairs_of, quoted, text_of,
     texts_of, unreadable,
 };
+pub use joined::{Joined, Means};
 pub use streams::{Input, Output, READY};
+pub use what::{First, Named, Seen, What};

@@ -18,8 +18,8 @@ use template_program_parts::{Command, Outcome};
 use template_program_run::{ContextParts, Program, render};
 use template_replies::{options_of, request_of};
 use template_requests::Opening;
-use template_values_json::Floats;
 use template_values_errors::Error;
+use template_values_json::Floats;
 
 /// Templates that are compiled once, to be rendered often.
 pub struct Session {

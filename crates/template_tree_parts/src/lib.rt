@@ -9,7 +9,7 @@ mod picking;
 mod samples;
 mod spines;
 
+pub use nodes::left;
 pub use picking::{Picks, pick_among, pick_of};
 pub use samples::{difference, one_entry};
 pub use spines::spine;
-pub use nodes::left;

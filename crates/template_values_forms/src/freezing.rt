@@ -8,11 +8,11 @@ ghost use Rattle.template_values_forms.specs.Printed.{level_limit};
 ghost use Rattle.template_values_forms.specs.Frozen.{both, flat_frozen, frozen, frozen_map, frozen_namespace, frozen_pairs, frozen_vals, inner_frozen, nested_frozen};
 ghost use Rattle.template_values_forms.specs.Given.{pair_given, pairs_given, values_given};
 
+use crate::Records;
 use crate::namespaces::holds_namespace;
 use std::alloc::Global;
 use template_values_core::{Content, Entry, Value};
 use template_values_errors::{Error, ErrorKind};
-use crate::Records;
 use template_values_model::DEPTH_LIMIT;
 
 /// The value as it is once it has left the state of the records: each namespace in it is a map of what

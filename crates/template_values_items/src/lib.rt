@@ -7,7 +7,7 @@ mod ordered;
 mod records;
 mod slices;
 
-pub use ordered::Items;
 pub use items::{get_attr, get_item, items_of};
 pub use membership::contains;
+pub use ordered::Items;
 pub use slices::slice;

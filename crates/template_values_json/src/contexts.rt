@@ -8,6 +8,7 @@ ghost use Rattle.template_values_json.specs.Spelled.{spelled_value};
 ghost use Rattle.template_values_errors.specs.Memory.{NoMemory};
 ghost use Rattle.template_values_json.specs.Json.{IsRefusal};
 
+use crate::context_from_json;
 use crate::error::ContextError;
 use crate::paths::float_path;
 use crate::places::{Place, fault_place};
@@ -16,7 +17,6 @@ use json::{Reader, Scratch, Value as Json};
 use std::alloc::Global;
 use template_values_core::Value;
 use template_values_errors::{Error, ErrorKind};
-use crate::context_from_json;
 
 /// What becomes of a number in JSON that is no whole number of 64 bits, with or without a sign.
 #[derive(Clone, Copy, Debug, Drop, PartialEq, Eq)]

@@ -3,10 +3,10 @@ ghost use Rattle.std.specs.Prelude.{◌≡◌, IfErr, IfOk};
 ghost use Rattle.template_values_json.specs.Spelled.{number_value};
 ghost use Rattle.template_values_errors.specs.Memory.{NoMemory};
 
+use crate::whole_in;
 use std::alloc::Global;
 use template_values_core::Value;
 use template_values_errors::Error;
-use crate::whole_in;
 
 /// A number of JSON: a whole number of 64 bits, or the text that spells another one.
 #[tactic(auto, unfolding(crate::specs::Spelled::number_value))]

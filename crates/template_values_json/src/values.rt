@@ -11,11 +11,11 @@ ghost use Rattle.template_values_json.specs.Leaves.{IsFloatRefusal};
 ghost use Rattle.template_values_json.specs.Json.{value_of, values_of, named_values};
 ghost use Rattle.template_values_json.specs.Entries.{SayData};
 
+use crate::value_of_leaf;
 use serde_json::{Map, Value as Json};
 use std::alloc::Global;
 use template_values_core::{Entry, Value};
 use template_values_errors::Error;
-use crate::value_of_leaf;
 
 /// The value that the JSON stands for, moving its texts, where no float stands in it.
 #[cycle(values)]

@@ -4,9 +4,9 @@ ghost use Rattle.std.specs.Prelude.{◌≡◌, [], ◌∷◌, Err};
 ghost use Rattle.template_values_model.specs.Gives.{alone};
 ghost use Rattle.template_values_operators.specs.Arithmetic.{difference_of, quotient_of, remainder_of, power_of, negation_of, number_or_refusal};
 
+use crate::{difference, negation, power, quotient, remainder};
 use template_values_core::Value;
 use template_values_errors::{Error, ErrorKind};
-use crate::{difference, negation, power, quotient, remainder};
 
 /// `left - right`.
 ///

@@ -4,14 +4,14 @@
 //! The arithmetic of the template language's whole numbers.
 #![tactic(auto)]
 
+mod arithmetic;
 pub mod growth;
 pub mod kinds;
-mod arithmetic;
 mod numbers;
 mod products;
 mod sums;
 
-pub use numbers::{difference, negation, power, product, quotient, remainder, sum};
 pub use arithmetic::{div, int_div, neg, pow, refusal, rem, sub};
+pub use numbers::{difference, negation, power, product, quotient, remainder, sum};
 pub use products::mul;
 pub use sums::add;

@@ -9,11 +9,11 @@ ghost use Rattle.template_values_operators.specs.Products.{product_of, repetitio
 use crate::arithmetic::{number_or_refusal, refusal};
 use crate::growth::push_copies;
 use crate::kinds::{list_made, list_of};
+use crate::product;
 use std::alloc::Global;
 use template_values_core::Value;
 use template_values_errors::Error;
 use template_values_model::{DEPTH_LIMIT, REPEATED_LIST_LIMIT, REPEATED_TEXT_LIMIT};
-use crate::product;
 
 /// `left * right`: the product of two numbers, or, with a number from 0 on at either side, a text
 /// or a list repeated. A repeated text is plain. Linear in the size of the result.

@@ -9,11 +9,11 @@ ghost use Rattle.template_values_operators.specs.Sums.{sum_of};
 use crate::arithmetic::{number_or_refusal, refusal};
 use crate::growth::push_copies;
 use crate::kinds::list_made;
+use crate::sum;
 use std::alloc::Global;
 use template_values_core::Value;
 use template_values_errors::Error;
 use template_values_model::DEPTH_LIMIT;
-use crate::sum;
 
 /// `left + right`: the sum of two numbers, the plain text of two texts, the list of the items of
 /// two lists or tuples. Linear in the size of the result. What is refused is told by its kind alone,

@@ -6,10 +6,10 @@ ghost use Rattle.template_values_forms.specs.Escapes.{html};
 ghost use Rattle.template_values_print.specs.Pieces.{Writes};
 ghost use Rattle.template_values_forms.specs.Printed.{printed};
 
+use crate::{Markup, json_outer, print_outer, push};
 use template_values_core::{Content, Value};
 use template_values_errors::{AutoEscape, Error, ErrorKind};
 use template_values_forms::Records;
-use crate::{Markup, json_outer, print_outer, push};
 
 /// Appends the text of the value under the escape `rule` to `out`, which a refusal leaves as it was:
 /// as it prints, with references for HTML's markup, or as the compact JSON of `serde_json`. Under the

@@ -17,11 +17,11 @@ mod truth;
 
 pub use concat::{string_append, string_concat};
 pub use escape::escape_to;
-pub use printing::print_to;
-pub use template_values_forms::NoRecords;
-pub use truth::is_true;
 pub use html::{HTML_BLOCK, SHORT_TEXT, is_unmarked, put_html};
 pub use numbers::format_number;
 pub use pieces::{Markup, Quoting, push, push_bytes, push_quoted};
 pub use print::print_outer;
+pub use printing::print_to;
 pub use serial::json_outer;
+pub use template_values_forms::NoRecords;
+pub use truth::is_true;

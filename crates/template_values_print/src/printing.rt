@@ -3,10 +3,10 @@ ghost use Rattle.std.specs.Prelude.{string_bytes};
 ghost use Rattle.template_values_forms.specs.Answers.{AppendsOrRefuses};
 ghost use Rattle.template_values_forms.specs.Printed.{printed};
 
+use crate::{Markup, print_outer};
 use template_values_core::Value;
 use template_values_errors::Error;
 use template_values_forms::Records;
-use crate::{Markup, print_outer};
 
 /// Appends the text that the value prints to `out`, which a refusal leaves as it was. Namespaces are
 /// followed. Inside of containers texts stand between quotes, with `\n`, `\r`, `\t`, and `\u{..}` for the

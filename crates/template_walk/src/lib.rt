@@ -5,9 +5,7 @@ ghost use Rattle.template_walk.specs.Laws.{MacrosRise, RoundsRise, WalksRise};
 
 mod numbers;
 
-pub use numbers::{macros_find_their_bodies, loops_find_their_rounds};
-
-
+pub use numbers::{loops_find_their_rounds, macros_find_their_bodies};
 
 /// Under a greater bound on rounds a template does what it does under a smaller one, as far as that
 /// goes.

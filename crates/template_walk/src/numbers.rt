@@ -3,7 +3,6 @@
 
 ghost use Rattle.template_walk.specs.NumberLaws.{CallersFindTheirBodies, LoopsFindTheirRounds, MacrosFindTheirBodies};
 
-
 /// The number that a walk gives to a macro that it makes is that of its own body, arguments and defaults, wherever in a tree it is
 /// declared; so it is of the body of a call block.
 pub fn macros_find_their_bodies()
