@@ -42,7 +42,8 @@ fn decimal_in<'a>(
     fraction: Option<&'a [u8]>,
     exponent: Option<&'a [u8]>,
 ) -> Option<Decimal<'a>>
-    ensures decimal { option_map seen result ≡ decimals.decimal_in negative whole.entry.now (option_copied fraction.entry) (option_copied exponent.entry) }
+    ensures decimal { option_map seen result
+        ≡ decimals.decimal_in negative whole.entry.now (option_copied fraction.entry) (option_copied exponent.entry) }
     ensures digits { IfSome result HasDigits }
 {
     if !are_plain_digits(whole) {

@@ -107,7 +107,8 @@ pub(crate) fn padded_front(
     directive: Directive,
     text: &str,
 ) -> Result<String, AllocError>
-    ensures { IfOk result (λ s. string_bytes s ≡ filling.padded directive.flags.left directive.width (filling.at_most directive.precision text.now)) }
+    ensures { IfOk result (λ s. string_bytes s
+        ≡ filling.padded directive.flags.left directive.width (filling.at_most directive.precision text.now)) }
 {
     let left = directive.flags.left;
     match directive.precision {

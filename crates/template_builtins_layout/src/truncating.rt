@@ -157,7 +157,8 @@ fn truncated(
     end: &str,
     leeway: u128,
 ) -> Result<Value, Error>
-    ensures made { IfOk result (λ v. v ≡ truncating.truncated (seen_in view.now) value.now (option_copied by.entry) text.now length killwords end.now leeway) }
+    ensures made { IfOk result (λ v. v
+        ≡ truncating.truncated (seen_in view.now) value.now (option_copied by.entry) text.now length killwords end.now leeway) }
     ensures refused { IfErr result NoMemory }
 {
     let count = character_count(text) as u128;

@@ -78,7 +78,8 @@ fn push_lead(
     gap: &str,
     word: &str,
 ) -> Result<usize, Error>
-    ensures made { OnOk result (string_bytes out.new ≡ string_bytes out.old ++ layouts.lead layout.entry room (chars gap.now, chars word.now)) }
+    ensures made { OnOk result (string_bytes out.new ≡ string_bytes out.old
+        ++ layouts.lead layout.entry room (chars gap.now, chars word.now)) }
     ensures left { IfOk result (λ n. n ≡ layouts.room_before layout.entry room (chars gap.now, chars word.now)) }
     ensures refused { IfErr result NoMemory }
 {

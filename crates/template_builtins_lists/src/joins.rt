@@ -136,7 +136,8 @@ fn with_each(
     values: &[Value],
     text: String,
 ) -> Result<String, Error>
-    ensures { TellsAs (λ s. string_bytes s) result (joins.put_behind (string_bytes text) (joins.joined_behind (seen_in view.now) safe separator.now values.now)) }
+    ensures { TellsAs (λ s. string_bytes s) result
+        (joins.put_behind (string_bytes text) (joins.joined_behind (seen_in view.now) safe separator.now values.now)) }
 {
     let mut whole = text;
     for value in values {

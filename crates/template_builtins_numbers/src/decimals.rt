@@ -41,7 +41,8 @@ fn decimal_in<'a>(
     fraction: Option<&'a [u8]>,
     exponent: Option<&'a [u8]>,
 ) -> Option<Decimal<'a>>
-    ensures { option_map seen result ≡ decimals.decimal_in negative whole.entry.now (option_copied fraction.entry) (option_copied exponent.entry) }
+    ensures { option_map seen result
+        ≡ decimals.decimal_in negative whole.entry.now (option_copied fraction.entry) (option_copied exponent.entry) }
 {
     if !are_plain_digits(whole) {
         return None;

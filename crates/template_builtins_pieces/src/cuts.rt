@@ -15,7 +15,8 @@ pub(crate) fn parts_between<'a>(
     count: i128,
 ) -> Result<Vec<&'a str>, AllocError>
     requires { 0 < length separator.now }
-    ensures { IfOk result (λ parts. all_shown parts.items ≡ parts_between separator.now (places_up_to (Some count) text.entry.now) text.entry.now) }
+    ensures { IfOk result (λ parts. all_shown parts.items
+        ≡ parts_between separator.now (places_up_to (Some count) text.entry.now) text.entry.now) }
 {
     text.splitn(cuts_up_to(count, text) + 1, separator)
         .collect(alloc)
@@ -29,7 +30,8 @@ pub(crate) fn last_parts<'a>(
     count: i128,
 ) -> Result<Vec<&'a str>, AllocError>
     requires { 0 < length separator.now }
-    ensures { IfOk result (λ parts. all_shown parts.items ≡ cuts.last_parts separator.now (places_up_to (Some count) text.entry.now) text.entry.now) }
+    ensures { IfOk result (λ parts. all_shown parts.items
+        ≡ cuts.last_parts separator.now (places_up_to (Some count) text.entry.now) text.entry.now) }
 {
     let mut parts = parts_back(alloc, text, separator, count)?;
     parts.reverse();
@@ -44,7 +46,8 @@ fn parts_back<'a>(
     count: i128,
 ) -> Result<Vec<&'a str>, AllocError>
     requires { 0 < length separator.now }
-    ensures { IfOk result (λ parts. all_shown parts.items ≡ cuts.parts_back separator.now (places_up_to (Some count) text.entry.now) text.entry.now) }
+    ensures { IfOk result (λ parts. all_shown parts.items
+        ≡ cuts.parts_back separator.now (places_up_to (Some count) text.entry.now) text.entry.now) }
 {
     text.rsplitn(cuts_up_to(count, text) + 1, separator)
         .collect(alloc)

@@ -142,7 +142,8 @@ fn parts_cut<'a>(
     count: i128,
 ) -> Result<Vec<&'a str>, AllocError>
     requires { 0 < length separator.now }
-    ensures { IfOk result (λ parts. all_shown parts.items ≡ splitting.parts_cut side separator.now (places_up_to (Some count) text.entry.now) text.entry.now) }
+    ensures { IfOk result (λ parts. all_shown parts.items
+        ≡ splitting.parts_cut side separator.now (places_up_to (Some count) text.entry.now) text.entry.now) }
 {
     match side {
         Side::Left => parts_between(alloc, text, separator, count),
@@ -156,7 +157,8 @@ fn words_cut<'a>(
     text: &'a str,
     count: i128,
 ) -> Result<Vec<&'a str>, AllocError>
-    ensures { IfOk result (λ parts. all_shown parts.items ≡ splitting.words_cut side (places_up_to (Some count) text.entry.now) text.entry.now) }
+    ensures { IfOk result (λ parts. all_shown parts.items
+        ≡ splitting.words_cut side (places_up_to (Some count) text.entry.now) text.entry.now) }
 {
     match side {
         Side::Left => words(alloc, text, cuts_up_to(count, text)),

@@ -62,7 +62,8 @@ pub(crate) fn last_words<'a>(
 
 // The same, the last one first.
 fn words_back<'a>(alloc: Global, text: &'a str, limit: usize) -> Result<Vec<&'a str>, AllocError>
-    ensures { IfOk result (λ parts. all_shown parts.items ≡ map encode_utf8_all (words_back limit (drop_trailing_whitespace (chars text.entry.now)))) }
+    ensures { IfOk result (λ parts. all_shown parts.items
+        ≡ map encode_utf8_all (words_back limit (drop_trailing_whitespace (chars text.entry.now)))) }
 {
     let mut parts = Vec::new(alloc);
     let mut rest = text.trim_end();

@@ -154,7 +154,8 @@ fn push_replaced(
     limit: u128,
 ) -> Result<(), Error>
     requires { 0 < length old.now }
-    ensures made { OnOk result (string_bytes out.new ≡ string_bytes out.old ++ join_by (encoded markup) new.now (parts_between old.now limit text.now)) }
+    ensures made { OnOk result (string_bytes out.new ≡ string_bytes out.old
+        ++ join_by (encoded markup) new.now (parts_between old.now limit text.now)) }
     ensures refused { IfErr result NoMemory }
 {
     let mut rest = text;

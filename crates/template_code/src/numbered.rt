@@ -59,7 +59,8 @@ fn may_be_called(flags: u8) -> bool
 // How many of the places are before one.
 pub(crate) fn count_before(places: &[u32], place: u32) -> usize
     ensures bound { result ≤ length places.now }
-    ensures count { IsPartitionedBy (λ p. ltb p place) places.now → IsPartitionPoint (λ p. ltb p place ≡ true) (λ p. ltb p place ≡ false) places.now result }
+    ensures count { IsPartitionedBy (λ p. ltb p place) places.now
+        → IsPartitionPoint (λ p. ltb p place ≡ true) (λ p. ltb p place ≡ false) places.now result }
 {
     places.partition_point(|p| *p < place)
 }

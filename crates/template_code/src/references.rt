@@ -98,7 +98,8 @@ fn add_name_at<'a>(
     code: &'a Instructions<'_>,
     place: u32,
 ) -> Result<(), Error>
-    ensures added { OnOk result (map (λ n. n.now) names.new.items ≡ names_with (map (λ n. n.now) names.old.items) (name_at (code_in code.now) place)) }
+    ensures added { OnOk result (map (λ n. n.now) names.new.items
+        ≡ names_with (map (λ n. n.now) names.old.items) (name_at (code_in code.now) place)) }
     ensures refused { IfErr result NoMemory }
 {
     let Some(instruction) = code.get(place) else {

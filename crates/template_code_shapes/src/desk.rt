@@ -72,7 +72,8 @@ impl Desk {
         requires { IfSome jump (λ j. j.to < room_in self.old) }
         ensures none { IfOk result (λ _. option_map jump_of jump ≡ None → self.new ≡ self.old) }
         ensures stands { IfOk result
-            (λ _. (to : ℕ) (t : Shape) → ◌≡◌ {A = Option (ℕ × Shape)} (option_map jump_of jump) (Some (to, t)) → Stands self.old self.new to t) }
+            (λ _. (to : ℕ) (t : Shape) → ◌≡◌ {A = Option (ℕ × Shape)} (option_map jump_of jump) (Some (to, t))
+            → Stands self.old self.new to t) }
         ensures clash { IsErrOf result Stop.Bad → ClashesAt self.old (option_map jump_of jump) }
         ensures room { room_in self.new ≡ room_in self.old }
         ensures lighter { weight_of self.new ≤ weight_of self.old }

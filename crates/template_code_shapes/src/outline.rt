@@ -262,7 +262,8 @@ impl Outline {
     /// Takes a counted run, where one lies on top above the floor.
     pub fn take_run(&mut self) -> Result<bool, Error>
         ensures taken { IfOk result
-            (λ taken_now. run_taken (shape_of self.old) (shape_of self.old).operands ≡ (if taken_now then Some (shape_of self.new) else None)) }
+            (λ taken_now. run_taken (shape_of self.old) (shape_of self.old).operands
+            ≡ (if taken_now then Some (shape_of self.new) else None)) }
         ensures refused { IfErr result NoMemory }
     {
         if self.values != 0 {

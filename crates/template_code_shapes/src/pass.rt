@@ -180,7 +180,8 @@ fn run_from(
     requires marked { length marks.now ≡ suc (length (code_in code.now)) }
     requires room { room_in desk.old ≡ suc (length (code_in code.now)) }
     requires seen { length seen.old.items ≡ length (code_in code.now) }
-    requires works { Works (code_in code.now) (flag_in marks.now) (noted_in desk.old) (flag_in seen.old.items) (at ∷ waiting_in desk.old) 0 None }
+    requires works { Works (code_in code.now) (flag_in marks.now) (noted_in desk.old) (flag_in seen.old.items)
+        (at ∷ waiting_in desk.old) 0 None }
     ensures works { IfOk result (λ _.
         Works (code_in code.now) (flag_in marks.now) (noted_in desk.new) (flag_in seen.new.items) (waiting_in desk.new) 0 None) }
     ensures bad { IsErrOf result Stop.Bad → IsBad (code_in code.now) }

@@ -71,7 +71,8 @@ pub fn verified_template<'source>(
     tree: &Stmt<'source>,
 ) -> Result<Checked<'source>, Error>
     requires { CanStand (statement_of tree.now) }
-    ensures code { IfOk result (λ checked. code_in (stream_in checked) ≡ numbered_in (template_code (statements_of (statement_of tree.now)))) }
+    ensures code { IfOk result (λ checked. code_in (stream_in checked)
+        ≡ numbered_in (template_code (statements_of (statement_of tree.now)))) }
     ensures kind { IfOk result (λ checked. kind_in checked ≡ StreamKind.Template) }
     ensures file { IfOk result (λ checked. name_in (stream_in checked) ≡ file.now) }
     ensures source { IfOk result (λ checked. source_in (stream_in checked) ≡ source.now) }

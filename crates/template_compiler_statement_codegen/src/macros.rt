@@ -116,9 +116,11 @@ pub(crate) fn make_macro<'source>(
 // What a macro uses of what surrounds it.
 fn uses_of(alloc: Global, declared: &Macro<'_>) -> Result<MacroUses, ErrorKind>
     ensures listed { IfOk result (λ uses. map string_bytes (keys uses.enclosed)
-        ≡ enclosed_names (expressions_in declared.now.args.items) (expressions_in declared.now.defaults.items) (statements_in declared.now.body.items)) }
+        ≡ enclosed_names (expressions_in declared.now.args.items) (expressions_in declared.now.defaults.items)
+        (statements_in declared.now.body.items)) }
     ensures caller { IfOk result (λ uses. uses.caller
-        ≡ uses_caller (expressions_in declared.now.args.items) (expressions_in declared.now.defaults.items) (statements_in declared.now.body.items)) }
+        ≡ uses_caller (expressions_in declared.now.args.items) (expressions_in declared.now.defaults.items)
+        (statements_in declared.now.body.items)) }
     ensures refused { IfErr result (λ kind. kind ≡ ErrorKind.OutOfMemory) }
 {
     match find_macro_uses(alloc, declared) {

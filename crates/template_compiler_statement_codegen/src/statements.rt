@@ -614,7 +614,8 @@ fn compile_loop<'source>(
     requires body { AreRunnableStatements true (statements_in node.now.body.items) }
     requires otherwise { AreRunnableStatements true (statements_in node.now.else_body.items) }
     ensures lowered { OnOk result
-        (LowersStatement (for_loop (expression_of node.now.target) (expression_of node.now.iter) (optional_in node.now.filter_expr) node.now.recursive
+        (LowersStatement (for_loop (expression_of node.now.target) (expression_of node.now.iter) (optional_in node.now.filter_expr)
+        node.now.recursive
         (statements_in node.now.body.items) (statements_in node.now.else_body.items))
         code.old code.new round.old round.new) }
     ensures refused { IfErr result (Refuses (code_in code.new)) }

@@ -84,7 +84,8 @@ fn find_arguments(
     requires within { length places.now ≤ length names.now }
     requires keywords { AreKeywords keywords.now }
     ensures given { IfOk result (λ found. arguments_given names.now places.now (keywords_in keywords.now) [] ≡ Some (reverse found.items)) }
-    ensures refused { IfErr result (λ kinds. NoMemory kinds ⊎ ((arguments_given names.now places.now (keywords_in keywords.now) [] ≡ None) × (kinds ≡ TooManyArguments ∷ []))) }
+    ensures refused { IfErr result (λ kinds. NoMemory kinds
+        ⊎ ((arguments_given names.now places.now (keywords_in keywords.now) [] ≡ None) × (kinds ≡ TooManyArguments ∷ []))) }
 {
     let mut found = Vec::new(alloc);
     for i in 0..names.len() {

@@ -34,7 +34,8 @@ pub(crate) fn conclude<H: Callbacks>(
     state: &mut State<'_>,
 ) -> Result<Reached, Stop>
     ensures comes { (a : Around) → let around = around_under rules.entry (H.callables host.now) a in
-        Planned (reached_by around) (with_turnings (turnings_in turnings.items) (left_by around 0 (beyond around 0 levels) outcome state.old)) result state.new }
+        Planned (reached_by around) (with_turnings (turnings_in turnings.items)
+        (left_by around 0 (beyond around 0 levels) outcome state.old)) result state.new }
     ensures kept { (w : World) → KeepsWorld (Ok outcome) w state.old → KeptUnlessValue result w state.new }
 {
     match outcome {
@@ -63,7 +64,8 @@ fn go_on<H: Callbacks>(
     state: &mut State<'_>,
 ) -> Result<Reached, Stop>
     ensures comes { (a : Around) → let around = around_under rules.entry (H.callables host.now) a in
-        Planned (reached_by around) (with_turnings (turnings_in turnings.items) (beyond around 0 levels state.old (asked_by further))) result state.new }
+        Planned (reached_by around) (with_turnings (turnings_in turnings.items) (beyond around 0 levels state.old (asked_by further)))
+        result state.new }
     ensures kept { KeptUnlessValue result state.old state.new }
 {
     let mut next = further;

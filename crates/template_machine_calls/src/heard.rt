@@ -27,7 +27,8 @@ pub(crate) fn heard(
     kind: ErrorKind,
     state: &mut State<'_>,
 ) -> Result<Outcome, Stop>
-    ensures comes { (a : Around) (pending : ℕ) (go : Going) (says : Option Says) (view : View) (args : List Val) → AnswersUnder says view args answer →
+    ensures comes { (a : Around) (pending : ℕ) (go : Going) (says : Option Says) (view : View) (args : List Val)
+        → AnswersUnder says view args answer →
         Planned (left_by a pending go) (said_plan go state.old kind view args says) result state.new }
     ensures kept { OnlyTemps state.old state.new }
 {

@@ -37,9 +37,11 @@ pub fn find_macro_closure(
     declared: &Macro<'_>,
 ) -> Result<BTreeSet<String>, AllocError>
     ensures names { IfOk result (λ names. (name : List ℕ) → contains_text names name
-        ≡ encloses (expressions_in declared.now.args.items) (expressions_in declared.now.defaults.items) (statements_in declared.now.body.items) name) }
+        ≡ encloses (expressions_in declared.now.args.items) (expressions_in declared.now.defaults.items)
+        (statements_in declared.now.body.items) name) }
     ensures listed { IfOk result (λ names. map string_bytes (keys names)
-        ≡ enclosed_names (expressions_in declared.now.args.items) (expressions_in declared.now.defaults.items) (statements_in declared.now.body.items)) }
+        ≡ enclosed_names (expressions_in declared.now.args.items) (expressions_in declared.now.defaults.items)
+        (statements_in declared.now.body.items)) }
 {
     let MacroUses { enclosed, .. } = find_macro_uses(alloc, declared)?;
     Ok(enclosed)
@@ -52,11 +54,14 @@ pub fn find_macro_closure(
 /// Want of memory.
 pub fn find_macro_uses(alloc: Global, declared: &Macro<'_>) -> Result<MacroUses, AllocError>
     ensures names { IfOk result (λ uses. (name : List ℕ) → contains_text uses.enclosed name
-        ≡ encloses (expressions_in declared.now.args.items) (expressions_in declared.now.defaults.items) (statements_in declared.now.body.items) name) }
+        ≡ encloses (expressions_in declared.now.args.items) (expressions_in declared.now.defaults.items)
+        (statements_in declared.now.body.items) name) }
     ensures listed { IfOk result (λ uses. map string_bytes (keys uses.enclosed)
-        ≡ enclosed_names (expressions_in declared.now.args.items) (expressions_in declared.now.defaults.items) (statements_in declared.now.body.items)) }
+        ≡ enclosed_names (expressions_in declared.now.args.items) (expressions_in declared.now.defaults.items)
+        (statements_in declared.now.body.items)) }
     ensures caller { IfOk result (λ uses. uses.caller
-        ≡ uses_caller (expressions_in declared.now.args.items) (expressions_in declared.now.defaults.items) (statements_in declared.now.body.items)) }
+        ≡ uses_caller (expressions_in declared.now.args.items) (expressions_in declared.now.defaults.items)
+        (statements_in declared.now.body.items)) }
 {
     let mut names = begin(alloc)?;
     use_declared(&mut names, declared)?;
@@ -71,7 +76,8 @@ fn use_declared<'source>(
     declared: &Macro<'source>,
 ) -> Result<(), AllocError>
     ensures { OnOk result (Goes (λ places. place_of_arguments places (reversed (expressions_in declared.now.args.items) no_expressions)
-        (reversed (expressions_in declared.now.defaults.items) no_expressions) (place_within places (statements_in declared.now.body.items))) nothing names.old names.new) }
+        (reversed (expressions_in declared.now.defaults.items) no_expressions)
+        (place_within places (statements_in declared.now.body.items))) nothing names.old names.new) }
 {
     let around = names.open()?;
     bind_arguments(names, &declared.args, &declared.defaults)?;

@@ -72,7 +72,8 @@ fn use_rounds<'source>(
     names: &mut Names<'source>,
     node: &ForLoop<'source>,
 ) -> Result<(), AllocError>
-    ensures { OnOk result (Goes (λ places. place_in_part places (rounds (expression_of node.now.target) (statements_in node.now.body.items))) nothing
+    ensures { OnOk result (Goes (λ places.
+        place_in_part places (rounds (expression_of node.now.target) (statements_in node.now.body.items))) nothing
         names.old names.new) }
 {
     let around = names.open()?;

@@ -40,7 +40,8 @@ pub fn evaluate<'source, E: Extension, S: Sink>(
     ids: &mut StateIds,
     sink: &mut S,
 ) -> Outcome
-    ensures evaluates { Evaluates (brought_of (user_answers E.Callable.answer E.Method.answer E.Formatter.answer E.Join.answer) environment.now)
+    ensures evaluates { Evaluates (brought_of (user_answers E.Callable.answer E.Method.answer E.Formatter.answer E.Join.answer)
+        environment.now)
         (registry_of environment.now) as_json text.now context ids.old result
         (S.taken sink.old) (S.taken sink.new) (S.failures sink.old) (S.failures sink.new) }
     ensures counted { ids.new ≡ behind_evaluation result ids.old }
@@ -69,10 +70,12 @@ fn told<E: Extension>(
     as_json: bool,
     ids: &mut StateIds,
 ) -> Result<String, Error>
-    ensures finished { GivesOne (meaning_of (brought_of (user_answers E.Callable.answer E.Method.answer E.Formatter.answer E.Join.answer) (environment_under expression.now))
+    ensures finished { GivesOne (meaning_of
+        (brought_of (user_answers E.Callable.answer E.Method.answer E.Formatter.answer E.Join.answer) (environment_under expression.now))
         (registry_of (environment_under expression.now)) (text_of expression.now) ids.old context).end }
     ensures told { ids.old ≢ last_id → MakesTold as_json mode (under (registry_of (environment_under expression.now)).fuel
-        (meaning_of (brought_of (user_answers E.Callable.answer E.Method.answer E.Formatter.answer E.Join.answer) (environment_under expression.now))
+        (meaning_of (brought_of (user_answers E.Callable.answer E.Method.answer E.Formatter.answer E.Join.answer)
+        (environment_under expression.now))
         (registry_of (environment_under expression.now)) (text_of expression.now) ids.old context)) result }
     ensures exhausted { ids.old ≡ last_id → result ≡ Err (ErrorKind.InvalidOperation ∷ []) }
     ensures counted { ids.new ≡ behind_one ids.old }

@@ -56,9 +56,11 @@ fn read_checked<R: FileSystem + Folders + AllocGlobal, I: Reader>(
     words: &CheckWords<'_>,
     input: &mut I,
 ) -> Result<Vec<(String, String)>, FileFault>
-    ensures read { IfOk result (λ templates. AreCheckedOf (told_by (R.entries rt.now) (R.content rt.now) (I.may_fail input.old) (I.remaining input.old))
+    ensures read { IfOk result (λ templates.
+        AreCheckedOf (told_by (R.entries rt.now) (R.content rt.now) (I.may_fail input.old) (I.remaining input.old))
         (naming_of (Words.Check words.now)).folder (naming_of (Words.Check words.now)) (text_pairs templates.items)) }
-    ensures refused { IsErrOf result FileFault.File → LacksOne (told_by (R.entries rt.now) (R.content rt.now) (I.may_fail input.old) (I.remaining input.old)) (Words.Check words.now) }
+    ensures refused { IsErrOf result FileFault.File
+        → LacksOne (told_by (R.entries rt.now) (R.content rt.now) (I.may_fail input.old) (I.remaining input.old)) (Words.Check words.now) }
 {
     read_all(rt, check_naming(words), input)
 }
@@ -69,9 +71,11 @@ fn read_all<R: FileSystem + Folders + AllocGlobal, I: Reader>(
     naming: Naming<'_>,
     input: &mut I,
 ) -> Result<Vec<(String, String)>, FileFault>
-    ensures read { IfOk result (λ templates. AreCheckedOf (told_by (R.entries rt.now) (R.content rt.now) (I.may_fail input.old) (I.remaining input.old))
+    ensures read { IfOk result (λ templates.
+        AreCheckedOf (told_by (R.entries rt.now) (R.content rt.now) (I.may_fail input.old) (I.remaining input.old))
         (naming_in naming.entry).folder (naming_in naming.entry) (text_pairs templates.items)) }
-    ensures refused { IsErrOf result FileFault.File → LacksTemplateOf (told_by (R.entries rt.now) (R.content rt.now) (I.may_fail input.old) (I.remaining input.old))
+    ensures refused { IsErrOf result FileFault.File
+        → LacksTemplateOf (told_by (R.entries rt.now) (R.content rt.now) (I.may_fail input.old) (I.remaining input.old))
         (naming_in naming.entry).folder (naming_in naming.entry) }
 {
     match naming.folder {

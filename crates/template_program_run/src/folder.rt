@@ -28,11 +28,14 @@ pub(crate) fn read_sifted<R: FileSystem + Folders + AllocGlobal, I: Reader>(
     options: Options<'_>,
     input: &mut I,
 ) -> Result<Vec<(String, String)>, FileFault>
-    ensures read { IfOk result (λ templates. AreSifted (told_by (R.entries rt.now) (R.content rt.now) (I.may_fail input.old) (I.remaining input.old))
+    ensures read { IfOk result (λ templates.
+        AreSifted (told_by (R.entries rt.now) (R.content rt.now) (I.may_fail input.old) (I.remaining input.old))
         folder.now (naming_in naming.entry) (syntax_under options.entry) (text_pairs templates.items)) }
-    ensures refused { IsErrOf result FileFault.File → LacksSifted (told_by (R.entries rt.now) (R.content rt.now) (I.may_fail input.old) (I.remaining input.old))
+    ensures refused { IsErrOf result FileFault.File
+        → LacksSifted (told_by (R.entries rt.now) (R.content rt.now) (I.may_fail input.old) (I.remaining input.old))
         folder.now (naming_in naming.entry) }
-    ensures kept { naming.entry.input_is_taken ≡ true → IsSameInput (I.may_fail input.old) (I.remaining input.old) (I.may_fail input.new) (I.remaining input.new) }
+    ensures kept { naming.entry.input_is_taken ≡ true
+        → IsSameInput (I.may_fail input.old) (I.remaining input.old) (I.may_fail input.new) (I.remaining input.new) }
 {
     let templates = read_below(rt, folder, naming, input)?;
     sifted(rt.alloc(), templates, named_main(naming), options)
@@ -46,11 +49,14 @@ pub(crate) fn read_below<R: FileSystem + Folders + AllocGlobal, I: Reader>(
     naming: Naming<'_>,
     input: &mut I,
 ) -> Result<Vec<(String, String)>, FileFault>
-    ensures read { IfOk result (λ templates. AreBelow (told_by (R.entries rt.now) (R.content rt.now) (I.may_fail input.old) (I.remaining input.old))
+    ensures read { IfOk result (λ templates.
+        AreBelow (told_by (R.entries rt.now) (R.content rt.now) (I.may_fail input.old) (I.remaining input.old))
         folder.now (naming_in naming.entry) (text_pairs templates.items)) }
-    ensures refused { IsErrOf result FileFault.File → LacksSifted (told_by (R.entries rt.now) (R.content rt.now) (I.may_fail input.old) (I.remaining input.old))
+    ensures refused { IsErrOf result FileFault.File
+        → LacksSifted (told_by (R.entries rt.now) (R.content rt.now) (I.may_fail input.old) (I.remaining input.old))
         folder.now (naming_in naming.entry) }
-    ensures kept { naming.entry.input_is_taken ≡ true → IsSameInput (I.may_fail input.old) (I.remaining input.old) (I.may_fail input.new) (I.remaining input.new) }
+    ensures kept { naming.entry.input_is_taken ≡ true
+        → IsSameInput (I.may_fail input.old) (I.remaining input.old) (I.may_fail input.new) (I.remaining input.new) }
 {
     let files = read_folder(rt, folder, INPUT_LIMIT)?;
     check_paths(files.as_slice(), naming.paths)?;
@@ -69,7 +75,8 @@ fn read_behind<R: FileSystem + AllocGlobal, I: Reader>(
         (filter begins_absolute (naming_in naming.entry).paths) (text_pairs templates.items) (is_read_beside (naming_in naming.entry))) }
     ensures refused { IsErrOf result FileFault.File → LacksTemplate (R.content rt.now) (I.may_fail input.old) (I.remaining input.old)
         (filter begins_absolute (naming_in naming.entry).paths) (is_read_beside (naming_in naming.entry)) }
-    ensures kept { naming.entry.input_is_taken ≡ true → IsSameInput (I.may_fail input.old) (I.remaining input.old) (I.may_fail input.new) (I.remaining input.new) }
+    ensures kept { naming.entry.input_is_taken ≡ true
+        → IsSameInput (I.may_fail input.old) (I.remaining input.old) (I.may_fail input.new) (I.remaining input.new) }
 {
     let absolute = absolute_paths(rt.alloc(), naming.paths)?;
     read_templates(rt, absolute.as_slice(), reads_input_beside(naming), input)

@@ -55,11 +55,14 @@ pub(crate) fn read_inputs<R: FileSystem + Folders + AllocGlobal, I: Reader>(
 ) -> Result<Inputs, FileFault>
     requires { AskForRun words.now }
     ensures asked { IfOk result (λ inputs. IsAsked words.now inputs.request) }
-    ensures templates { IfOk result (λ inputs. AreTemplatesOf (told_by (R.entries rt.now) (R.content rt.now) (I.may_fail input.old) (I.remaining input.old))
+    ensures templates { IfOk result
+        (λ inputs. AreTemplatesOf (told_by (R.entries rt.now) (R.content rt.now) (I.may_fail input.old) (I.remaining input.old))
         (naming_of words.now).folder (naming_of words.now) (syntax_under options.entry) (text_pairs inputs.templates.items)) }
-    ensures given { IfOk result (λ inputs. IsGiven (told_by (R.entries rt.now) (R.content rt.now) (I.may_fail input.old) (I.remaining input.old))
+    ensures given { IfOk result (λ inputs.
+        IsGiven (told_by (R.entries rt.now) (R.content rt.now) (I.may_fail input.old) (I.remaining input.old))
         words.now (all_held inputs.context.documents) (text_pairs inputs.context.values.items) inputs.context.floats) }
-    ensures refused { IsErrOf result FileFault.File → LacksOne (told_by (R.entries rt.now) (R.content rt.now) (I.may_fail input.old) (I.remaining input.old)) words.now }
+    ensures refused { IsErrOf result FileFault.File
+        → LacksOne (told_by (R.entries rt.now) (R.content rt.now) (I.may_fail input.old) (I.remaining input.old)) words.now }
 {
     match words {
         Words::Render(words) => read_render(rt, words, options, input),
@@ -75,12 +78,15 @@ fn read_render<R: FileSystem + Folders + AllocGlobal, I: Reader>(
     input: &mut I,
 ) -> Result<Inputs, FileFault>
     ensures asked { IfOk result (λ inputs. IsAsked (Words.Render words.now) inputs.request) }
-    ensures templates { IfOk result (λ inputs. AreTemplatesOf (told_by (R.entries rt.now) (R.content rt.now) (I.may_fail input.old) (I.remaining input.old))
+    ensures templates { IfOk result
+        (λ inputs. AreTemplatesOf (told_by (R.entries rt.now) (R.content rt.now) (I.may_fail input.old) (I.remaining input.old))
         (naming_of (Words.Render words.now)).folder (naming_of (Words.Render words.now)) (syntax_under options.entry)
         (text_pairs inputs.templates.items)) }
-    ensures given { IfOk result (λ inputs. IsGiven (told_by (R.entries rt.now) (R.content rt.now) (I.may_fail input.old) (I.remaining input.old))
+    ensures given { IfOk result (λ inputs.
+        IsGiven (told_by (R.entries rt.now) (R.content rt.now) (I.may_fail input.old) (I.remaining input.old))
         (Words.Render words.now) (all_held inputs.context.documents) (text_pairs inputs.context.values.items) inputs.context.floats) }
-    ensures refused { IsErrOf result FileFault.File → LacksOne (told_by (R.entries rt.now) (R.content rt.now) (I.may_fail input.old) (I.remaining input.old)) (Words.Render words.now) }
+    ensures refused { IsErrOf result FileFault.File
+        → LacksOne (told_by (R.entries rt.now) (R.content rt.now) (I.may_fail input.old) (I.remaining input.old)) (Words.Render words.now) }
 {
     let origins = origins_of(rt.alloc(), words)?;
     let naming = render_naming(words, takes_input(words, origins.as_slice()));
@@ -134,12 +140,15 @@ fn read_names<R: FileSystem + Folders + AllocGlobal, I: Reader>(
     input: &mut I,
 ) -> Result<Inputs, FileFault>
     ensures asked { IfOk result (λ inputs. IsAsked (Words.Names words.now) inputs.request) }
-    ensures templates { IfOk result (λ inputs. AreTemplatesOf (told_by (R.entries rt.now) (R.content rt.now) (I.may_fail input.old) (I.remaining input.old))
+    ensures templates { IfOk result
+        (λ inputs. AreTemplatesOf (told_by (R.entries rt.now) (R.content rt.now) (I.may_fail input.old) (I.remaining input.old))
         (naming_of (Words.Names words.now)).folder (naming_of (Words.Names words.now)) (syntax_under options.entry)
         (text_pairs inputs.templates.items)) }
-    ensures given { IfOk result (λ inputs. IsGiven (told_by (R.entries rt.now) (R.content rt.now) (I.may_fail input.old) (I.remaining input.old))
+    ensures given { IfOk result (λ inputs.
+        IsGiven (told_by (R.entries rt.now) (R.content rt.now) (I.may_fail input.old) (I.remaining input.old))
         (Words.Names words.now) (all_held inputs.context.documents) (text_pairs inputs.context.values.items) inputs.context.floats) }
-    ensures refused { IsErrOf result FileFault.File → LacksOne (told_by (R.entries rt.now) (R.content rt.now) (I.may_fail input.old) (I.remaining input.old)) (Words.Names words.now) }
+    ensures refused { IsErrOf result FileFault.File
+        → LacksOne (told_by (R.entries rt.now) (R.content rt.now) (I.may_fail input.old) (I.remaining input.old)) (Words.Names words.now) }
 {
     let naming = names_naming(words);
     let templates = read_templates_of(rt, naming, options, input)?;
@@ -177,11 +186,14 @@ fn read_templates_of<R: FileSystem + Folders + AllocGlobal, I: Reader>(
     options: Options<'_>,
     input: &mut I,
 ) -> Result<Vec<(String, String)>, FileFault>
-    ensures read { IfOk result (λ templates. AreTemplatesOf (told_by (R.entries rt.now) (R.content rt.now) (I.may_fail input.old) (I.remaining input.old))
+    ensures read { IfOk result (λ templates.
+        AreTemplatesOf (told_by (R.entries rt.now) (R.content rt.now) (I.may_fail input.old) (I.remaining input.old))
         (naming_in naming.entry).folder (naming_in naming.entry) (syntax_under options.entry) (text_pairs templates.items)) }
-    ensures refused { IsErrOf result FileFault.File → LacksTemplateOf (told_by (R.entries rt.now) (R.content rt.now) (I.may_fail input.old) (I.remaining input.old))
+    ensures refused { IsErrOf result FileFault.File
+        → LacksTemplateOf (told_by (R.entries rt.now) (R.content rt.now) (I.may_fail input.old) (I.remaining input.old))
         (naming_in naming.entry).folder (naming_in naming.entry) }
-    ensures kept { naming.entry.input_is_taken ≡ true → IsSameInput (I.may_fail input.old) (I.remaining input.old) (I.may_fail input.new) (I.remaining input.new) }
+    ensures kept { naming.entry.input_is_taken ≡ true
+        → IsSameInput (I.may_fail input.old) (I.remaining input.old) (I.may_fail input.new) (I.remaining input.new) }
 {
     match naming.folder {
         Some(folder) => read_sifted(rt, folder, naming, options, input),
@@ -200,7 +212,8 @@ pub(crate) fn read_templates<R: FileSystem + AllocGlobal, I: Reader>(
         (text_pairs templates.items) from_input) }
     ensures refused { IsErrOf result FileFault.File → LacksTemplate (R.content rt.now) (I.may_fail input.old) (I.remaining input.old)
         (map (λ path. path.now) paths.now) from_input }
-    ensures kept { from_input ≡ false → IsSameInput (I.may_fail input.old) (I.remaining input.old) (I.may_fail input.new) (I.remaining input.new) }
+    ensures kept { from_input ≡ false
+        → IsSameInput (I.may_fail input.old) (I.remaining input.old) (I.may_fail input.new) (I.remaining input.new) }
 {
     if from_input {
         return read_input(rt.alloc(), input);

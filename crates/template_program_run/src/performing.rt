@@ -33,7 +33,8 @@ pub(crate) fn perform<O: Output, F: Output>(
     out: O,
     fault: &mut F,
 ) -> (u8, O)
-    ensures { PerformsRequest (option_map asked_in expression.entry) inputs.now.request (served_under options.entry) (text_pairs inputs.now.templates.items)
+    ensures { PerformsRequest (option_map asked_in expression.entry) inputs.now.request (served_under options.entry)
+        (text_pairs inputs.now.templates.items)
         (given_in context.entry) (O.shown out) (O.shown result.1)
         (F.shown fault.old) (F.shown fault.new) result.0 }
 {
@@ -57,7 +58,8 @@ fn run_flushed<O: Output>(
     buffer: Vec<u8>,
 ) -> (Outcome, O)
     requires { buffer.items ≡ [] }
-    ensures { RunsFlushed (option_map asked_in expression.entry) inputs.now.request (served_under options.entry) (text_pairs inputs.now.templates.items)
+    ensures { RunsFlushed (option_map asked_in expression.entry) inputs.now.request (served_under options.entry)
+        (text_pairs inputs.now.templates.items)
         (given_in context.entry) (O.shown out) (O.shown result.1) result.0 }
 {
     let mut ids = StateIds::new(0);

@@ -28,7 +28,8 @@ pub(crate) fn perform_to<R: Placing + AllocGlobal, O: Output, F: Output>(
     out: O,
     fault: &mut F,
 ) -> (u8, O)
-    ensures { PerformsTo (option_map asked_in expression.entry) (option_map (λ path. path.now) path.entry) (R.fresh rt.now) (R.placed rt.now) inputs.now.request
+    ensures { PerformsTo (option_map asked_in expression.entry) (option_map (λ path. path.now) path.entry) (R.fresh rt.now)
+        (R.placed rt.now) inputs.now.request
         (served_under options.entry) (text_pairs inputs.now.templates.items) (given_in context.entry)
         (O.shown out) (O.shown result.1) (F.shown fault.old) (F.shown fault.new) result.0 }
 {
@@ -51,7 +52,8 @@ fn perform_into<R: Placing + AllocGlobal, F: Output>(
     context: ContextParts<'_>,
     fault: &mut F,
 ) -> u8
-    ensures { PerformsInto (option_map asked_in expression.entry) (R.fresh rt.now path.now) (R.placed rt.now path.now) inputs.now.request (served_under options.entry)
+    ensures { PerformsInto (option_map asked_in expression.entry) (R.fresh rt.now path.now) (R.placed rt.now path.now) inputs.now.request
+        (served_under options.entry)
         (text_pairs inputs.now.templates.items) (given_in context.entry)
         (F.shown fault.old) (F.shown fault.new) result }
 {

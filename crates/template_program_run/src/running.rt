@@ -94,7 +94,8 @@ pub fn run_with<S: Sink>(
 
     // A main template in which no marker starts renders to its text, without the newline at its end.
     ensures plain { (text : List ℕ) → standing (text_pairs templates.now) (string_bytes request.now.main) ≡ Some text
-        → IsPlain (source_under (served_under options.entry) text) → WritesOnRender request.now.command (S.taken sink.old) (S.taken sink.new)
+        → IsPlain (source_under (served_under options.entry) text)
+        → WritesOnRender request.now.command (S.taken sink.old) (S.taken sink.new)
         (text_kept (source_under (served_under options.entry) text)) result }
 {
     let context = match context_of(alloc, request, context) {

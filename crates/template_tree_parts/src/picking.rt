@@ -67,7 +67,8 @@ fn take_among<'tree, 'source, P: Picks>(
     taken: &mut Vec<&'tree Stmt<'source>>,
     body: &'tree [Stmt<'source>],
 ) -> Result<(), AllocError>
-    ensures { IfOk result (λ _. trees_of taken.new.items ≡ trees_of taken.old.items ++ picked_among P.picks P.enters (statements_in body.now)) }
+    ensures { IfOk result (λ _. trees_of taken.new.items ≡ trees_of taken.old.items
+        ++ picked_among P.picks P.enters (statements_in body.now)) }
 {
     for statement in body {
         if !is_printed(statement) {
@@ -83,7 +84,8 @@ fn take_of<'tree, 'source, P: Picks>(
     taken: &mut Vec<&'tree Stmt<'source>>,
     statement: &'tree Stmt<'source>,
 ) -> Result<(), AllocError>
-    ensures { IfOk result (λ _. trees_of taken.new.items ≡ trees_of taken.old.items ++ picked_of P.picks P.enters (statement_of statement.now)) }
+    ensures { IfOk result (λ _. trees_of taken.new.items ≡ trees_of taken.old.items
+        ++ picked_of P.picks P.enters (statement_of statement.now)) }
 {
     let mut at = statement;
     loop {
