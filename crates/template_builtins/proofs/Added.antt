@@ -1,7 +1,7 @@
 -- Filters that were added, then tests, and then what answers for unknown methods.
 use Rattle.std.proofs.Common.{◌≡◌, ◌∙◌, sym, ap, subst, ℕ, List, Option, Some}
 use Rattle.std.specs.Option.{IsSomeAnd}
-use Rattle.template_environment.specs.Extras.{Extras}
+use Rattle.template_machine_environment.specs.Extras.{Extras}
 use Rattle.template_builtins_callables.specs.declared.builtin.Builtin.{Builtin}
 use Rattle.template_builtins_methods.specs.declared.method.PythonMethods.{PythonMethods}
 use Rattle.template_builtins.specs.Installed.{Adds, Installs, IsMade, filter_kind, test_kind}

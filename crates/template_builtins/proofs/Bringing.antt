@@ -3,7 +3,7 @@ use Rattle.std.proofs.Common.{◌≡◌, ◌∙◌, refl, ap, ℕ, List, Option,
 use Rattle.std.specs.Option.{option_map, IsSomeAnd}
 use Rattle.template_callables.specs.Callables.{Says}
 use Rattle.template_callables.specs.Joins.{Joins, keeps_name}
-use Rattle.template_environment.specs.Extras.{Extras, FormatsSay, brought_by, user_answers}
+use Rattle.template_machine_environment.specs.Extras.{Extras, FormatsSay, brought_by, user_answers}
 use Rattle.template_values_model.specs.Val.{Val}
 use Rattle.template_machine_meaning.specs.Functions.{Invoked, filter_named, test_named, function_numbered}
 use Rattle.template_machine_meaning.specs.Functions as invoked

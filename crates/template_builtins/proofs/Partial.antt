@@ -2,7 +2,7 @@
 use Rattle.std.proofs.Common.{◌≡◌, ◌∙◌, sym, ap, ℕ, List, ◌∷◌, Bool, true, false, Option, None, Some, option_map, Result, Ok, Err, OnErr, if◌then◌else◌, bytes_eq}
 use Rattle.std.specs.Borrow.{Bor}
 use Rattle.std.proofs.lemmas.Result.{on_err_weaker}
-use Rattle.template_environment.specs.Extras.{Extras}
+use Rattle.template_machine_environment.specs.Extras.{Extras}
 use Rattle.template_builtins_callables.specs.Names.{named, rows_of}
 use Rattle.template_builtins_callables.specs.declared.builtin.Builtin.{Builtin}
 use Rattle.template_builtins_callables.specs.declared.builtin.Kind.{Kind}

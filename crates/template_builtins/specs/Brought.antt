@@ -3,7 +3,7 @@ use Rattle.std.specs.Prelude.{◌≡◌, ℕ, List, None, Some, option_map}
 use Rattle.template_values_model.specs.Val.{Val}
 use Rattle.template_callables.specs.Callables.{Callables, Says}
 use Rattle.template_callables.specs.Joins.{Joins, keeps_name}
-use Rattle.template_environment.specs.Extras.{Extras, FormatsSay, Brought, brought_by, no_extras, user_answers}
+use Rattle.template_machine_environment.specs.Extras.{Extras, FormatsSay, Brought, brought_by, no_extras, user_answers}
 use Rattle.template_builtins_callables.specs.Says.{builtin_says, kind_says}
 use Rattle.template_builtins_callables.specs.declared.builtin.Builtin.{Builtin}
 use Rattle.template_builtins_arguments.specs.Answers.{answered}

@@ -1,6 +1,6 @@
 -- The builtins in an environment.
 use Rattle.std.specs.Prelude.{◌≡◌, ℕ, List, Option, None, Some, option_map, IsSomeAnd}
-use Rattle.template_environment.specs.Extras.{Extras}
+use Rattle.template_machine_environment.specs.Extras.{Extras}
 use Rattle.template_builtins_callables.specs.Builtins.{filter_named, test_named}
 use Rattle.template_builtins_callables.specs.Names.{named}
 use Rattle.template_builtins_callables.specs.declared.builtin.Builtin.{Builtin}

@@ -1,8 +1,8 @@
 //! The builtins, added to an environment.
 ghost use Rattle.std.specs.Prelude.{◌≡◌, ℕ, List, IfErr, OnErr, OnOk};
 ghost use Rattle.template_values_errors.specs.Memory.{NoMemory};
-ghost use Rattle.template_environment.specs.Reading.{extras_of, registry_of};
-ghost use Rattle.template_environment.specs.Standing.{settings_of, source_at};
+ghost use Rattle.template_machine_environment.specs.Reading.{extras_of, registry_of};
+ghost use Rattle.template_machine_environment.specs.Standing.{settings_of, source_at};
 ghost use Rattle.template_builtins.specs.Installed.{Adds, Installs, InstallsSome, KeepsOthers, MadeOf, filters_in, tests_in};
 ghost use Rattle.template_builtins_callables.specs.Names.{rows_of};
 
@@ -10,7 +10,7 @@ use std::alloc::Global;
 use template_builtins_callables::{Builtin, FILTERS, Filter, Kind, TESTS, Test};
 use template_builtins_methods::PythonMethods;
 use template_callables::Extension;
-use template_environment::Environment;
+use template_machine_environment::Environment;
 use template_values_errors::Error;
 
 /// Adds each builtin filter and test under its name, in the place of one that is registered there, and sets Python's methods as what

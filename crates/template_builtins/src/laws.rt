@@ -2,11 +2,11 @@
 ghost use Rattle.template_builtins.specs.Brought.{AnswersAlike, builtins_brought};
 ghost use Rattle.template_callables.specs.Callables.{escapes};
 ghost use Rattle.template_callables.specs.Joins.{keeps_name};
-ghost use Rattle.template_environment.specs.Reading.{extras_of};
+ghost use Rattle.template_machine_environment.specs.Reading.{extras_of};
 ghost use Rattle.template_machine_meaning.specs.Isolation.{AskNoNames};
 
 use crate::extension::Builtins;
-use template_environment::Environment;
+use template_machine_environment::Environment;
 
 /// A law: where the builtins were installed into an environment without extras, filters, tests and methods answer what is defined for
 /// their names, and nothing else is brought.

@@ -4,11 +4,11 @@ use Rattle.std.specs.Prelude.{◌^◌}
 use Rattle.template_values_errors.specs.declared.ErrorKind.{ErrorKind}
 use Rattle.template_values_errors.specs.declared.ErrorKind.TheVariants.{OutOfMemory}
 use Rattle.template_values_errors.specs.declared.modes.AutoEscape.{AutoEscape}
-use Rattle.template_tree.specs.Tree.{Statement, Statements, template}
-use Rattle.template_tree_statements.specs.View.{statement_of}
-use Rattle.template_tree_statements.specs.declared.statements.Stmt.{Stmt}
+use Rattle.template_compiler_tree.specs.Tree.{Statement, Statements, template}
+use Rattle.template_compiler_tree_statements.specs.View.{statement_of}
+use Rattle.template_compiler_tree_statements.specs.declared.statements.Stmt.{Stmt}
 use Rattle.template_values_errors.specs.Memory.{NoMemory}
-use Rattle.template_code.specs.Code.{Code}
+use Rattle.template_compiler_code.specs.Code.{Code}
 use Rattle.template_compiler_codegen.specs.Statements.{template_code}
 use Rattle.template_compiler_generator.specs.Numbers.{numbered_in}
 use Rattle.template_compiler_statement_codegen.specs.Listed.{body_in}
@@ -17,7 +17,7 @@ use Rattle.template_compiler_sources.specs.Source.{IsSource, RefusesSource, sour
 use Rattle.template_machine_surroundings.specs.Rule.{IsEscapeOf}
 use Rattle.template_compiled.specs.Compiled.{Compiled, IsFaithful, code_for}
 use Rattle.template_compiled.specs.Sources.{Source, HasTree, read_by, tree_in}
-use Rattle.template_code.specs.Streams.{BlockStream}
+use Rattle.template_compiler_code.specs.Streams.{BlockStream}
 use Rattle.template_compiled.specs.Streams.{streams_of}
 use Rattle.template_compiled.specs.declared.config.TemplateConfig.{TemplateConfig}
 use Rattle.template_compiled.proofs.Trees.{one_tree}

@@ -4,11 +4,11 @@ use Rattle.std.specs.Prelude.{◌^◌}
 use Rattle.template_values_errors.specs.declared.ErrorKind.{ErrorKind}
 use Rattle.template_values_errors.specs.declared.ErrorKind.TheVariants.{OutOfMemory}
 use Rattle.template_values_errors.specs.Memory.{NoMemory}
-use Rattle.template_tree.specs.Tree.{Expression}
-use Rattle.template_tree.specs.View.{expression_of}
-use Rattle.template_tree.specs.declared.expressions.Expr.{Expr}
-use Rattle.template_walk.specs.Runnable.{IsRunnable}
-use Rattle.template_code.specs.Code.{Code}
+use Rattle.template_compiler_tree.specs.Tree.{Expression}
+use Rattle.template_compiler_tree.specs.View.{expression_of}
+use Rattle.template_compiler_tree.specs.declared.expressions.Expr.{Expr}
+use Rattle.template_compiler_walk.specs.Runnable.{IsRunnable}
+use Rattle.template_compiler_code.specs.Code.{Code}
 use Rattle.template_compiler_codegen.specs.Statements.{standalone_code}
 use Rattle.template_compiler_generator.specs.Numbers.{numbered_in}
 use Rattle.template_compiler_tokens.specs.Token.{Token}

@@ -1,8 +1,8 @@
 -- One more block is checked.
 use Rattle.std.proofs.Common.{◌≡◌, List, [], ◌∷◌, ◌++◌, map, append_assoc, sym, ap, ◌∙◌}
 use Rattle.std.proofs.lemmas.List.{map_push}
-use Rattle.template_code.specs.Streams.{BlockStream, stream_in}
-use Rattle.template_code.specs.declared.blocks.CompiledBlock.{CompiledBlock}
+use Rattle.template_compiler_code.specs.Streams.{BlockStream, stream_in}
+use Rattle.template_compiler_code.specs.declared.blocks.CompiledBlock.{CompiledBlock}
 use Rattle.template_compiled.specs.Checked.{checked_stream}
 use Rattle.template_compiled.specs.declared.checked.CheckedBlock.{CheckedBlock}
 

@@ -5,16 +5,16 @@ use Rattle.std.specs.List.{All}
 use Rattle.std.specs.Str.{bytes_eq}
 use Rattle.std.proofs.Math.ListN.{get_or-map}
 use Rattle.std.proofs.lemmas.List.{length-map, map_push, take_more}
-use Rattle.template_tree_parts.specs.Listed.{statements_in}
-use Rattle.template_tree_statements.specs.declared.statements.Block.{Block as BlockNode}
-use Rattle.template_code.specs.Code.{Code}
-use Rattle.template_walk.specs.Blocks.{Block, block_among}
-use Rattle.template_walk.specs.Runnable.{AreRunnableStatements}
-use Rattle.template_names_needed.specs.Seen.{tree_of, trees_in}
-use Rattle.template_names_needed.proofs.Runnable.{RunsByItself}
-use Rattle.template_code.specs.Streams.{BlockStream, stream_in, streams_in, stream_among}
+use Rattle.template_compiler_tree_parts.specs.Listed.{statements_in}
+use Rattle.template_compiler_tree_statements.specs.declared.statements.Block.{Block as BlockNode}
+use Rattle.template_compiler_code.specs.Code.{Code}
+use Rattle.template_compiler_walk.specs.Blocks.{Block, block_among}
+use Rattle.template_compiler_walk.specs.Runnable.{AreRunnableStatements}
+use Rattle.template_compiler_names_needed.specs.Seen.{tree_of, trees_in}
+use Rattle.template_compiler_names_needed.proofs.Runnable.{RunsByItself}
+use Rattle.template_compiler_code.specs.Streams.{BlockStream, stream_in, streams_in, stream_among}
 use Rattle.template_compiled.specs.Streams.{stream_of}
-use Rattle.template_code.specs.declared.blocks.CompiledBlock.{CompiledBlock}
+use Rattle.template_compiler_code.specs.declared.blocks.CompiledBlock.{CompiledBlock}
 
 abbrev pub streams_at : List (Bor BlockNode) → List BlockStream
 streams_at = map (λ n. stream_of (tree_of n.now))

@@ -2,15 +2,15 @@
 use Rattle.std.proofs.Common.{◌≡◌, false, List, [], ◌∷◌, map, refl, sym, ap, subst}
 use Rattle.std.specs.List.{All}
 use Rattle.std.proofs.lemmas.List.Elements.{All-nil, All-cons, All-head, All-tail}
-use Rattle.template_tree.specs.Tree.{Statements}
-use Rattle.template_walk.specs.Blocks.{Block, blocks_in}
-use Rattle.template_walk.specs.Runnable.{IsRunnableTemplate}
-use Rattle.template_names_needed.proofs.Runnable.{RunsByItself, blocks_run}
-use Rattle.template_code.specs.Code.{Code}
-use Rattle.template_code.specs.Streams.{BlockStream, streams_in}
-use Rattle.template_code.specs.declared.blocks.CompiledBlock.{CompiledBlock}
-use Rattle.template_code_shapes.specs.Streams.{IsGood}
-use Rattle.template_code_shapes.specs.declared.StreamKind.TheVariants.{Template}
+use Rattle.template_compiler_tree.specs.Tree.{Statements}
+use Rattle.template_compiler_walk.specs.Blocks.{Block, blocks_in}
+use Rattle.template_compiler_walk.specs.Runnable.{IsRunnableTemplate}
+use Rattle.template_compiler_names_needed.proofs.Runnable.{RunsByItself, blocks_run}
+use Rattle.template_compiler_code.specs.Code.{Code}
+use Rattle.template_compiler_code.specs.Streams.{BlockStream, streams_in}
+use Rattle.template_compiler_code.specs.declared.blocks.CompiledBlock.{CompiledBlock}
+use Rattle.template_compiler_code_shapes.specs.Streams.{IsGood}
+use Rattle.template_compiler_code_shapes.specs.declared.StreamKind.TheVariants.{Template}
 use Rattle.template_compiler_codegen.specs.Statements.{template_code}
 use Rattle.template_compiler_generator.specs.Numbers.{numbered_in}
 use Rattle.template_compiler_generator.specs.Acceptance.{TemplatesAreAccepted}

@@ -1,7 +1,7 @@
 -- A source in which no marker starts is one data, and stands for itself.
 use Rattle.std.proofs.Common.{◌≡◌, ℕ, Bool, true, false, List, [], ◌∷◌, inl, inr, refl, subst}
 use Rattle.template_values_errors.specs.declared.ErrorKind.{ErrorKind}
-use Rattle.template_tree.specs.Tree.{template}
+use Rattle.template_compiler_tree.specs.Tree.{template}
 use Rattle.template_compiler_syntax.specs.Flat.{plain_tokens}
 use Rattle.template_compiler_syntax.proofs.Theorems.{plain_text}
 use Rattle.template_compiler_grammar.specs.TemplateGrammar.{IsTemplate, whole_template, statements_end, statements_next, text_statement}

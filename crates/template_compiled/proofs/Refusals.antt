@@ -1,7 +1,7 @@
 -- Where there is room, a source is refused with one kind, and none that is accepted is refused.
 use Rattle.std.proofs.Common.{◌≡◌, ◌⊎◌, ℕ, List, [], ◌∷◌, inl, inr, sym, ap, ◌∙◌}
 use Rattle.template_values_errors.specs.declared.ErrorKind.{ErrorKind}
-use Rattle.template_tree.specs.Tree.{template}
+use Rattle.template_compiler_tree.specs.Tree.{template}
 use Rattle.template_compiler_tokens.specs.Left.{kind_of}
 use Rattle.template_compiler_tokens.specs.Token.{TokenFault}
 use Rattle.template_compiler_syntax.specs.Syntax.{IsUsable}

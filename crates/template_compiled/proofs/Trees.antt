@@ -1,7 +1,7 @@
 -- A source has one tree at most: the one that it is read to, which has a walk.
 use Rattle.std.proofs.Common.{◌≡◌, ℕ, List, Result, Ok, Err, refl, ap, ◌∙◌}
-use Rattle.template_tree.specs.Tree.{Statement, Statements, template}
-use Rattle.template_walk.specs.Runnable.{IsRunnableTemplate}
+use Rattle.template_compiler_tree.specs.Tree.{Statement, Statements, template}
+use Rattle.template_compiler_walk.specs.Runnable.{IsRunnableTemplate}
 use Rattle.template_compiler_laws.proofs.RunnableStatements.{template_runs}
 use Rattle.template_compiler_statement_codegen.specs.Listed.{IsRunnableTree, body_in}
 use Rattle.template_compiler_tokens.specs.Token.{Token, TokenFault}

@@ -1,12 +1,12 @@
 -- What contracts see of the streams of a template that were accepted.
 use Rattle.std.specs.Prelude.{◌≡◌, List, map}
 use Rattle.std.specs.Cow.{cow_str_bytes}
-use Rattle.template_code.specs.Listing.{code_in}
-use Rattle.template_code.specs.Streams.{BlockStream}
-use Rattle.template_code.specs.declared.blocks.CompiledBlock.{CompiledBlock}
-use Rattle.template_code_shapes.specs.Checked.{kind_in, stream_in}
-use Rattle.template_code_shapes.specs.Streams.{IsGood}
-use Rattle.template_code_shapes.specs.declared.StreamKind.TheVariants.{Template}
+use Rattle.template_compiler_code.specs.Listing.{code_in}
+use Rattle.template_compiler_code.specs.Streams.{BlockStream}
+use Rattle.template_compiler_code.specs.declared.blocks.CompiledBlock.{CompiledBlock}
+use Rattle.template_compiler_code_shapes.specs.Checked.{kind_in, stream_in}
+use Rattle.template_compiler_code_shapes.specs.Streams.{IsGood}
+use Rattle.template_compiler_code_shapes.specs.declared.StreamKind.TheVariants.{Template}
 use Rattle.template_compiled.specs.declared.checked.CheckedBlock.{CheckedBlock}
 
 -- a block's name, whether a template that extends this one has to give a body of its own, and the code of its body here

@@ -2,9 +2,9 @@
 use Rattle.std.specs.Prelude.{ℕ, ◌<◌, ◌^◌, ◌⊎◌, List, [], length, Ok}
 use Rattle.template_values_errors.specs.declared.ErrorKind.{ErrorKind}
 use Rattle.template_values_model.specs.Val.{none}
-use Rattle.template_tree.specs.Tree.{Expression, constant}
-use Rattle.template_walk.specs.Runnable.{IsRunnable}
-use Rattle.template_code.specs.Code.{Code}
+use Rattle.template_compiler_tree.specs.Tree.{Expression, constant}
+use Rattle.template_compiler_walk.specs.Runnable.{IsRunnable}
+use Rattle.template_compiler_code.specs.Code.{Code}
 use Rattle.template_compiler_codegen.specs.Statements.{standalone_code}
 use Rattle.template_compiler_generator.specs.Numbers.{numbered_in}
 use Rattle.template_compiler_tokens.specs.Steps.{Read}

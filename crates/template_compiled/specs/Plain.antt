@@ -1,7 +1,7 @@
 -- Sources that are text alone.
 use Rattle.std.specs.Prelude.{◌≡◌, ℕ, List, [], ◌∷◌}
 use Rattle.template_values_errors.specs.declared.ErrorKind.{ErrorKind}
-use Rattle.template_tree.specs.Tree.{Statements, raw, no_statements, statements_more}
+use Rattle.template_compiler_tree.specs.Tree.{Statements, raw, no_statements, statements_more}
 use Rattle.template_compiler_syntax.specs.Syntax.{IsUsable}
 use Rattle.template_compiler_syntax.specs.Flat.{template_text}
 use Rattle.template_compiler_syntax.specs.Segments.{HasNoStart}

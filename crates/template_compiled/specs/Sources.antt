@@ -3,8 +3,8 @@ use Rattle.std.specs.Prelude.{◌≡◌, ℕ, ◌^◌, ◌≤◌, ◌⊎◌, Lis
 use Rattle.template_values_errors.specs.declared.ErrorKind.{ErrorKind}
 use Rattle.template_values_errors.specs.declared.ErrorKind.TheVariants.{TooLarge, OutOfMemory}
 use Rattle.template_values_errors.specs.declared.modes.AutoEscape.{AutoEscape}
-use Rattle.template_tree.specs.Tree.{Statements, no_statements, template}
-use Rattle.template_walk.specs.Runnable.{IsRunnableTemplate}
+use Rattle.template_compiler_tree.specs.Tree.{Statements, no_statements, template}
+use Rattle.template_compiler_walk.specs.Runnable.{IsRunnableTemplate}
 use Rattle.template_compiler_tokens.specs.Token.{Token, TokenFault}
 use Rattle.template_compiler_syntax.specs.Syntax.{Syntax}
 use Rattle.template_compiler_syntax.proofs.Theorems.{some_tokens}

@@ -1,8 +1,8 @@
 -- The streams of a template's blocks.
 use Rattle.std.specs.Prelude.{ℕ, List, Option, map, option_map}
-use Rattle.template_tree.specs.Tree.{Statements}
-use Rattle.template_walk.specs.Blocks.{Block, blocks_in, block_named}
-use Rattle.template_code.specs.Streams.{BlockStream}
+use Rattle.template_compiler_tree.specs.Tree.{Statements}
+use Rattle.template_compiler_walk.specs.Blocks.{Block, blocks_in, block_named}
+use Rattle.template_compiler_code.specs.Streams.{BlockStream}
 use Rattle.template_compiler_codegen.specs.Statements.{template_code}
 use Rattle.template_compiler_generator.specs.Numbers.{numbered_in}
 

@@ -3,11 +3,11 @@
 ghost use Rattle.std.specs.Prelude.{◌≡◌, IfOk, IfErr};
 ghost use Rattle.std.specs.List.{All};
 ghost use Rattle.template_values_errors.specs.Memory.{NoMemory};
-ghost use Rattle.template_code.specs.Listing.{code_in};
-ghost use Rattle.template_code.specs.Streams.{stream_in as block_stream, streams_in};
-ghost use Rattle.template_code_shapes.specs.Checked.{kind_in, stream_in};
-ghost use Rattle.template_code_shapes.specs.Streams.{IsGood};
-ghost use Rattle.template_code_shapes.specs.declared.StreamKind.{StreamKind};
+ghost use Rattle.template_compiler_code.specs.Listing.{code_in};
+ghost use Rattle.template_compiler_code.specs.Streams.{stream_in as block_stream, streams_in};
+ghost use Rattle.template_compiler_code_shapes.specs.Checked.{kind_in, stream_in};
+ghost use Rattle.template_compiler_code_shapes.specs.Streams.{IsGood};
+ghost use Rattle.template_compiler_code_shapes.specs.declared.StreamKind.{StreamKind};
 ghost use Rattle.template_compiled.specs.Compiled.{code_for};
 ghost use Rattle.template_compiled.specs.Sources.{tree_in};
 ghost use Rattle.template_compiled.specs.Streams.{streams_of};
@@ -16,8 +16,8 @@ ghost use Rattle.template_compiled.specs.Checked.{IsGoodBlock, IsOfTemplate, che
 use crate::{CompiledTemplate, trees_run};
 use std::alloc::Global;
 use std::borrow::CowStr;
-use template_code::{CompiledBlock, Instructions};
-use template_code_shapes::{Checked, verify};
+use template_compiler_code::{CompiledBlock, Instructions};
+use template_compiler_code_shapes::{Checked, verify};
 use template_compiler_generator::templates_are_accepted;
 use template_values_errors::Error;
 

@@ -5,20 +5,20 @@ ghost use Rattle.std.specs.Cow.{cow_str_bytes};
 ghost use Rattle.template_values_errors.specs.Memory.{NoMemory};
 ghost use Rattle.template_values_errors.specs.declared.ErrorKind.{ErrorKind as Kind};
 ghost use Rattle.template_values_errors.specs.declared.ErrorKind.TheVariants.{TooLarge};
-ghost use Rattle.template_tree.specs.Tree.{Statements, template};
-ghost use Rattle.template_tree_statements.specs.View.{statement_of};
-ghost use Rattle.template_code.specs.Listing.{code_in};
-ghost use Rattle.template_code.specs.Texts.{raw_length};
+ghost use Rattle.template_compiler_tree.specs.Tree.{Statements, template};
+ghost use Rattle.template_compiler_tree_statements.specs.View.{statement_of};
+ghost use Rattle.template_compiler_code.specs.Listing.{code_in};
+ghost use Rattle.template_compiler_code.specs.Texts.{raw_length};
 ghost use Rattle.template_compiler_syntax.specs.Syntax.{IsUsable};
 ghost use Rattle.template_compiler_sources.specs.Source.{IsAlone, IsSource};
 ghost use Rattle.template_machine_surroundings.specs.Rule.{IsEscapeOf};
 ghost use Rattle.template_compiled.specs.Compiled.{IsFaithful, code_for, escaped_as};
-ghost use Rattle.template_names.specs.Names.{IsTold};
-ghost use Rattle.template_names_statements.specs.Found.{Adds, AddsSome};
+ghost use Rattle.template_compiler_names.specs.Names.{IsTold};
+ghost use Rattle.template_compiler_names_statements.specs.Found.{Adds, AddsSome};
 ghost use Rattle.template_compiled.specs.Names.{uses};
 ghost use Rattle.template_compiler_emission.specs.Puts.{NoRoom};
 ghost use Rattle.template_compiled.specs.Plain.{IsPlain, PlainStandsForItself};
-ghost use Rattle.template_code.specs.Streams.{stream_in, streams_in};
+ghost use Rattle.template_compiler_code.specs.Streams.{stream_in, streams_in};
 ghost use Rattle.template_compiled.specs.Streams.{stream_named, streams_of};
 ghost use Rattle.template_compiled.specs.Sources.{HasNoRoom, IsAccepted, IsRefusedWith, Source, TreesRun, read_by, tree_in};
 
@@ -29,15 +29,17 @@ use std::alloc::Global;
 use std::borrow::CowStr;
 use std::collections::BTreeSet;
 use std::marker::Model;
-use template_code::{CompiledBlock, Instructions, block_among, buffer_size_hint, own_blocks};
+use template_compiler_code::{
+    CompiledBlock, Instructions, block_among, buffer_size_hint, own_blocks,
+};
 use template_compiler_generator::number_names;
+use template_compiler_names_needed::add_needed;
+use template_compiler_names_statements::find_undeclared;
 use template_compiler_sources::parse;
 use template_compiler_statement_codegen::children;
 use template_compiler_syntax::SyntaxConfig;
+use template_compiler_tree_statements::Stmt;
 use template_machine_surroundings::EscapeRule;
-use template_names_needed::add_needed;
-use template_names_statements::find_undeclared;
-use template_tree_statements::Stmt;
 use template_values_errors::{AutoEscape, Error, ErrorKind};
 
 /// A template whose source was accepted: its code, and the escape of its name. A contract sees both, with the name,
@@ -63,10 +65,10 @@ impl<'source> Drop for CompiledTemplate<'source> {
 
 impl<'source> Model for CompiledTemplate<'source> {
     ghost use Rattle.std.specs.Prelude.{◌≡◌};
-    ghost use Rattle.template_code.specs.Listing.{code_in, name_in, source_in};
+    ghost use Rattle.template_compiler_code.specs.Listing.{code_in, name_in, source_in};
     ghost use Rattle.template_compiled.specs.Compiled.{Compiled, IsFaithful, code_for};
     ghost use Rattle.template_compiled.specs.Sources.{read_by, tree_in};
-    ghost use Rattle.template_code.specs.Streams.{streams_in};
+    ghost use Rattle.template_compiler_code.specs.Streams.{streams_in};
     ghost use Rattle.template_compiled.specs.Streams.{streams_of};
 
     ghost Value = { Compiled };

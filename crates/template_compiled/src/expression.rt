@@ -5,12 +5,12 @@ ghost use Rattle.std.specs.Cow.{cow_str_bytes};
 ghost use Rattle.template_values_errors.specs.Memory.{NoMemory};
 ghost use Rattle.template_values_errors.specs.declared.ErrorKind.{ErrorKind as Kind};
 ghost use Rattle.template_values_errors.specs.declared.ErrorKind.TheVariants.{TooLarge};
-ghost use Rattle.template_tree.specs.Tree.{Expression};
-ghost use Rattle.template_tree.specs.View.{expression_of};
-ghost use Rattle.template_code.specs.Listing.{code_in};
+ghost use Rattle.template_compiler_tree.specs.Tree.{Expression};
+ghost use Rattle.template_compiler_tree.specs.View.{expression_of};
+ghost use Rattle.template_compiler_code.specs.Listing.{code_in};
 ghost use Rattle.template_compiler_emission.specs.Puts.{NoRoom};
 ghost use Rattle.template_compiler_sources.specs.Source.{IsAlone, IsExpressionSource};
-ghost use Rattle.template_names.specs.Names.{IsToldAlone};
+ghost use Rattle.template_compiler_names.specs.Names.{IsToldAlone};
 ghost use Rattle.template_compiled.specs.Expressions.{AloneRuns, IsAcceptedExpression, IsExpressionRefusedWith, IsFaithfulExpression, code_alone, expression_in};
 
 use crate::room::put_expr;
@@ -18,12 +18,12 @@ use std::alloc::Global;
 use std::borrow::CowStr;
 use std::collections::BTreeSet;
 use std::marker::Model;
-use template_code::Instructions;
+use template_compiler_code::Instructions;
 use template_compiler_generator::number_names;
+use template_compiler_names_statements::find_undeclared;
 use template_compiler_sources::parse_expr;
-use template_names_statements::find_undeclared;
-use template_tree::{Expr, Span, Spanned};
-use template_tree_statements::{EmitExpr, Stmt};
+use template_compiler_tree::{Expr, Span, Spanned};
+use template_compiler_tree_statements::{EmitExpr, Stmt};
 use template_values_errors::Error;
 
 // The name of each expression.
@@ -43,7 +43,7 @@ impl<'source> Drop for CompiledExpression<'source> {
 
 impl<'source> Model for CompiledExpression<'source> {
     ghost use Rattle.std.specs.Prelude.{◌≡◌, ℕ, List};
-    ghost use Rattle.template_code.specs.Listing.{code_in, source_in};
+    ghost use Rattle.template_compiler_code.specs.Listing.{code_in, source_in};
     ghost use Rattle.template_compiled.specs.Expressions.{IsFaithfulExpression, code_alone};
 
     ghost Value = { List ℕ };

@@ -17,5 +17,5 @@ pub use config::TemplateConfig;
 pub use expression::{
     CompiledExpression, one_standalone_refusal, one_standalone_tree, standalone_trees_run,
 };
-pub use template_code::CompiledBlock;
+pub use template_compiler_code::CompiledBlock;
 pub use templates::CompiledTemplates;

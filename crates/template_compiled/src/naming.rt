@@ -4,7 +4,7 @@ ghost use Rattle.template_compiled.specs.Names.{uses as used_by};
 use crate::compiled::CompiledTemplate;
 use std::alloc::Global;
 use std::collections::BTreeSet;
-use template_environment_histories::UsesNames;
+use template_machine_environment_histories::UsesNames;
 use template_values_errors::Error;
 
 impl UsesNames for CompiledTemplate<'_> {

@@ -2,20 +2,20 @@
 //! the comparisons of a constant chain, which are put and dropped again, would make as many, a growth is refused.
 ghost use Rattle.std.specs.Prelude.{false, IfErr, OnOk};
 ghost use Rattle.template_values_errors.specs.Memory.{NoMemory};
-ghost use Rattle.template_tree.specs.View.{expression_of};
-ghost use Rattle.template_tree_statements.specs.View.{statement_of};
-ghost use Rattle.template_tree_parts.specs.Listed.{statements_in};
-ghost use Rattle.template_walk.specs.Runnable.{IsRunnable, AreRunnableStatements};
+ghost use Rattle.template_compiler_tree.specs.View.{expression_of};
+ghost use Rattle.template_compiler_tree_statements.specs.View.{statement_of};
+ghost use Rattle.template_compiler_tree_parts.specs.Listed.{statements_in};
+ghost use Rattle.template_compiler_walk.specs.Runnable.{IsRunnable, AreRunnableStatements};
 ghost use Rattle.template_compiler_codegen.specs.Expressions.{expression_code};
 ghost use Rattle.template_compiler_codegen.specs.Statements.{no_ways, statements_code};
 ghost use Rattle.template_compiler_emission.specs.Puts.{Puts};
 ghost use Rattle.template_compiler_statement_codegen.specs.Listed.{IsRunnableTree, body_in};
 
 use std::alloc::Global;
-use template_code::Instructions;
+use template_compiler_code::Instructions;
 use template_compiler_statement_codegen::{compile_expr, compile_statements, compile_template};
-use template_tree::Expr;
-use template_tree_statements::Stmt;
+use template_compiler_tree::Expr;
+use template_compiler_tree_statements::Stmt;
 use template_values_errors::{Error, ErrorKind};
 
 // Puts the code of a template behind the instructions.

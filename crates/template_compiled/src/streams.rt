@@ -1,19 +1,19 @@
 //! The streams of a template's blocks: the body of each has code of its own.
 ghost use Rattle.std.specs.Prelude.{◌≡◌, false, IfOk, IfErr};
 ghost use Rattle.template_values_errors.specs.Memory.{NoMemory};
-ghost use Rattle.template_tree_parts.specs.Listed.{statements_in};
-ghost use Rattle.template_walk.specs.Runnable.{AreRunnableStatements};
-ghost use Rattle.template_code.specs.Streams.{stream_in, streams_in};
-ghost use Rattle.template_names_needed.specs.Seen.{tree_of};
+ghost use Rattle.template_compiler_tree_parts.specs.Listed.{statements_in};
+ghost use Rattle.template_compiler_walk.specs.Runnable.{AreRunnableStatements};
+ghost use Rattle.template_compiler_code.specs.Streams.{stream_in, streams_in};
+ghost use Rattle.template_compiler_names_needed.specs.Seen.{tree_of};
 ghost use Rattle.template_compiled.specs.Streams.{stream_of, streams_of};
 
 use crate::room::put_body;
 use std::alloc::Global;
 use std::borrow::CowStr;
-use template_code::{CompiledBlock, Instructions};
+use template_compiler_code::{CompiledBlock, Instructions};
 use template_compiler_generator::number_names;
-use template_names_needed::blocks;
-use template_tree_statements::{Block, Stmt};
+use template_compiler_names_needed::blocks;
+use template_compiler_tree_statements::{Block, Stmt};
 use template_values_errors::Error;
 
 // The streams of the blocks in a template's body, in order.

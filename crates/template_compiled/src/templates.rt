@@ -14,7 +14,7 @@ use crate::CompiledTemplate;
 use std::alloc::Global;
 use std::collections::btree_map::Values;
 use std::collections::{BTreeMap, BTreeSet};
-use template_environment_histories::{add_names_of_all, put_under};
+use template_machine_environment_histories::{add_names_of_all, put_under};
 use template_values_errors::{Error, ErrorKind};
 
 /// Compiled templates, each under its own name.

@@ -14,12 +14,12 @@ pub use Rattle.template_compiler_tokenizer.specs.Tokenizer
 pub use Rattle.template_compiler_tokenizer.specs.Stream
 pub use Rattle.template_compiler_tokenizer.specs.Held
 pub use Rattle.template_compiler_tokenizer.specs.Spans
-pub use Rattle.template_tree.specs.Tree
-pub use Rattle.template_tree.specs.View as TreeView
-pub use Rattle.template_tree_statements.specs.View
-pub use Rattle.template_tree.specs.CallView
-pub use Rattle.template_tree.specs.Kinds
-pub use Rattle.template_tree.specs.Places
+pub use Rattle.template_compiler_tree.specs.Tree
+pub use Rattle.template_compiler_tree.specs.View as TreeView
+pub use Rattle.template_compiler_tree_statements.specs.View
+pub use Rattle.template_compiler_tree.specs.CallView
+pub use Rattle.template_compiler_tree.specs.Kinds
+pub use Rattle.template_compiler_tree.specs.Places
 pub use Rattle.template_compiler_grammar.specs.Grammar as ExpressionGrammar
 pub use Rattle.template_compiler_grammar.specs.TemplateGrammar
 pub use Rattle.template_compiler_grammar.specs.TreeReader
@@ -30,30 +30,30 @@ pub use Rattle.template_compiler_sources.specs.Spelled
 pub use Rattle.template_compiler_sources.specs.Kinds as RefusalKinds
 pub use Rattle.template_compiler_sources.specs.Source
 pub use Rattle.template_compiler_sources.specs.Parsers
-pub use Rattle.template_names.specs.Names as UsedNames
-pub use Rattle.template_names.specs.Enclosed
-pub use Rattle.template_names_statements.specs.Found
-pub use Rattle.template_names_closures.specs.Closures
-pub use Rattle.template_names_closures.specs.Units
-pub use Rattle.template_process.specs.Process
-pub use Rattle.template_process.specs.Drive
-pub use Rattle.template_process.specs.Whole
-pub use Rattle.template_walk.specs.Constants
-pub use Rattle.template_walk.specs.Expressions as ExpressionWalk
-pub use Rattle.template_walk.specs.Statements as StatementWalk
-pub use Rattle.template_walk.specs.Counting as TreeCounting
-pub use Rattle.template_walk.specs.Runnable
-pub use Rattle.template_walk.specs.Blocks as TemplateBlocks
-pub use Rattle.template_code.specs.Code
-pub use Rattle.template_code.specs.View as CodeView
-pub use Rattle.template_code.specs.Steps
-pub use Rattle.template_code.specs.Counting as CodeCounting
-pub use Rattle.template_code.specs.Prices
-pub use Rattle.template_code.specs.Listing
-pub use Rattle.template_code.specs.Laws as CodeLaws
-pub use Rattle.template_code.specs.Streams as BlockStreams
-pub use Rattle.template_code.specs.References
-pub use Rattle.template_code.specs.Texts
+pub use Rattle.template_compiler_names.specs.Names as UsedNames
+pub use Rattle.template_compiler_names.specs.Enclosed
+pub use Rattle.template_compiler_names_statements.specs.Found
+pub use Rattle.template_compiler_names_closures.specs.Closures
+pub use Rattle.template_compiler_names_closures.specs.Units
+pub use Rattle.template_compiler_process.specs.Process
+pub use Rattle.template_compiler_process.specs.Drive
+pub use Rattle.template_compiler_process.specs.Whole
+pub use Rattle.template_compiler_walk.specs.Constants
+pub use Rattle.template_compiler_walk.specs.Expressions as ExpressionWalk
+pub use Rattle.template_compiler_walk.specs.Statements as StatementWalk
+pub use Rattle.template_compiler_walk.specs.Counting as TreeCounting
+pub use Rattle.template_compiler_walk.specs.Runnable
+pub use Rattle.template_compiler_walk.specs.Blocks as TemplateBlocks
+pub use Rattle.template_compiler_code.specs.Code
+pub use Rattle.template_compiler_code.specs.View as CodeView
+pub use Rattle.template_compiler_code.specs.Steps
+pub use Rattle.template_compiler_code.specs.Counting as CodeCounting
+pub use Rattle.template_compiler_code.specs.Prices
+pub use Rattle.template_compiler_code.specs.Listing
+pub use Rattle.template_compiler_code.specs.Laws as CodeLaws
+pub use Rattle.template_compiler_code.specs.Streams as BlockStreams
+pub use Rattle.template_compiler_code.specs.References
+pub use Rattle.template_compiler_code.specs.Texts
 pub use Rattle.template_compiler_codegen.specs.Core as CodeCore
 pub use Rattle.template_compiler_codegen.specs.Expressions as ExpressionCode
 pub use Rattle.template_compiler_codegen.specs.Statements as StatementCode

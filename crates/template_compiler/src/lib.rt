@@ -50,14 +50,14 @@
 
 pub mod ast;
 
-pub use template_code::{
-    CaptureMode, CompareOp, Instruction, Instructions, LOOP_FLAG_RECURSIVE,
-    LOOP_FLAG_WITH_LOOP_VAR, LocalId, MACRO_CALLER, MAX_LOCALS, buffer_size_hint, code_rises,
-    get_referenced_names,
-};
 pub use template_compiled::{
     CompiledBlock, CompiledExpression, CompiledTemplate, CompiledTemplates, TemplateConfig,
     one_standalone_tree, one_tree, plain_text,
+};
+pub use template_compiler_code::{
+    CaptureMode, CompareOp, Instruction, Instructions, LOOP_FLAG_RECURSIVE,
+    LOOP_FLAG_WITH_LOOP_VAR, LocalId, MACRO_CALLER, MAX_LOCALS, buffer_size_hint, code_rises,
+    get_referenced_names,
 };
 pub use template_compiler_codegen::{
     expressions_perform, macros_perform, rounds_perform, templates_perform,
@@ -68,12 +68,12 @@ pub use template_compiler_generator::{
 };
 pub use template_compiler_grammar::template_laws::{is_decided, one_template, reads_the_grammar};
 pub use template_compiler_laws::{expressions_run, templates_run};
+pub use template_compiler_names_closures::{Unit, find_macro_closure, units, used_names};
+pub use template_compiler_names_statements::{add_undeclared, find_undeclared, first_segments};
 pub use template_compiler_sources::{Parser, error_of, parse, parse_expr, read_expression_tokens};
 pub use template_compiler_statement_codegen::{compile_expr, compile_template};
 pub use template_compiler_stream::{Fault, First, Refusal, TokenStream as ExpressionTokens};
 pub use template_compiler_syntax::{StartMarker, SyntaxConfig, SyntaxConfigBuilder};
 pub use template_compiler_tokenizer::{TokenStream, Tokenizer};
 pub use template_compiler_tokens::{Token, Tokens, one_token};
-pub use template_names_closures::{Unit, find_macro_closure, units, used_names};
-pub use template_names_statements::{add_undeclared, find_undeclared, first_segments};
 pub use template_values_errors::{Error, ErrorKind};

@@ -1,11 +1,11 @@
 -- How many macros and loops stand before a place, and behind a piece that stands there.
 use Rattle.std.proofs.Common.{◌≡◌, ℕ, ◌+◌, suc, List, [], ◌∷◌, ◌++◌, length, take, refl, sym, ap, subst, ◌∙◌, append_assoc, length-append, arith}
 use Rattle.template_values_model.specs.Val.{Val}
-use Rattle.template_process.specs.Process.{Counts, no_counts, counted_together, Process, Below}
-use Rattle.template_walk.specs.Expressions.{Giving}
-use Rattle.template_code.specs.Code.{Operand, single, Code}
-use Rattle.template_code.specs.Counting.{counts_of, counts_in, counts_before}
-use Rattle.template_code.specs.Steps.{exec}
+use Rattle.template_compiler_process.specs.Process.{Counts, no_counts, counted_together, Process, Below}
+use Rattle.template_compiler_walk.specs.Expressions.{Giving}
+use Rattle.template_compiler_code.specs.Code.{Operand, single, Code}
+use Rattle.template_compiler_code.specs.Counting.{counts_of, counts_in, counts_before}
+use Rattle.template_compiler_code.specs.Steps.{exec}
 use Rattle.template_compiler_codegen.specs.Core.{Coded, then_code}
 use Rattle.template_compiler_codegen.proofs.Standing.{StandsAt, first_part, behind_then, stands_first, stands_second}
 use Rattle.template_compiler_codegen.proofs.Plain.{with_none, counts_append}

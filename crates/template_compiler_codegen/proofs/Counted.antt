@@ -1,16 +1,16 @@
 -- The code of statements counts as many macros and loops as the statements do.
 use Rattle.std.proofs.Common.{◌≡◌, ℕ, ◌+◌, suc, Bool, true, false, List, [], ◌∷◌, ◌++◌, length, refl, sym, ap, ◌∙◌}
-use Rattle.template_tree.specs.Tree.{Expression, Expressions, Arguments, Statement, Statements, absent, given, raw, print, for_loop, if_condition, with_block, set, set_block, auto_escape, filter_block, block, from_import, extends, macro, continue_loop, break_loop, do_call, call, no_expressions, no_statements, statements_more}
-use Rattle.template_tree.specs.Tree as tree
-use Rattle.template_process.specs.Process.{Counts, no_counts, counted_together}
-use Rattle.template_names.specs.Names.{reversed}
-use Rattle.template_names.specs.Enclosed.{enclosed_names, uses_caller}
+use Rattle.template_compiler_tree.specs.Tree.{Expression, Expressions, Arguments, Statement, Statements, absent, given, raw, print, for_loop, if_condition, with_block, set, set_block, auto_escape, filter_block, block, from_import, extends, macro, continue_loop, break_loop, do_call, call, no_expressions, no_statements, statements_more}
+use Rattle.template_compiler_tree.specs.Tree as tree
+use Rattle.template_compiler_process.specs.Process.{Counts, no_counts, counted_together}
+use Rattle.template_compiler_names.specs.Names.{reversed}
+use Rattle.template_compiler_names.specs.Enclosed.{enclosed_names, uses_caller}
 use Rattle.template_values_model.specs.Val.{text}
-use Rattle.template_walk.specs.Expressions.{Passing, alone, has_spread, Callee, by_name, by_method, by_block, by_value, callee_of}
-use Rattle.template_walk.specs.Statements.{Printed, prints_value, prints_block, prints_super, prints_rounds, printed_of, imported_names, caller_name}
-use Rattle.template_walk.specs.Counting.{one_macro, loop_counts, macro_counts, caller_counts, counts_by, counts_among}
-use Rattle.template_code.specs.Code.{Code, load_const, jump, jump_if_false, push_with, pop_frame, push_loop, push_did_not_iterate, pop_loop_frame, push_auto_escape, pop_auto_escape, begin_capture, end_capture, emit, store_local, discard_top, call_function, call_method, call_object, build_macro, return}
-use Rattle.template_code.specs.Counting.{counts_of, counts_in}
+use Rattle.template_compiler_walk.specs.Expressions.{Passing, alone, has_spread, Callee, by_name, by_method, by_block, by_value, callee_of}
+use Rattle.template_compiler_walk.specs.Statements.{Printed, prints_value, prints_block, prints_super, prints_rounds, printed_of, imported_names, caller_name}
+use Rattle.template_compiler_walk.specs.Counting.{one_macro, loop_counts, macro_counts, caller_counts, counts_by, counts_among}
+use Rattle.template_compiler_code.specs.Code.{Code, load_const, jump, jump_if_false, push_with, pop_frame, push_loop, push_did_not_iterate, pop_loop_frame, push_auto_escape, pop_auto_escape, begin_capture, end_capture, emit, store_local, discard_top, call_function, call_method, call_object, build_macro, return}
+use Rattle.template_compiler_code.specs.Counting.{counts_of, counts_in}
 use Rattle.template_compiler_codegen.specs.Core.{Coded, then_code, one, nothing, skipped, either_code, Ways, no_ways, own_ways, closing_with, rounds_code, left_by, Core, straight, both, flat}
 use Rattle.template_compiler_codegen.specs.Expressions.{list_count, rest_count, map_count, merged_core, mapped_core, keywords_core, keyword_count, stretches_core, entries_stretches_core, run_core, passed_core, passed_count, called_core, expression_core, object_core, positional_cores, keyword_cores, filters_core}
 use Rattle.template_compiler_codegen.specs.Statements.{target_core, assignments_core, iterable_core, loop_flags, loop_end_code, branches_code, printed_core, apart_core, parameters_core, bodied_core, enclosed_core, made_of_core, macro_flags, declared_core, calling_core, statement_core, statements_core, statement_code, statements_code}

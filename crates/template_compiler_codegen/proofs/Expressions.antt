@@ -1,14 +1,14 @@
 -- The code of an expression performs its walk: over any operands, and from any place.
 use Rattle.std.proofs.Common.{◌≡◌, ℕ, ◌+◌, ◌*◌, ◌≤◌, suc, List, [], ◌∷◌, ◌++◌, length, Option, None, Some, append-nil, refl, sym, ap, subst, ◌∙◌, arith}
 use Rattle.template_values_model.specs.Val.{Val}
-use Rattle.template_process.specs.Process as events
-use Rattle.template_process.specs.Process.{Counts, Ask, truth_of, Process, step, asks, on_done, on_value, on_truth, Below}
-use Rattle.template_process.proofs.Below.{below-step, below-asks_done, below-asks_value, below-asks_truth, below-trans}
-use Rattle.template_walk.specs.Expressions.{folded}
-use Rattle.template_code.specs.Code.{Operand, single, Code, load_const, build_map, build_kwargs, build_list, build_tuple, merge_kwargs, jump, jump_if_false, jump_if_false_or_pop, jump_if_true_or_pop}
-use Rattle.template_code.specs.Counting.{counts_before}
-use Rattle.template_code.specs.Steps.{taken, on_taken, paired, act, exec}
-use Rattle.template_code.proofs.Rising.{exec_more}
+use Rattle.template_compiler_process.specs.Process as events
+use Rattle.template_compiler_process.specs.Process.{Counts, Ask, truth_of, Process, step, asks, on_done, on_value, on_truth, Below}
+use Rattle.template_compiler_process.proofs.Below.{below-step, below-asks_done, below-asks_value, below-asks_truth, below-trans}
+use Rattle.template_compiler_walk.specs.Expressions.{folded}
+use Rattle.template_compiler_code.specs.Code.{Operand, single, Code, load_const, build_map, build_kwargs, build_list, build_tuple, merge_kwargs, jump, jump_if_false, jump_if_false_or_pop, jump_if_true_or_pop}
+use Rattle.template_compiler_code.specs.Counting.{counts_before}
+use Rattle.template_compiler_code.specs.Steps.{taken, on_taken, paired, act, exec}
+use Rattle.template_compiler_code.proofs.Rising.{exec_more}
 use Rattle.template_compiler_codegen.specs.Expressions.{Coded, then_code, one, loaded, skipped, either_code}
 use Rattle.template_compiler_codegen.proofs.Standing.{StandsAt, behind_one, instruction_at, below_at, behind_then, stands_first, stands_second, stands_either, behind_either}
 

@@ -1,12 +1,12 @@
 -- The code of the filters of a block performs their walk, over the text that they are handed.
 use Rattle.std.proofs.Common.{ℕ, ◌+◌, List, ◌∷◌, length, refl}
 use Rattle.template_values_model.specs.Val.{Val}
-use Rattle.template_tree.specs.Tree.{Expression, Arguments, filtered, absent, given}
-use Rattle.template_process.specs.Process as events
-use Rattle.template_process.specs.Process.{Process}
-use Rattle.template_process.proofs.Below.{below-cut_short}
-use Rattle.template_walk.specs.Expressions.{Giving, passed_walk, positional_walks, keyword_walks, filter_walk, filters_walk}
-use Rattle.template_code.specs.Code.{single, apply_filter}
+use Rattle.template_compiler_tree.specs.Tree.{Expression, Arguments, filtered, absent, given}
+use Rattle.template_compiler_process.specs.Process as events
+use Rattle.template_compiler_process.specs.Process.{Process}
+use Rattle.template_compiler_process.proofs.Below.{below-cut_short}
+use Rattle.template_compiler_walk.specs.Expressions.{Giving, passed_walk, positional_walks, keyword_walks, filter_walk, filters_walk}
+use Rattle.template_compiler_code.specs.Code.{single, apply_filter}
 use Rattle.template_compiler_codegen.specs.Core.{no_ways, flat}
 use Rattle.template_compiler_codegen.specs.Expressions.{Coded, then_code, no_number, passed_count, passed_core, positional_cores, keyword_cores, filter_code, filters_code}
 use Rattle.template_compiler_codegen.proofs.Standing.{behind_then, stands_first, stands_second}

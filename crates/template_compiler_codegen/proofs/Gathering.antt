@@ -1,15 +1,15 @@
 -- What a loop goes over: the value of an expression, or the list of those of its items that a condition keeps.
 use Rattle.std.proofs.Common.{◌≡◌, ℕ, ◌+◌, zero, suc, List, [], ◌∷◌, ◌++◌, length, None, refl, sym, ◌∙◌, length-append, arith}
 use Rattle.template_values_model.specs.Val.{Val}
-use Rattle.template_tree.specs.declared.operators.BinOpKind.TheVariants.{Add}
-use Rattle.template_tree.specs.Tree.{Expression, Optional, absent, given}
-use Rattle.template_process.specs.Process as events
-use Rattle.template_process.specs.Process.{truth_of, spread, open_loop, next_item, close_loop, Process, step, asks, on_done, on_value, on_item, on_all, truth_asked, Below}
-use Rattle.template_process.proofs.Below.{below-cut_short, below-step, below-asks_item, below-asks_all}
-use Rattle.template_walk.specs.Expressions.{expression_walk}
-use Rattle.template_walk.specs.Statements.{target_walk, nameless_loop, kept_rounds, sifting, iterable_walk}
-use Rattle.template_code.specs.Code.{Operand, single, counted, counting, Code, load_const, build_list, unpack_lists, operate, swap, dup_top, discard_top, jump, jump_if_false, push_loop, iterate, pop_loop_frame}
-use Rattle.template_code.specs.Steps.{exec}
+use Rattle.template_compiler_tree.specs.declared.operators.BinOpKind.TheVariants.{Add}
+use Rattle.template_compiler_tree.specs.Tree.{Expression, Optional, absent, given}
+use Rattle.template_compiler_process.specs.Process as events
+use Rattle.template_compiler_process.specs.Process.{truth_of, spread, open_loop, next_item, close_loop, Process, step, asks, on_done, on_value, on_item, on_all, truth_asked, Below}
+use Rattle.template_compiler_process.proofs.Below.{below-cut_short, below-step, below-asks_item, below-asks_all}
+use Rattle.template_compiler_walk.specs.Expressions.{expression_walk}
+use Rattle.template_compiler_walk.specs.Statements.{target_walk, nameless_loop, kept_rounds, sifting, iterable_walk}
+use Rattle.template_compiler_code.specs.Code.{Operand, single, counted, counting, Code, load_const, build_list, unpack_lists, operate, swap, dup_top, discard_top, jump, jump_if_false, push_loop, iterate, pop_loop_frame}
+use Rattle.template_compiler_code.specs.Steps.{exec}
 use Rattle.template_compiler_codegen.specs.Expressions.{Coded, then_code, one, either_code, expression_code}
 use Rattle.template_compiler_codegen.specs.Statements.{target_code, no_flags, one_item, keep_code, kept_code, iterable_code}
 use Rattle.template_compiler_codegen.proofs.Standing.{StandsAt, behind_one, instruction_at, below_at, behind_then, stands_first, stands_second, first_part, last_part, stands_either, behind_either}

@@ -1,11 +1,11 @@
 -- Values that stand on the operands in turn, the last one on top, are stored where imported names are.
 use Rattle.std.proofs.Common.{◌≡◌, ℕ, ◌+◌, suc, List, [], ◌∷◌, length, arith}
 use Rattle.template_values_model.specs.Val.{Val}
-use Rattle.template_tree.specs.Tree.{Imports, no_imports, imports_more}
-use Rattle.template_process.specs.Process.{Process, Below}
-use Rattle.template_walk.specs.Statements.{number_of, target_walk, imported_names, stored_as, imports_stored}
-use Rattle.template_code.specs.Code.{Operand, single, Code}
-use Rattle.template_code.specs.Steps.{exec}
+use Rattle.template_compiler_tree.specs.Tree.{Imports, no_imports, imports_more}
+use Rattle.template_compiler_process.specs.Process.{Process, Below}
+use Rattle.template_compiler_walk.specs.Statements.{number_of, target_walk, imported_names, stored_as, imports_stored}
+use Rattle.template_compiler_code.specs.Code.{Operand, single, Code}
+use Rattle.template_compiler_code.specs.Steps.{exec}
 use Rattle.template_compiler_codegen.specs.Core.{no_ways, flat}
 use Rattle.template_compiler_codegen.specs.Expressions.{Coded, then_code, nothing}
 use Rattle.template_compiler_codegen.specs.Statements.{target_code, imports_core}

@@ -1,7 +1,7 @@
 -- How long the code of a core is does not depend on where `break` and `continue` lead.
 use Rattle.std.proofs.Common.{◌≡◌, ℕ, ◌+◌, suc, Bool, true, false, List, ◌∷◌, [], length, refl, ap, ◌∙◌, length-append, arith}
-use Rattle.template_tree.specs.Tree.{Statements}
-use Rattle.template_code.specs.Code.{Code, jump}
+use Rattle.template_compiler_tree.specs.Tree.{Statements}
+use Rattle.template_compiler_code.specs.Code.{Code, jump}
 use Rattle.template_compiler_codegen.specs.Core.{Coded, then_code, either_code, Ways, closing_with, left_by, choose, Core, both, leaping, either, within, leave, chosen, flat}
 use Rattle.template_compiler_codegen.specs.Statements.{statements_core, statements_code}
 

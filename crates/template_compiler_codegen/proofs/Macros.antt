@@ -3,17 +3,17 @@ use Rattle.std.proofs.Common.{◌≡◌, ℕ, ◌+◌, ◌≤◌, ◌<◌, suc, 
 use Rattle.template_values_model.specs.Val as values
 use Rattle.template_values_model.specs.Val.{Val, list, vals_of}
 use Rattle.template_values_operators.specs.Kinds as kinds
-use Rattle.template_tree.specs.Tree.{Expression, Optional, Expressions, Statement, Statements, absent, given, raw, print, for_loop, if_condition, with_block, set, set_block, auto_escape, filter_block, block, from_import, extends, macro, continue_loop, break_loop, do_call, no_expressions, expressions_more, no_statements, statements_more}
-use Rattle.template_tree.specs.Tree as tree
-use Rattle.template_process.specs.Process.{Counts, no_counts, counted_together, truth_of, Process, over, step, asks, on_truth, Below}
-use Rattle.template_process.proofs.Below.{below-cut_short, below-over, below-step}
-use Rattle.template_names.specs.Names.{reversed}
-use Rattle.template_walk.specs.Expressions.{expression_walk, Callee, by_name, by_method, by_block, by_value, callee_of}
-use Rattle.template_walk.specs.Counting.{loop_counts, macro_counts, caller_counts, counts_by, counts_among, MacroBody, below_or, within_caller, macro_by, macro_among}
-use Rattle.template_walk.specs.Statements.{number_of, target_walk, statements_walk, outside, name_texts, first_of, rest_of, argument_walk, arguments_walk, macro_walk, caller_name}
-use Rattle.template_code.specs.Code.{Operand, single, Code, load_const, build_macro, dup_top, is_undefined, discard_top, jump_if_false, push_with, push_loop, emit, store_local, push_auto_escape, pop_frame, pop_auto_escape, return}
-use Rattle.template_code.specs.Counting.{counts_in, macro_from, macro_at}
-use Rattle.template_code.specs.Steps.{exec}
+use Rattle.template_compiler_tree.specs.Tree.{Expression, Optional, Expressions, Statement, Statements, absent, given, raw, print, for_loop, if_condition, with_block, set, set_block, auto_escape, filter_block, block, from_import, extends, macro, continue_loop, break_loop, do_call, no_expressions, expressions_more, no_statements, statements_more}
+use Rattle.template_compiler_tree.specs.Tree as tree
+use Rattle.template_compiler_process.specs.Process.{Counts, no_counts, counted_together, truth_of, Process, over, step, asks, on_truth, Below}
+use Rattle.template_compiler_process.proofs.Below.{below-cut_short, below-over, below-step}
+use Rattle.template_compiler_names.specs.Names.{reversed}
+use Rattle.template_compiler_walk.specs.Expressions.{expression_walk, Callee, by_name, by_method, by_block, by_value, callee_of}
+use Rattle.template_compiler_walk.specs.Counting.{loop_counts, macro_counts, caller_counts, counts_by, counts_among, MacroBody, below_or, within_caller, macro_by, macro_among}
+use Rattle.template_compiler_walk.specs.Statements.{number_of, target_walk, statements_walk, outside, name_texts, first_of, rest_of, argument_walk, arguments_walk, macro_walk, caller_name}
+use Rattle.template_compiler_code.specs.Code.{Operand, single, Code, load_const, build_macro, dup_top, is_undefined, discard_top, jump_if_false, push_with, push_loop, emit, store_local, push_auto_escape, pop_frame, pop_auto_escape, return}
+use Rattle.template_compiler_code.specs.Counting.{counts_in, macro_from, macro_at}
+use Rattle.template_compiler_code.specs.Steps.{exec}
 use Rattle.template_compiler_codegen.specs.Core.{then_code, one, skipped, Ways, no_ways, own_ways, closing_with, rounds_code, flat}
 use Rattle.template_compiler_codegen.specs.Expressions.{expression_core, object_core, positional_cores, keyword_cores, expression_code, filters_core}
 use Rattle.template_compiler_codegen.specs.Statements.{target_code, assignments_core, iterable_core, loop_flags, loop_end_code, branches_code, parameter_core, parameters_core, declared_core, calling_core, statements_core, statement_code, statements_code, template_code}

@@ -1,9 +1,9 @@
 -- Macros and loops in code, by their numbers.
 use Rattle.std.proofs.Common.{◌≡◌, ℕ, ◌+◌, ◌-◌, ◌≤◌, ◌<◌, suc, Bool, true, false, if◌then◌else◌, List, [], ◌∷◌, ◌++◌, length, Option, None, Some, unwrap_or, nat_lt, refl, sym, ap, ◌∙◌, arith}
 use Rattle.std.proofs.lemmas.Bool.Decides.{Decides-ltb, nat_tests}
-use Rattle.template_walk.specs.Counting.{below_or}
-use Rattle.template_code.specs.Code.{Code, push_loop, build_macro}
-use Rattle.template_code.specs.Counting.{counts_of, counts_in, MacroPlace, offset_of, names_listed, macro_from, rounds_from}
+use Rattle.template_compiler_walk.specs.Counting.{below_or}
+use Rattle.template_compiler_code.specs.Code.{Code, push_loop, build_macro}
+use Rattle.template_compiler_code.specs.Counting.{counts_of, counts_in, MacroPlace, offset_of, names_listed, macro_from, rounds_from}
 
 pub is_below : (a b : ℕ) → a < b → nat_lt a b ≡ true
 is_below a b h = (Decides-ltb a b).1 h

@@ -1,15 +1,15 @@
 -- Where the bodies of statements stand in their code, and how many macros and loops stand before them.
 use Rattle.std.proofs.Common.{◌≡◌, ℕ, ◌+◌, suc, true, List, [], ◌∷◌, ◌++◌, length, refl, sym, ap, subst, ◌∙◌, append_assoc, length-append, arith}
 use Rattle.template_values_model.specs.Val.{list, vals_of, text}
-use Rattle.template_tree.specs.Tree.{Expression, Expressions, Statements, no_expressions, no_statements, statements_more}
-use Rattle.template_process.specs.Process.{Counts, no_counts, counted_together}
-use Rattle.template_names.specs.Names.{reversed}
-use Rattle.template_names.specs.Enclosed.{enclosed_names, uses_caller}
-use Rattle.template_walk.specs.Expressions.{Passing, alone, has_spread, Callee, by_name, by_method, by_block, by_value}
-use Rattle.template_walk.specs.Counting.{counts_among}
-use Rattle.template_walk.specs.Statements.{name_texts}
-use Rattle.template_code.specs.Code.{Code, load_const, jump, jump_if_false, push_did_not_iterate, pop_loop_frame, iterate, build_macro, get_closure, return, begin_capture, end_capture, discard_top, call_function, call_method, call_object}
-use Rattle.template_code.specs.Counting.{counts_in, counts_before}
+use Rattle.template_compiler_tree.specs.Tree.{Expression, Expressions, Statements, no_expressions, no_statements, statements_more}
+use Rattle.template_compiler_process.specs.Process.{Counts, no_counts, counted_together}
+use Rattle.template_compiler_names.specs.Names.{reversed}
+use Rattle.template_compiler_names.specs.Enclosed.{enclosed_names, uses_caller}
+use Rattle.template_compiler_walk.specs.Expressions.{Passing, alone, has_spread, Callee, by_name, by_method, by_block, by_value}
+use Rattle.template_compiler_walk.specs.Counting.{counts_among}
+use Rattle.template_compiler_walk.specs.Statements.{name_texts}
+use Rattle.template_compiler_code.specs.Code.{Code, load_const, jump, jump_if_false, push_did_not_iterate, pop_loop_frame, iterate, build_macro, get_closure, return, begin_capture, end_capture, discard_top, call_function, call_method, call_object}
+use Rattle.template_compiler_code.specs.Counting.{counts_in, counts_before}
 use Rattle.template_compiler_codegen.specs.Core.{Coded, then_code, one, nothing, skipped, Ways, no_ways, own_ways, closing_with, rounds_code, Core, flat}
 use Rattle.template_compiler_codegen.specs.Expressions.{list_count, rest_count, map_count, merged_core, mapped_core, keywords_core, keyword_count, stretches_core, entries_stretches_core, run_core, passed_core, passed_count, called_core}
 use Rattle.template_compiler_codegen.specs.Statements.{target_core, loop_end_code, branches_code, parameters_core, bodied_core, enclosed_core, made_of_core, macro_flags, declared_core, statements_core, statements_code}

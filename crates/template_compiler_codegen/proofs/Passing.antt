@@ -1,13 +1,13 @@
 -- The code of arguments performs their walk: it leaves the values that are passed, or all of them as one counted run.
 use Rattle.std.proofs.Common.{◌≡◌, ℕ, ◌+◌, zero, suc, Bool, true, false, if◌then◌else◌, List, [], ◌∷◌, ◌++◌, length, length-append, Option, None, Some, refl, sym, ap, subst, ◌∙◌, arith}
 use Rattle.template_values_model.specs.Val.{Val, text}
-use Rattle.template_process.specs.Process as events
-use Rattle.template_process.specs.Process.{Counts, Ask, Process, step, asks, on_value, on_all, spread, Below}
-use Rattle.template_process.proofs.Below.{below-step, below-asks_all}
-use Rattle.template_walk.specs.Expressions.{Giving, Passing, alone, spreads, has_spread, listed, stretches_walk, mapped, entries_stretches, merged_if, keywords_walk, run_if, passed_walk}
-use Rattle.template_code.specs.Code.{Operand, single, counted, Code, build_kwargs, build_list, merge_kwargs, unpack_lists, load_const}
-use Rattle.template_code.specs.Counting.{counts_before}
-use Rattle.template_code.specs.Steps.{taken, handed, on_taken, act, exec}
+use Rattle.template_compiler_process.specs.Process as events
+use Rattle.template_compiler_process.specs.Process.{Counts, Ask, Process, step, asks, on_value, on_all, spread, Below}
+use Rattle.template_compiler_process.proofs.Below.{below-step, below-asks_all}
+use Rattle.template_compiler_walk.specs.Expressions.{Giving, Passing, alone, spreads, has_spread, listed, stretches_walk, mapped, entries_stretches, merged_if, keywords_walk, run_if, passed_walk}
+use Rattle.template_compiler_code.specs.Code.{Operand, single, counted, Code, build_kwargs, build_list, merge_kwargs, unpack_lists, load_const}
+use Rattle.template_compiler_code.specs.Counting.{counts_before}
+use Rattle.template_compiler_code.specs.Steps.{taken, handed, on_taken, act, exec}
 use Rattle.template_compiler_codegen.specs.Core.{Core, no_ways, flat}
 use Rattle.template_compiler_codegen.specs.Expressions.{Coded, then_code, one, nothing, listed_core, mapped_core, at_most_one, stretches_core, entries_stretches_core, list_count, rest_count, merged_core, merged_count, map_count, keywords_core, keyword_count, run_core, passed_core, passed_count}
 use Rattle.template_compiler_codegen.proofs.Standing.{StandsAt, instruction_at, below_at, behind_then, stands_first, stands_second}

@@ -1,22 +1,22 @@
 -- The code of each expression performs its walk.
 use Rattle.std.proofs.Common.{◌≡◌, ℕ, ◌+◌, suc, true, List, [], ◌∷◌, length, Some, refl, sym, ap, subst, ◌∙◌, arith}
 use Rattle.template_values_model.specs.Val.{Val, silent_undefined, none}
-use Rattle.template_tree.specs.declared.operators.UnaryOpKind.{UnaryOpKind}
-use Rattle.template_tree.specs.declared.operators.UnaryOpKind.TheVariants.{Not, Neg}
-use Rattle.template_tree.specs.declared.operators.BinOpKind.{BinOpKind}
-use Rattle.template_tree.specs.declared.operators.BinOpKind.TheVariants.{ScAnd, ScOr}
-use Rattle.template_tree.specs.declared.operators.CompareOpKind.{CompareOpKind}
-use Rattle.template_tree.specs.Tree.{Expression, Optional, Expressions, Links, Arguments, variable, constant, unary, binary, chain, conditional, attribute, item, call, filtered, tested, list_literal, tuple_literal, map_literal, absent, given, no_expressions, expressions_more, no_links, links_more, no_arguments, arguments_more, positional, keyword, positional_spread, keyword_spread}
-use Rattle.template_tree.specs.Tree as tree
-use Rattle.template_process.specs.Process as events
-use Rattle.template_process.specs.Process.{Counts, Ask, truth_of, Process, step, asks, cut_short, on_done, on_value, on_truth, Below}
-use Rattle.template_process.proofs.Below.{below-cut_short, below-step}
-use Rattle.template_walk.specs.Constants.{constant_of}
-use Rattle.template_walk.specs.Statements.{number_of}
-use Rattle.template_walk.specs.Expressions.{unary_ask, binary_walk, Giving, Passing, has_spread, passed_walk, Callee, by_name, by_method, by_block, by_value, callee_of, block_walk, called_walk, expression_walk, object_walk, positional_walks, keyword_walks, optional_walk, expressions_walk, walks_of, entries_walk, chain_walk, linked_walk}
-use Rattle.template_code.specs.Code.{Operand, single, Code, lookup, get_attr, get_item, slice, build_map, build_list, build_tuple, call_function, call_method, call_object, call_block, apply_filter, perform_test, begin_capture, end_capture, operate, negate, invert, compare_and_preserve, swap, discard_top, jump_if_false_or_pop}
-use Rattle.template_code.specs.Counting.{counts_before}
-use Rattle.template_code.specs.Steps.{handed, on_taken, act, exec}
+use Rattle.template_compiler_tree.specs.declared.operators.UnaryOpKind.{UnaryOpKind}
+use Rattle.template_compiler_tree.specs.declared.operators.UnaryOpKind.TheVariants.{Not, Neg}
+use Rattle.template_compiler_tree.specs.declared.operators.BinOpKind.{BinOpKind}
+use Rattle.template_compiler_tree.specs.declared.operators.BinOpKind.TheVariants.{ScAnd, ScOr}
+use Rattle.template_compiler_tree.specs.declared.operators.CompareOpKind.{CompareOpKind}
+use Rattle.template_compiler_tree.specs.Tree.{Expression, Optional, Expressions, Links, Arguments, variable, constant, unary, binary, chain, conditional, attribute, item, call, filtered, tested, list_literal, tuple_literal, map_literal, absent, given, no_expressions, expressions_more, no_links, links_more, no_arguments, arguments_more, positional, keyword, positional_spread, keyword_spread}
+use Rattle.template_compiler_tree.specs.Tree as tree
+use Rattle.template_compiler_process.specs.Process as events
+use Rattle.template_compiler_process.specs.Process.{Counts, Ask, truth_of, Process, step, asks, cut_short, on_done, on_value, on_truth, Below}
+use Rattle.template_compiler_process.proofs.Below.{below-cut_short, below-step}
+use Rattle.template_compiler_walk.specs.Constants.{constant_of}
+use Rattle.template_compiler_walk.specs.Statements.{number_of}
+use Rattle.template_compiler_walk.specs.Expressions.{unary_ask, binary_walk, Giving, Passing, has_spread, passed_walk, Callee, by_name, by_method, by_block, by_value, callee_of, block_walk, called_walk, expression_walk, object_walk, positional_walks, keyword_walks, optional_walk, expressions_walk, walks_of, entries_walk, chain_walk, linked_walk}
+use Rattle.template_compiler_code.specs.Code.{Operand, single, Code, lookup, get_attr, get_item, slice, build_map, build_list, build_tuple, call_function, call_method, call_object, call_block, apply_filter, perform_test, begin_capture, end_capture, operate, negate, invert, compare_and_preserve, swap, discard_top, jump_if_false_or_pop}
+use Rattle.template_compiler_code.specs.Counting.{counts_before}
+use Rattle.template_compiler_code.specs.Steps.{handed, on_taken, act, exec}
 use Rattle.template_compiler_codegen.specs.Core.{Core, no_ways, flat}
 use Rattle.template_compiler_codegen.specs.Expressions.{Coded, then_code, one, nothing, dropped, skipped, either_code, unary_code, binary_code, called_core, no_number, passed_count, passed_core, expression_core, object_core, positional_cores, keyword_cores, expression_code, optional_code, expressions_code, codes_of, entry_count, entries_code, chain_code, linked_code}
 use Rattle.template_compiler_codegen.proofs.Standing.{StandsAt, behind_one, instruction_at, below_at, behind_then, stands_first, stands_second}

@@ -2,15 +2,15 @@
 -- statement stands in.
 use Rattle.std.proofs.Common.{◌≡◌, ℕ, ◌+◌, zero, suc, Bool, true, false, List, [], ◌∷◌, ◌++◌, length, Option, None, Some, refl, sym, ap, ◌∙◌, arith}
 use Rattle.template_values_model.specs.Val.{Val}
-use Rattle.template_tree.specs.declared.operators.UnaryOpKind.{UnaryOpKind}
-use Rattle.template_tree.specs.declared.operators.UnaryOpKind.TheVariants.{Not, Neg}
-use Rattle.template_tree.specs.Tree.{Expression, Optional, Expressions, Links, Arguments, Assignments, Imports, variable, constant, unary, binary, chain, conditional, attribute, item, call, filtered, tested, list_literal, tuple_literal, map_literal, absent, given, no_expressions, expressions_more, no_links, links_more, no_arguments, arguments_more, positional, keyword, positional_spread, keyword_spread, no_assignments, assignments_more, no_imports, imports_more}
-use Rattle.template_tree.specs.Tree as tree
-use Rattle.template_process.specs.Process.{Counts, no_counts, counted_together}
-use Rattle.template_walk.specs.Expressions.{Passing, alone, spreads, has_spread, Callee, by_name, by_method, by_block, by_value, callee_of}
-use Rattle.template_walk.specs.Statements.{stored_as, first_of, rest_of}
-use Rattle.template_code.specs.Code.{Code, jump}
-use Rattle.template_code.specs.Counting.{counts_of, counts_in}
+use Rattle.template_compiler_tree.specs.declared.operators.UnaryOpKind.{UnaryOpKind}
+use Rattle.template_compiler_tree.specs.declared.operators.UnaryOpKind.TheVariants.{Not, Neg}
+use Rattle.template_compiler_tree.specs.Tree.{Expression, Optional, Expressions, Links, Arguments, Assignments, Imports, variable, constant, unary, binary, chain, conditional, attribute, item, call, filtered, tested, list_literal, tuple_literal, map_literal, absent, given, no_expressions, expressions_more, no_links, links_more, no_arguments, arguments_more, positional, keyword, positional_spread, keyword_spread, no_assignments, assignments_more, no_imports, imports_more}
+use Rattle.template_compiler_tree.specs.Tree as tree
+use Rattle.template_compiler_process.specs.Process.{Counts, no_counts, counted_together}
+use Rattle.template_compiler_walk.specs.Expressions.{Passing, alone, spreads, has_spread, Callee, by_name, by_method, by_block, by_value, callee_of}
+use Rattle.template_compiler_walk.specs.Statements.{stored_as, first_of, rest_of}
+use Rattle.template_compiler_code.specs.Code.{Code, jump}
+use Rattle.template_compiler_code.specs.Counting.{counts_of, counts_in}
 use Rattle.template_compiler_codegen.specs.Core.{Coded, then_code, Core, empty, straight, both, leaping, either, rounds, sealed, loading, chosen, Ways, own_ways, no_ways, flat}
 use Rattle.template_compiler_codegen.specs.Expressions.{unary_code, listed_core, mapped_core, stretches_core, entries_stretches_core, list_count, rest_count, map_count, merged_core, keyword_count, run_core, keywords_core, passed_core, called_core, expression_core, object_core, positional_cores, keyword_cores, optional_core, expressions_core, codes_of, entries_core, chain_core, linked_core, filter_core, filters_core}
 use Rattle.template_compiler_codegen.specs.Statements.{target_core, targets_core, assignments_core, iterable_core, imports_core, parameter_core, parameters_core}

@@ -1,16 +1,16 @@
 -- The rounds of a loop that may be called again are found by its number in the code, where they perform their walk.
 use Rattle.std.proofs.Common.{◌≡◌, ℕ, ◌+◌, ◌≤◌, suc, Bool, true, false, List, [], ◌∷◌, length, Option, Some, ◌==◌, if◌then◌else◌, refl, sym, ap, subst, ◌∙◌, arith}
 use Rattle.std.proofs.lemmas.Bool.Decides.{nat_tests}
-use Rattle.template_tree.specs.Tree.{Expression, Statement, Statements, absent, given, raw, print, for_loop, if_condition, with_block, set, set_block, auto_escape, filter_block, block, from_import, extends, macro, continue_loop, break_loop, do_call, no_statements, statements_more}
-use Rattle.template_tree.specs.Tree as tree
-use Rattle.template_process.specs.Process.{Counts, no_counts, counted_together, Process, cut_short, Below}
-use Rattle.template_process.proofs.Below.{below-cut_short}
-use Rattle.template_walk.specs.Expressions.{Callee, by_name, by_method, by_block, by_value, callee_of}
-use Rattle.template_walk.specs.Counting.{loop_counts, counts_by, counts_among, LoopRounds, below_or, within_caller, rounds_or, rounds_by, rounds_among}
-use Rattle.template_walk.specs.Statements.{statements_walk, outside, loop_end, rounds_walk, caller_name}
-use Rattle.template_code.specs.Code.{Code, push_with, push_loop, emit, store_local, push_auto_escape, pop_frame, pop_auto_escape}
-use Rattle.template_code.specs.Counting.{counts_before, rounds_from, rounds_at}
-use Rattle.template_code.specs.Steps.{exec}
+use Rattle.template_compiler_tree.specs.Tree.{Expression, Statement, Statements, absent, given, raw, print, for_loop, if_condition, with_block, set, set_block, auto_escape, filter_block, block, from_import, extends, macro, continue_loop, break_loop, do_call, no_statements, statements_more}
+use Rattle.template_compiler_tree.specs.Tree as tree
+use Rattle.template_compiler_process.specs.Process.{Counts, no_counts, counted_together, Process, cut_short, Below}
+use Rattle.template_compiler_process.proofs.Below.{below-cut_short}
+use Rattle.template_compiler_walk.specs.Expressions.{Callee, by_name, by_method, by_block, by_value, callee_of}
+use Rattle.template_compiler_walk.specs.Counting.{loop_counts, counts_by, counts_among, LoopRounds, below_or, within_caller, rounds_or, rounds_by, rounds_among}
+use Rattle.template_compiler_walk.specs.Statements.{statements_walk, outside, loop_end, rounds_walk, caller_name}
+use Rattle.template_compiler_code.specs.Code.{Code, push_with, push_loop, emit, store_local, push_auto_escape, pop_frame, pop_auto_escape}
+use Rattle.template_compiler_code.specs.Counting.{counts_before, rounds_from, rounds_at}
+use Rattle.template_compiler_code.specs.Steps.{exec}
 use Rattle.template_compiler_codegen.specs.Core.{then_code, one, Ways, no_ways, own_ways, closing_with, rounds_code, flat}
 use Rattle.template_compiler_codegen.specs.Expressions.{expression_core, object_core, positional_cores, keyword_cores, filters_core}
 use Rattle.template_compiler_codegen.specs.Statements.{target_code, assignments_core, iterable_core, loop_flags, loop_end_code, branches_code, declared_core, calling_core, statements_core, statement_code, statements_code, template_code}

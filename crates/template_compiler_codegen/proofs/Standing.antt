@@ -1,9 +1,9 @@
 -- Pieces of code, and where they stand in the whole.
 use Rattle.std.proofs.Common.{◌≡◌, ℕ, ◌+◌, suc, List, [], ◌∷◌, ◌++◌, length, Some, slice_get, refl, sym, ap, subst, ◌∙◌, append_assoc, length-append, arith}
-use Rattle.template_process.specs.Process.{Process, Below}
-use Rattle.template_code.specs.Code.{Operand, Code, jump, jump_if_false}
-use Rattle.template_code.specs.Counting.{counts_before}
-use Rattle.template_code.specs.Steps.{act, exec}
+use Rattle.template_compiler_process.specs.Process.{Process, Below}
+use Rattle.template_compiler_code.specs.Code.{Operand, Code, jump, jump_if_false}
+use Rattle.template_compiler_code.specs.Counting.{counts_before}
+use Rattle.template_compiler_code.specs.Steps.{act, exec}
 use Rattle.template_compiler_codegen.specs.Expressions.{Coded, then_code, either_code}
 
 -- the piece stands in the code at the place

@@ -1,18 +1,18 @@
 -- The code of each statement performs its walk: from any place, over any operands, with any ways out.
 use Rattle.std.proofs.Common.{◌≡◌, ℕ, ◌+◌, ◌≤◌, zero, suc, Bool, true, false, List, [], ◌∷◌, ◌++◌, length, Option, Some, refl, sym, ap, subst, ◌∙◌, append_assoc, length-append, arith}
 use Rattle.template_values_model.specs.Val.{Val, list, vals_of, items_of}
-use Rattle.template_tree.specs.Tree.{Expression, Statement, Statements, Assignments, absent, given, keyword, keyword_spread, no_arguments, arguments_more, raw, print, for_loop, if_condition, with_block, set, set_block, auto_escape, filter_block, block, from_import, extends, macro, call, Arguments, Expressions, Imports, continue_loop, break_loop, do_call, no_statements, statements_more, no_assignments, assignments_more}
-use Rattle.template_tree.specs.Tree as tree
-use Rattle.template_process.specs.Process as events
-use Rattle.template_process.specs.Process.{Counts, no_counts, counted_together, Making, Ask, truth_of, store, write_raw, write_value, open_frame, close_frame, Looping, open_loop, next_item, did_not_iterate, close_loop, open_escape, close_escape, super_block, recurse, Process, step, asks, on_done, on_value, on_truth, on_item, on_closure, value_asked, Below}
-use Rattle.template_process.proofs.Below.{below-cut_short, below-step, below-asks_value, below-asks_item, below-asks_closure}
-use Rattle.template_names.specs.Enclosed.{enclosed_names, uses_caller}
-use Rattle.template_walk.specs.Expressions.{Giving, Passing, alone, spreads, has_spread, callee_of, expression_walk, object_walk, positional_walks, keyword_walks, expressions_walk, filters_walk}
-use Rattle.template_walk.specs.Counting.{loop_counts, counts_by, counts_among}
-use Rattle.template_walk.specs.Statements.{Exits, closing, capture_left, capturing, target_walk, assignments_walk, rounds, iterable_walk, loop_end, looping_behind, Printed, prints_value, prints_block, prints_super, prints_rounds, printed_of, printed_walk, imported_names, imports_stored, apart, past, name_texts, making_of, enclosed_walk, declared_walk, caller_name, calling_walk, statement_walk, statements_walk}
-use Rattle.template_code.specs.Code.{Operand, single, closure, Code, store_local, load_const, enclose, get_closure, build_macro, fast_recurse, return, emit_raw, emit, discard_top, jump, jump_if_false, push_with, pop_frame, push_loop, iterate, push_did_not_iterate, pop_loop_frame, push_auto_escape, pop_auto_escape, begin_capture, end_capture, fast_super, call_block, load_blocks, include, export_locals}
-use Rattle.template_code.specs.Counting.{counts_of, counts_in, counts_before, looping, making, takes_caller}
-use Rattle.template_code.specs.Steps.{act, exec}
+use Rattle.template_compiler_tree.specs.Tree.{Expression, Statement, Statements, Assignments, absent, given, keyword, keyword_spread, no_arguments, arguments_more, raw, print, for_loop, if_condition, with_block, set, set_block, auto_escape, filter_block, block, from_import, extends, macro, call, Arguments, Expressions, Imports, continue_loop, break_loop, do_call, no_statements, statements_more, no_assignments, assignments_more}
+use Rattle.template_compiler_tree.specs.Tree as tree
+use Rattle.template_compiler_process.specs.Process as events
+use Rattle.template_compiler_process.specs.Process.{Counts, no_counts, counted_together, Making, Ask, truth_of, store, write_raw, write_value, open_frame, close_frame, Looping, open_loop, next_item, did_not_iterate, close_loop, open_escape, close_escape, super_block, recurse, Process, step, asks, on_done, on_value, on_truth, on_item, on_closure, value_asked, Below}
+use Rattle.template_compiler_process.proofs.Below.{below-cut_short, below-step, below-asks_value, below-asks_item, below-asks_closure}
+use Rattle.template_compiler_names.specs.Enclosed.{enclosed_names, uses_caller}
+use Rattle.template_compiler_walk.specs.Expressions.{Giving, Passing, alone, spreads, has_spread, callee_of, expression_walk, object_walk, positional_walks, keyword_walks, expressions_walk, filters_walk}
+use Rattle.template_compiler_walk.specs.Counting.{loop_counts, counts_by, counts_among}
+use Rattle.template_compiler_walk.specs.Statements.{Exits, closing, capture_left, capturing, target_walk, assignments_walk, rounds, iterable_walk, loop_end, looping_behind, Printed, prints_value, prints_block, prints_super, prints_rounds, printed_of, printed_walk, imported_names, imports_stored, apart, past, name_texts, making_of, enclosed_walk, declared_walk, caller_name, calling_walk, statement_walk, statements_walk}
+use Rattle.template_compiler_code.specs.Code.{Operand, single, closure, Code, store_local, load_const, enclose, get_closure, build_macro, fast_recurse, return, emit_raw, emit, discard_top, jump, jump_if_false, push_with, pop_frame, push_loop, iterate, push_did_not_iterate, pop_loop_frame, push_auto_escape, pop_auto_escape, begin_capture, end_capture, fast_super, call_block, load_blocks, include, export_locals}
+use Rattle.template_compiler_code.specs.Counting.{counts_of, counts_in, counts_before, looping, making, takes_caller}
+use Rattle.template_compiler_code.specs.Steps.{act, exec}
 use Rattle.template_compiler_codegen.specs.Core.{Core, flat}
 use Rattle.template_compiler_codegen.specs.Expressions.{Coded, then_code, one, nothing, skipped, either_code, expression_core, object_core, positional_cores, keyword_cores, expression_code, expressions_code, filters_code}
 use Rattle.template_compiler_codegen.specs.Statements.{Ways, no_ways, own_ways, closing_with, target_code, assignments_code, loop_flags, iterable_code, rounds_code, loop_end_code, branches_code, left_by, printed_core, apart_core, bodied_core, enclosed_core, made_of_core, macro_flags, declared_core, calling_core, statements_core, statement_code, statements_code}

@@ -2,13 +2,13 @@
 use Rattle.std.proofs.Common.{◌≡◌, ℕ, ◌+◌, ◌==◌, suc, true, List, [], ◌∷◌, ◌++◌, length, map, refl, sym, ◌∙◌, arith}
 use Rattle.std.proofs.lemmas.Bool.Decides.{nat_tests}
 use Rattle.template_values_model.specs.Val.{Val}
-use Rattle.template_tree.specs.Tree.{Expression, Expressions, variable, attribute, list_literal, no_expressions, expressions_more}
-use Rattle.template_process.specs.Process.{store, set_attribute, unpack, Process, step, asks, on_done, on_items, Below}
-use Rattle.template_process.proofs.Below.{below-cut_short, below-step, below-asks_items_of}
-use Rattle.template_walk.specs.Expressions.{expression_walk}
-use Rattle.template_walk.specs.Statements.{number_of, target_walk, targets_walk}
-use Rattle.template_code.specs.Code.{Operand, single, Code, store_local, set_attr, unpack_list}
-use Rattle.template_code.specs.Steps.{exec}
+use Rattle.template_compiler_tree.specs.Tree.{Expression, Expressions, variable, attribute, list_literal, no_expressions, expressions_more}
+use Rattle.template_compiler_process.specs.Process.{store, set_attribute, unpack, Process, step, asks, on_done, on_items, Below}
+use Rattle.template_compiler_process.proofs.Below.{below-cut_short, below-step, below-asks_items_of}
+use Rattle.template_compiler_walk.specs.Expressions.{expression_walk}
+use Rattle.template_compiler_walk.specs.Statements.{number_of, target_walk, targets_walk}
+use Rattle.template_compiler_code.specs.Code.{Operand, single, Code, store_local, set_attr, unpack_list}
+use Rattle.template_compiler_code.specs.Steps.{exec}
 use Rattle.template_compiler_codegen.specs.Expressions.{Coded, then_code, one, nothing, expression_code}
 use Rattle.template_compiler_codegen.specs.Statements.{target_code, targets_code}
 use Rattle.template_compiler_codegen.proofs.Standing.{StandsAt, instruction_at, below_at, behind_then, stands_first, stands_second}

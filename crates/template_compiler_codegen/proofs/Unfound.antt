@@ -1,12 +1,12 @@
 -- A number that no macro or loop of a tree has is beyond those that its code counts.
 use Rattle.std.proofs.Common.{◌≡◌, ℕ, ◌+◌, ◌≤◌, ◌<◌, Bool, true, false, Option, None, Some, ◌==◌, if◌then◌else◌, nat_lt, refl, sym, ap, ◌∙◌, arith}
 use Rattle.std.proofs.lemmas.Bool.Decides.{Decides-ltb, nat_tests}
-use Rattle.template_tree.specs.Tree.{Statement, Statements, for_loop, if_condition, with_block, set_block, auto_escape, filter_block, macro, no_statements, statements_more}
-use Rattle.template_tree.specs.Tree as tree
-use Rattle.template_process.specs.Process.{Counts, no_counts, counted_together}
-use Rattle.template_walk.specs.Expressions.{Callee, by_name, by_method, by_block, by_value, callee_of}
-use Rattle.template_walk.specs.Counting.{loop_counts, caller_counts, counts_by, counts_among, MacroBody, LoopRounds, below_or, within_caller, macro_by, macro_among, rounds_or, rounds_by, rounds_among}
-use Rattle.template_code.specs.Counting.{counts_in}
+use Rattle.template_compiler_tree.specs.Tree.{Statement, Statements, for_loop, if_condition, with_block, set_block, auto_escape, filter_block, macro, no_statements, statements_more}
+use Rattle.template_compiler_tree.specs.Tree as tree
+use Rattle.template_compiler_process.specs.Process.{Counts, no_counts, counted_together}
+use Rattle.template_compiler_walk.specs.Expressions.{Callee, by_name, by_method, by_block, by_value, callee_of}
+use Rattle.template_compiler_walk.specs.Counting.{loop_counts, caller_counts, counts_by, counts_among, MacroBody, LoopRounds, below_or, within_caller, macro_by, macro_among, rounds_or, rounds_by, rounds_among}
+use Rattle.template_compiler_code.specs.Counting.{counts_in}
 use Rattle.template_compiler_codegen.specs.Statements.{template_code}
 use Rattle.template_compiler_codegen.specs.Laws.{NumbersAgree}
 use Rattle.template_compiler_codegen.proofs.Counted.{template_counts}

@@ -1,12 +1,12 @@
 -- Whole code, from its first place on.
 use Rattle.std.proofs.Common.{◌≡◌, ℕ, ◌+◌, List, [], ◌∷◌, length, refl, sym, ap, subst, append-nil, arith}
 use Rattle.std.proofs.lemmas.Option.{slice_get_past}
-use Rattle.template_process.specs.Process.{no_counts, Process, over, Below}
-use Rattle.template_process.proofs.Below.{below-cut_short, below-over}
-use Rattle.template_walk.specs.Statements.{outside}
-use Rattle.template_code.specs.Code.{Operand, single, Code}
-use Rattle.template_code.specs.Counting.{counts_before}
-use Rattle.template_code.specs.Steps.{values_in, act, exec}
+use Rattle.template_compiler_process.specs.Process.{no_counts, Process, over, Below}
+use Rattle.template_compiler_process.proofs.Below.{below-cut_short, below-over}
+use Rattle.template_compiler_walk.specs.Statements.{outside}
+use Rattle.template_compiler_code.specs.Code.{Operand, single, Code}
+use Rattle.template_compiler_code.specs.Counting.{counts_before}
+use Rattle.template_compiler_code.specs.Steps.{values_in, act, exec}
 use Rattle.template_compiler_codegen.specs.Statements.{no_ways, template_code, standalone_code}
 use Rattle.template_compiler_codegen.specs.Laws.{TemplatesPerform, ExpressionsPerform}
 use Rattle.template_compiler_codegen.proofs.Standing.{StandsAt}

@@ -1,7 +1,7 @@
 -- A core: a structured program between a tree and its code, and the flat code that it is laid out as.
 use Rattle.std.specs.Prelude.{ℕ, ◌+◌, suc, Bool, true, false, List, [], ◌∷◌, ◌++◌, length, Option, None, Some}
 use Rattle.template_values_model.specs.Val.{Val}
-use Rattle.template_code.specs.Code.{Code, load_const, jump, jump_if_false, iterate, return}
+use Rattle.template_compiler_code.specs.Code.{Code, load_const, jump, jump_if_false, iterate, return}
 
 -- code that begins at any place
 abbrev pub Coded : Type 0

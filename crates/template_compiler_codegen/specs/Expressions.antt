@@ -1,16 +1,16 @@
 -- The code of an expression, from the place where it begins.
 use Rattle.std.specs.Prelude.{ℕ, ◌+◌, zero, suc, Bool, true, false, if◌then◌else◌, List, [], ◌∷◌, Option, None, Some}
 use Rattle.template_values_model.specs.Val.{Val, silent_undefined, none, text}
-use Rattle.template_tree.specs.declared.operators.UnaryOpKind.{UnaryOpKind}
-use Rattle.template_tree.specs.declared.operators.UnaryOpKind.TheVariants.{Not, Neg}
-use Rattle.template_tree.specs.declared.operators.BinOpKind.{BinOpKind}
-use Rattle.template_tree.specs.declared.operators.BinOpKind.TheVariants.{ScAnd, ScOr}
-use Rattle.template_tree.specs.Tree.{Expression, Optional, Expressions, Links, Arguments, variable, constant, unary, binary, chain, conditional, attribute, item, call, filtered, tested, list_literal, tuple_literal, map_literal, absent, given, no_expressions, expressions_more, no_links, links_more, no_arguments, arguments_more, positional, keyword, positional_spread, keyword_spread}
-use Rattle.template_tree.specs.Tree as tree
-use Rattle.template_walk.specs.Constants.{constant_of}
-use Rattle.template_walk.specs.Expressions.{Passing, alone, spreads, has_spread, Callee, by_name, by_method, by_block, by_value, callee_of}
-use Rattle.template_walk.specs.Statements.{number_of}
-use Rattle.template_code.specs.Code.{Code, lookup, load_const, get_attr, get_item, slice, build_map, build_kwargs, merge_kwargs, build_list, unpack_lists, build_tuple, operate, negate, invert, compare_and_preserve, call_function, call_method, call_object, begin_capture, call_block, end_capture, apply_filter, perform_test, swap, discard_top, jump_if_false_or_pop, jump_if_true_or_pop}
+use Rattle.template_compiler_tree.specs.declared.operators.UnaryOpKind.{UnaryOpKind}
+use Rattle.template_compiler_tree.specs.declared.operators.UnaryOpKind.TheVariants.{Not, Neg}
+use Rattle.template_compiler_tree.specs.declared.operators.BinOpKind.{BinOpKind}
+use Rattle.template_compiler_tree.specs.declared.operators.BinOpKind.TheVariants.{ScAnd, ScOr}
+use Rattle.template_compiler_tree.specs.Tree.{Expression, Optional, Expressions, Links, Arguments, variable, constant, unary, binary, chain, conditional, attribute, item, call, filtered, tested, list_literal, tuple_literal, map_literal, absent, given, no_expressions, expressions_more, no_links, links_more, no_arguments, arguments_more, positional, keyword, positional_spread, keyword_spread}
+use Rattle.template_compiler_tree.specs.Tree as tree
+use Rattle.template_compiler_walk.specs.Constants.{constant_of}
+use Rattle.template_compiler_walk.specs.Expressions.{Passing, alone, spreads, has_spread, Callee, by_name, by_method, by_block, by_value, callee_of}
+use Rattle.template_compiler_walk.specs.Statements.{number_of}
+use Rattle.template_compiler_code.specs.Code.{Code, lookup, load_const, get_attr, get_item, slice, build_map, build_kwargs, merge_kwargs, build_list, unpack_lists, build_tuple, operate, negate, invert, compare_and_preserve, call_function, call_method, call_object, begin_capture, call_block, end_capture, apply_filter, perform_test, swap, discard_top, jump_if_false_or_pop, jump_if_true_or_pop}
 use Rattle.template_compiler_codegen.specs.Core.{Core, empty, straight, both, leaping, either, loading, chosen, choose, no_ways, flat}
 pub use Rattle.template_compiler_codegen.specs.Core.{Coded, then_code, one, nothing, loaded, skipped, either_code}
 

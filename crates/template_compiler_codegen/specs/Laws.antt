@@ -1,13 +1,13 @@
 -- What the code of trees does.
 use Rattle.std.specs.Prelude.{◌≡◌, ℕ, List, [], length, map, None, Some}
 use Rattle.template_values_model.specs.Val.{Val}
-use Rattle.template_tree.specs.Tree.{Expression, Statements}
-use Rattle.template_process.specs.Process.{Below}
-use Rattle.template_walk.specs.Counting.{MacroBody, LoopRounds, macro_numbered, rounds_numbered}
-use Rattle.template_walk.specs.Statements.{number_of, template_walk, standalone_walk, macro_walk, rounds_walk}
-use Rattle.template_code.specs.Code.{single}
-use Rattle.template_code.specs.Counting.{macro_at, rounds_at}
-use Rattle.template_code.specs.Steps.{exec}
+use Rattle.template_compiler_tree.specs.Tree.{Expression, Statements}
+use Rattle.template_compiler_process.specs.Process.{Below}
+use Rattle.template_compiler_walk.specs.Counting.{MacroBody, LoopRounds, macro_numbered, rounds_numbered}
+use Rattle.template_compiler_walk.specs.Statements.{number_of, template_walk, standalone_walk, macro_walk, rounds_walk}
+use Rattle.template_compiler_code.specs.Code.{single}
+use Rattle.template_compiler_code.specs.Counting.{macro_at, rounds_at}
+use Rattle.template_compiler_code.specs.Steps.{exec}
 use Rattle.template_compiler_codegen.specs.Statements.{template_code, standalone_code}
 
 -- The code of a template performs the template's walk: whatever is told, the same events in the same order, with the

@@ -1,15 +1,15 @@
 -- The code of statements, from the place where they begin.
 use Rattle.std.specs.Prelude.{ℕ, Bool, true, false, if◌then◌else◌, List, [], ◌∷◌, ◌++◌, None, pos}
-use Rattle.template_tree.specs.declared.operators.BinOpKind.TheVariants.{Add}
+use Rattle.template_compiler_tree.specs.declared.operators.BinOpKind.TheVariants.{Add}
 use Rattle.template_values_model.specs.Val.{Val, int, list, vals_of}
-use Rattle.template_tree.specs.Tree.{Expression, Optional, Expressions, Arguments, Statement, Statements, Assignments, Imports, variable, attribute, list_literal, call, absent, given, no_expressions, expressions_more, raw, print, for_loop, if_condition, with_block, set, set_block, auto_escape, filter_block, block, from_import, extends, macro, continue_loop, break_loop, do_call, no_statements, statements_more, no_assignments, assignments_more, no_imports, imports_more}
-use Rattle.template_tree.specs.Tree as tree
-use Rattle.template_names.specs.Names.{reversed}
-use Rattle.template_names.specs.Enclosed.{enclosed_names, uses_caller}
-use Rattle.template_walk.specs.Expressions.{alone, callee_of}
-use Rattle.template_walk.specs.Counting.{MacroBody}
-use Rattle.template_walk.specs.Statements.{number_of, Printed, prints_value, prints_block, prints_super, prints_rounds, printed_of, imported_names, stored_as, name_texts, caller_name, first_of, rest_of}
-use Rattle.template_code.specs.Code.{Code, emit_raw, emit, store_local, set_attr, load_const, build_list, unpack_list, unpack_lists, operate, swap, dup_top, discard_top, jump_if_false, push_with, pop_frame, push_loop, push_did_not_iterate, pop_loop_frame, push_auto_escape, pop_auto_escape, begin_capture, end_capture, fast_super, fast_recurse, is_undefined, enclose, get_closure, build_macro, call_block, load_blocks, include, export_locals}
+use Rattle.template_compiler_tree.specs.Tree.{Expression, Optional, Expressions, Arguments, Statement, Statements, Assignments, Imports, variable, attribute, list_literal, call, absent, given, no_expressions, expressions_more, raw, print, for_loop, if_condition, with_block, set, set_block, auto_escape, filter_block, block, from_import, extends, macro, continue_loop, break_loop, do_call, no_statements, statements_more, no_assignments, assignments_more, no_imports, imports_more}
+use Rattle.template_compiler_tree.specs.Tree as tree
+use Rattle.template_compiler_names.specs.Names.{reversed}
+use Rattle.template_compiler_names.specs.Enclosed.{enclosed_names, uses_caller}
+use Rattle.template_compiler_walk.specs.Expressions.{alone, callee_of}
+use Rattle.template_compiler_walk.specs.Counting.{MacroBody}
+use Rattle.template_compiler_walk.specs.Statements.{number_of, Printed, prints_value, prints_block, prints_super, prints_rounds, printed_of, imported_names, stored_as, name_texts, caller_name, first_of, rest_of}
+use Rattle.template_compiler_code.specs.Code.{Code, emit_raw, emit, store_local, set_attr, load_const, build_list, unpack_list, unpack_lists, operate, swap, dup_top, discard_top, jump_if_false, push_with, pop_frame, push_loop, push_did_not_iterate, pop_loop_frame, push_auto_escape, pop_auto_escape, begin_capture, end_capture, fast_super, fast_recurse, is_undefined, enclose, get_closure, build_macro, call_block, load_blocks, include, export_locals}
 use Rattle.template_compiler_codegen.specs.Core.{Core, empty, straight, both, leaping, either, rounds, within, leave, sealed, chosen, choose, aside, flat}
 pub use Rattle.template_compiler_codegen.specs.Core.{Ways, no_ways, own_ways, closing_with, rounds_code, aside_code, left_by}
 use Rattle.template_compiler_codegen.specs.Expressions.{Coded, then_code, one, skipped, either_code, called_core, expression_core, object_core, positional_cores, keyword_cores, expressions_core, filters_core, expression_code}

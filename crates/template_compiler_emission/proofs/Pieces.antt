@@ -3,7 +3,7 @@ use Rattle.std.proofs.Common.{◌≡◌, ℕ, ◌+◌, suc, List, [], ◌∷◌,
 use Rattle.std.proofs.Math.ListN.{set}
 use Rattle.std.proofs.Math.Seq.{set-append_seam}
 use Rattle.std.proofs.lemmas.List.{set_at, length_push}
-use Rattle.template_code.specs.Code.{Code, jump, jump_if_false}
+use Rattle.template_compiler_code.specs.Code.{Code, jump, jump_if_false}
 use Rattle.template_compiler_codegen.specs.Expressions.{Coded, then_code, skipped, either_code}
 
 -- one piece, and another one behind it

@@ -4,11 +4,11 @@ use Rattle.std.proofs.Math.ListN.{set}
 use Rattle.std.proofs.lemmas.Bool.{lt-ltb}
 use Rattle.std.proofs.lemmas.List.{length-map, take_at}
 use Rattle.std.proofs.lemmas.List.Elements.{All-head, All-tail, filter-append}
-use Rattle.template_code.specs.Code.{Code}
-use Rattle.template_code.specs.declared.marks.Mark.{Mark}
-use Rattle.template_code.specs.Listing.{code_in, places_in, IsSameTemplate}
-use Rattle.template_code.specs.View.{code_of}
-use Rattle.template_code.specs.declared.listing.Instructions.{Instructions}
+use Rattle.template_compiler_code.specs.Code.{Code}
+use Rattle.template_compiler_code.specs.declared.marks.Mark.{Mark}
+use Rattle.template_compiler_code.specs.Listing.{code_in, places_in, IsSameTemplate}
+use Rattle.template_compiler_code.specs.View.{code_of}
+use Rattle.template_compiler_code.specs.declared.listing.Instructions.{Instructions}
 use Rattle.template_compiler_codegen.specs.Expressions.{Coded, one, nothing, then_code, skipped, either_code}
 use Rattle.template_compiler_emission.specs.declared.leaps.Leap.{Leap}
 use Rattle.template_compiler_emission.specs.declared.leaps.Leap.TheVariants.{Always, IfFalse}

@@ -1,8 +1,8 @@
 -- Jumps whose target is told later.
 use Rattle.std.specs.Prelude.{ℕ, Option, None, Some}
-use Rattle.template_tree.specs.declared.operators.BinOpKind.{BinOpKind}
-use Rattle.template_tree.specs.declared.operators.BinOpKind.TheVariants.{ScAnd, ScOr}
-use Rattle.template_code.specs.Code.{Code, jump, jump_if_false, jump_if_false_or_pop, jump_if_true_or_pop, iterate}
+use Rattle.template_compiler_tree.specs.declared.operators.BinOpKind.{BinOpKind}
+use Rattle.template_compiler_tree.specs.declared.operators.BinOpKind.TheVariants.{ScAnd, ScOr}
+use Rattle.template_compiler_code.specs.Code.{Code, jump, jump_if_false, jump_if_false_or_pop, jump_if_true_or_pop, iterate}
 use Rattle.template_compiler_emission.specs.declared.leaps.Leap.{Leap}
 use Rattle.template_compiler_emission.specs.declared.leaps.Leap.TheVariants.{Always, IfFalse, IfFalseOrPop, IfTrueOrPop, Iterate}
 

@@ -3,10 +3,10 @@ use Rattle.std.specs.Prelude.{◌≡◌, ◌⊎◌, List, [], ◌∷◌, ◌++�
 use Rattle.template_values_errors.specs.declared.ErrorKind.{ErrorKind}
 use Rattle.template_values_errors.specs.declared.ErrorKind.TheVariants.{TooLarge, OutOfMemory}
 use Rattle.template_values_model.specs.Val.{Val}
-use Rattle.template_code.specs.declared.marks.Mark.{Mark}
-use Rattle.template_code.specs.Code.{load_const}
-use Rattle.template_code.specs.Listing.{name_in, source_in, code_in, places_in}
-use Rattle.template_code.specs.declared.listing.Instructions.{Instructions}
+use Rattle.template_compiler_code.specs.declared.marks.Mark.{Mark}
+use Rattle.template_compiler_code.specs.Code.{load_const}
+use Rattle.template_compiler_code.specs.Listing.{name_in, source_in, code_in, places_in}
+use Rattle.template_compiler_code.specs.declared.listing.Instructions.{Instructions}
 use Rattle.template_compiler_codegen.specs.Expressions.{Coded, nothing, one, then_code}
 
 -- the name and the source stay, and so does where instructions come from: marks come behind the others alone

@@ -1,15 +1,15 @@
 //! Instructions that are put behind others, and jumps whose targets are told later.
 ghost use Rattle.std.specs.Prelude.{◌≡◌, [], ◌∷◌, OnOk, IfOk, IfErr, length};
 ghost use Rattle.std.proofs.Math.ListN.{set};
-ghost use Rattle.template_code.specs.Code.{load_const};
-ghost use Rattle.template_code.specs.View.{code_of};
-ghost use Rattle.template_code.specs.Listing.{code_in, TakesNoMore};
+ghost use Rattle.template_compiler_code.specs.Code.{load_const};
+ghost use Rattle.template_compiler_code.specs.View.{code_of};
+ghost use Rattle.template_compiler_code.specs.Listing.{code_in, TakesNoMore};
 ghost use Rattle.template_compiler_codegen.specs.Expressions.{one};
 ghost use Rattle.template_compiler_emission.specs.Leaps.{leap_code};
 ghost use Rattle.template_compiler_emission.specs.Puts.{Keeps, Puts, held};
 
-use template_code::{Instruction, Instructions};
-use template_tree::Span;
+use template_compiler_code::{Instruction, Instructions};
+use template_compiler_tree::Span;
 use template_values_core::Value;
 use template_values_errors::ErrorKind;
 

@@ -1,13 +1,13 @@
 //! The instructions of operators.
 ghost use Rattle.std.specs.Prelude.{◌≡◌, IsNone};
-ghost use Rattle.template_code.specs.Code.{operate, compare_and_preserve};
-ghost use Rattle.template_code.specs.View.{code_of};
+ghost use Rattle.template_compiler_code.specs.Code.{operate, compare_and_preserve};
+ghost use Rattle.template_compiler_code.specs.View.{code_of};
 ghost use Rattle.template_compiler_codegen.specs.Expressions.{unary_code};
 ghost use Rattle.template_compiler_emission.specs.Leaps.{leap_of};
 
 use crate::leaps::Leap;
-use template_code::{CompareOp, Instruction};
-use template_tree::{BinOpKind, CompareOpKind, UnaryOpKind};
+use template_compiler_code::{CompareOp, Instruction};
+use template_compiler_tree::{BinOpKind, CompareOpKind, UnaryOpKind};
 
 /// The jump over the right side of `and` and of `or`; other operators have none.
 pub fn leap_of(op: BinOpKind) -> Option<Leap>

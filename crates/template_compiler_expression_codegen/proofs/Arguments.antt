@@ -4,20 +4,20 @@ use Rattle.std.proofs.Common.{◌≡◌, ℕ, ◌+◌, ◌<◌, ◌≤◌, zero,
 use Rattle.std.specs.Prelude.{OnOk, if◌then◌else◌}
 use Rattle.std.proofs.lemmas.List.{drop_more, drop_all}
 use Rattle.template_values_model.specs.Val.{Val, text}
-use Rattle.template_tree.specs.Kinds.{is_self_name, is_empty}
-use Rattle.template_tree.specs.Tree.{Arguments, Optional, absent, given, call, filtered, no_arguments, arguments_more}
-use Rattle.template_tree.specs.View.{expression_of, argument_of, arguments_in}
-use Rattle.template_tree.specs.declared.calls.CallArg.{CallArg, Pos, Kwarg, PosSplat, KwargSplat}
-use Rattle.template_tree.specs.declared.span.Spanned.{Spanned}
-use Rattle.template_tree.specs.declared.expressions.Compare.{Compare' as compared}
-use Rattle.template_tree.specs.declared.expressions.Var.{Var as VarNode}
-use Rattle.template_tree.specs.declared.expressions.GetAttr.{GetAttr as GetAttrNode}
-use Rattle.template_tree.specs.declared.expressions.Expr.{Expr, Var, GetAttr, GetAttr', Compare'}
-use Rattle.template_walk.specs.Runnable.{IsRunnable, AreRunnableArguments}
-use Rattle.template_walk.specs.Expressions.{Passing, has_spread, Callee, by_value, attribute_called, callee_of}
-use Rattle.template_code.specs.Code.{Code, load_const, build_kwargs, build_list, merge_kwargs, unpack_lists, call_function, call_method, call_object, apply_filter, perform_test}
-use Rattle.template_code.specs.Listing.{code_in}
-use Rattle.template_code.specs.declared.listing.Instructions.{Instructions}
+use Rattle.template_compiler_tree.specs.Kinds.{is_self_name, is_empty}
+use Rattle.template_compiler_tree.specs.Tree.{Arguments, Optional, absent, given, call, filtered, no_arguments, arguments_more}
+use Rattle.template_compiler_tree.specs.View.{expression_of, argument_of, arguments_in}
+use Rattle.template_compiler_tree.specs.declared.calls.CallArg.{CallArg, Pos, Kwarg, PosSplat, KwargSplat}
+use Rattle.template_compiler_tree.specs.declared.span.Spanned.{Spanned}
+use Rattle.template_compiler_tree.specs.declared.expressions.Compare.{Compare' as compared}
+use Rattle.template_compiler_tree.specs.declared.expressions.Var.{Var as VarNode}
+use Rattle.template_compiler_tree.specs.declared.expressions.GetAttr.{GetAttr as GetAttrNode}
+use Rattle.template_compiler_tree.specs.declared.expressions.Expr.{Expr, Var, GetAttr, GetAttr', Compare'}
+use Rattle.template_compiler_walk.specs.Runnable.{IsRunnable, AreRunnableArguments}
+use Rattle.template_compiler_walk.specs.Expressions.{Passing, has_spread, Callee, by_value, attribute_called, callee_of}
+use Rattle.template_compiler_code.specs.Code.{Code, load_const, build_kwargs, build_list, merge_kwargs, unpack_lists, call_function, call_method, call_object, apply_filter, perform_test}
+use Rattle.template_compiler_code.specs.Listing.{code_in}
+use Rattle.template_compiler_code.specs.declared.listing.Instructions.{Instructions}
 use Rattle.template_compiler_codegen.specs.Core.{Core, no_ways, flat}
 use Rattle.template_compiler_codegen.specs.Expressions.{Coded, one, then_code, no_number, at_most_one, list_count, rest_count, merged_count, map_count, keyword_count, called_core, expression_core, object_core, expression_code, filter_code, passed_code, argument_count, positional_cores, keyword_cores}
 use Rattle.template_compiler_emission.specs.Puts.{Keeps, Puts, unless, held, behind}

@@ -2,18 +2,18 @@
 use Rattle.std.proofs.Common.{◌≡◌, ℕ, ◌+◌, suc, Bool, true, false, ◌&&◌, Option, None, Some, Box, Global, List, [], ◌∷◌, ◌++◌, length, refl, sym, ap, subst, ◌∙◌, append-nil, arith}
 use Rattle.std.specs.Prelude.{if◌then◌else◌}
 use Rattle.template_values_model.specs.Val.{text}
-use Rattle.template_tree.specs.Kinds.{calls_block, calls_method, is_self_name, is_empty, called_by}
-use Rattle.template_tree.specs.Tree.{Expression, Arguments, variable, attribute, call}
-use Rattle.template_tree.specs.View.{expression_of}
-use Rattle.template_tree.specs.declared.span.Spanned.{Spanned}
-use Rattle.template_tree.specs.declared.expressions.Compare.{Compare' as compared}
-use Rattle.template_tree.specs.declared.expressions.Expr.{Expr, Var, GetAttr, GetAttr', Compare'}
-use Rattle.template_tree.specs.declared.expressions.GetAttr.{GetAttr as GetAttrNode}
-use Rattle.template_walk.specs.Expressions.{Passing, alone, spreads, has_spread, attribute_called}
-use Rattle.template_walk.specs.Statements.{caller_name}
-use Rattle.template_code.specs.Code.{Code, load_const, call_function, call_method, call_object}
-use Rattle.template_code.specs.Listing.{code_in}
-use Rattle.template_code.specs.declared.listing.Instructions.{Instructions}
+use Rattle.template_compiler_tree.specs.Kinds.{calls_block, calls_method, is_self_name, is_empty, called_by}
+use Rattle.template_compiler_tree.specs.Tree.{Expression, Arguments, variable, attribute, call}
+use Rattle.template_compiler_tree.specs.View.{expression_of}
+use Rattle.template_compiler_tree.specs.declared.span.Spanned.{Spanned}
+use Rattle.template_compiler_tree.specs.declared.expressions.Compare.{Compare' as compared}
+use Rattle.template_compiler_tree.specs.declared.expressions.Expr.{Expr, Var, GetAttr, GetAttr', Compare'}
+use Rattle.template_compiler_tree.specs.declared.expressions.GetAttr.{GetAttr as GetAttrNode}
+use Rattle.template_compiler_walk.specs.Expressions.{Passing, alone, spreads, has_spread, attribute_called}
+use Rattle.template_compiler_walk.specs.Statements.{caller_name}
+use Rattle.template_compiler_code.specs.Code.{Code, load_const, call_function, call_method, call_object}
+use Rattle.template_compiler_code.specs.Listing.{code_in}
+use Rattle.template_compiler_code.specs.declared.listing.Instructions.{Instructions}
 use Rattle.template_compiler_codegen.specs.Core.{Core, no_ways, flat}
 use Rattle.template_compiler_codegen.specs.Expressions.{Coded, one, nothing, then_code, at_most_one, list_count, rest_count, merged_count, passed_core, passed_count, called_core, expression_core, expression_code, positional_cores, keyword_cores}
 use Rattle.template_compiler_codegen.specs.Statements.{calling_core}

@@ -3,15 +3,15 @@ use Rattle.std.proofs.Common.{◌≡◌, ℕ, ◌+◌, ◌<◌, ◌≤◌, Bool,
 use Rattle.std.specs.Prelude.{IfSome, option_map}
 use Rattle.std.proofs.lemmas.List.{reverse-append}
 use denote.Hole.Carrier.{out}
-use Rattle.template_tree.specs.Tree.{Expression, Arguments, filtered, attribute, call, variable, absent, given}
-use Rattle.template_tree.specs.Kinds.{is_self_name, is_empty}
-use Rattle.template_tree.specs.View.{expression_of, arguments_in, chain_of}
-use Rattle.template_tree.specs.declared.span.Spanned.{Spanned}
-use Rattle.template_tree.specs.declared.calls.Call.{Call as CallNode}
-use Rattle.template_tree.specs.declared.expressions.Compare.{Compare, Compare' as compared, out-Compare}
-use Rattle.template_tree.specs.declared.expressions.GetAttr.{GetAttr as GetAttrNode}
-use Rattle.template_tree.specs.declared.expressions.Expr.{Expr, size-Expr, Var, GetAttr, Call, GetAttr', Compare'}
-use Rattle.template_walk.specs.Expressions.{attribute_called}
+use Rattle.template_compiler_tree.specs.Tree.{Expression, Arguments, filtered, attribute, call, variable, absent, given}
+use Rattle.template_compiler_tree.specs.Kinds.{is_self_name, is_empty}
+use Rattle.template_compiler_tree.specs.View.{expression_of, arguments_in, chain_of}
+use Rattle.template_compiler_tree.specs.declared.span.Spanned.{Spanned}
+use Rattle.template_compiler_tree.specs.declared.calls.Call.{Call as CallNode}
+use Rattle.template_compiler_tree.specs.declared.expressions.Compare.{Compare, Compare' as compared, out-Compare}
+use Rattle.template_compiler_tree.specs.declared.expressions.GetAttr.{GetAttr as GetAttrNode}
+use Rattle.template_compiler_tree.specs.declared.expressions.Expr.{Expr, size-Expr, Var, GetAttr, Call, GetAttr', Compare'}
+use Rattle.template_compiler_walk.specs.Expressions.{attribute_called}
 use Rattle.template_compiler_expression_codegen.specs.Coded.{of_called, coded_spine, coded_left}
 use Rattle.template_compiler_expression_codegen.proofs.Trees.{call_is}
 

@@ -5,13 +5,13 @@ use Rattle.std.specs.List.{fold}
 use Rattle.std.proofs.lemmas.List.Sums.{fold_push}
 use Rattle.std.proofs.lemmas.List.Folds.{fold-map}
 use Rattle.std.proofs.lemmas.List.{take_all}
-use Rattle.template_tree.specs.Tree.{Expression, variable, constant, slice, unary, binary, chain, conditional, filtered, tested, attribute, item, call, list_literal, tuple_literal, map_literal, Optional, absent, given}
-use Rattle.template_tree_parts.specs.Spine.{optional, before}
-use Rattle.template_tree.specs.Kinds.{is_self_name, is_empty}
-use Rattle.template_walk.specs.Expressions.{attribute_called}
+use Rattle.template_compiler_tree.specs.Tree.{Expression, variable, constant, slice, unary, binary, chain, conditional, filtered, tested, attribute, item, call, list_literal, tuple_literal, map_literal, Optional, absent, given}
+use Rattle.template_compiler_tree_parts.specs.Spine.{optional, before}
+use Rattle.template_compiler_tree.specs.Kinds.{is_self_name, is_empty}
+use Rattle.template_compiler_walk.specs.Expressions.{attribute_called}
 use Rattle.template_compiler_expression_codegen.specs.Coded.{of_called, coded_left, coded_spine, coded_before}
-use Rattle.template_tree.specs.View.{expression_of}
-use Rattle.template_tree.specs.declared.expressions.Expr.{Expr}
+use Rattle.template_compiler_tree.specs.View.{expression_of}
+use Rattle.template_compiler_tree.specs.declared.expressions.Expr.{Expr}
 
 module _ {A : Type 0} (f : Expression → A) (own : A → Expression → A) (z : A)
     (step : (t : Expression) → f t ≡ own (before f z (coded_left t)) t) where

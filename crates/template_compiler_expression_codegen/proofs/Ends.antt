@@ -3,11 +3,11 @@ use Rattle.std.proofs.Common.{◌≡◌, ◌++◌, ℕ, false, is_some, List, le
 use Rattle.std.specs.Prelude.{OnOk}
 use Rattle.std.proofs.Math.ListN.{set}
 use Rattle.template_values_model.specs.Val.{Val}
-use Rattle.template_tree.specs.Tree.{Expression}
-use Rattle.template_walk.specs.Constants.{constant_of}
-use Rattle.template_code.specs.Code.{Code}
-use Rattle.template_code.specs.Listing.{code_in}
-use Rattle.template_code.specs.declared.listing.Instructions.{Instructions}
+use Rattle.template_compiler_tree.specs.Tree.{Expression}
+use Rattle.template_compiler_walk.specs.Constants.{constant_of}
+use Rattle.template_compiler_code.specs.Code.{Code}
+use Rattle.template_compiler_code.specs.Listing.{code_in}
+use Rattle.template_compiler_code.specs.declared.listing.Instructions.{Instructions}
 use Rattle.template_compiler_codegen.specs.Expressions.{Coded, one, nothing, then_code, skipped, expression_code}
 use Rattle.template_compiler_emission.specs.declared.leaps.Leap.{Leap}
 use Rattle.template_compiler_emission.specs.Leaps.{leap_code}

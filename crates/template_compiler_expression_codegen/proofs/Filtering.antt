@@ -3,15 +3,15 @@ use Rattle.std.proofs.Common.{◌≡◌, ℕ, ◌+◌, ◌<◌, ◌≤◌, zero,
 use Rattle.std.specs.List.{All}
 use Rattle.std.proofs.lemmas.List.{take_more, take_all}
 use Rattle.std.proofs.lemmas.List.Elements.{All-nil, All-head, All-tail, All-same, All-push}
-use Rattle.template_tree.specs.Tree.{Expression, filtered, absent, given}
-use Rattle.template_tree.specs.View.{expression_of}
-use Rattle.template_tree.specs.declared.span.Spanned.{Spanned}
-use Rattle.template_tree.specs.declared.expressions.Compare.{Compare}
-use Rattle.template_tree.specs.declared.expressions.Expr.{Expr, Compare as CompareNode}
-use Rattle.template_walk.specs.Runnable.{AreFilters}
-use Rattle.template_code.specs.Code.{Code}
-use Rattle.template_code.specs.Listing.{code_in}
-use Rattle.template_code.specs.declared.listing.Instructions.{Instructions}
+use Rattle.template_compiler_tree.specs.Tree.{Expression, filtered, absent, given}
+use Rattle.template_compiler_tree.specs.View.{expression_of}
+use Rattle.template_compiler_tree.specs.declared.span.Spanned.{Spanned}
+use Rattle.template_compiler_tree.specs.declared.expressions.Compare.{Compare}
+use Rattle.template_compiler_tree.specs.declared.expressions.Expr.{Expr, Compare as CompareNode}
+use Rattle.template_compiler_walk.specs.Runnable.{AreFilters}
+use Rattle.template_compiler_code.specs.Code.{Code}
+use Rattle.template_compiler_code.specs.Listing.{code_in}
+use Rattle.template_compiler_code.specs.declared.listing.Instructions.{Instructions}
 use Rattle.template_compiler_codegen.specs.Expressions.{Coded, nothing, then_code, filter_code, filters_code}
 use Rattle.template_compiler_emission.specs.Puts.{Puts}
 use Rattle.template_compiler_emission.proofs.Putting.{puts_nothing, puts_then}

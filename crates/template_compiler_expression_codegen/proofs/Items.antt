@@ -1,13 +1,13 @@
 -- The items of a container, one behind the other.
 use Rattle.std.proofs.Common.{◌≡◌, ℕ, ◌+◌, ◌<◌, ◌≤◌, zero, suc, List, [], ◌∷◌, ◌++◌, length, take, get_or, refl, sym, ap, subst, ◌∙◌, append-nil, append_assoc, length-append, arith}
 use Rattle.std.proofs.lemmas.List.{take_more, take_all}
-use Rattle.template_tree.specs.View.{expression_of, expressions_in}
-use Rattle.template_tree.specs.declared.expressions.Expr.{Expr}
-use Rattle.template_walk.specs.Runnable.{IsRunnable, AreRunnable}
-use Rattle.template_walk.specs.Statements.{number_of}
-use Rattle.template_code.specs.Code.{Code}
-use Rattle.template_code.specs.Listing.{code_in}
-use Rattle.template_code.specs.declared.listing.Instructions.{Instructions}
+use Rattle.template_compiler_tree.specs.View.{expression_of, expressions_in}
+use Rattle.template_compiler_tree.specs.declared.expressions.Expr.{Expr}
+use Rattle.template_compiler_walk.specs.Runnable.{IsRunnable, AreRunnable}
+use Rattle.template_compiler_walk.specs.Statements.{number_of}
+use Rattle.template_compiler_code.specs.Code.{Code}
+use Rattle.template_compiler_code.specs.Listing.{code_in}
+use Rattle.template_compiler_code.specs.declared.listing.Instructions.{Instructions}
 use Rattle.template_compiler_codegen.specs.Expressions.{Coded, then_code, expression_code, expressions_code}
 use Rattle.template_compiler_emission.specs.Puts.{Puts}
 use Rattle.template_compiler_emission.proofs.Putting.{puts_then}

@@ -7,14 +7,14 @@ use Rattle.std.specs.Prelude.{option_and_then}
 use Rattle.template_values_model.specs.Val.{Val}
 use Rattle.template_values_core.specs.Reads.{is_true}
 use Rattle.template_values_forms.specs.Known.{nothing_known}
-use Rattle.template_tree.specs.declared.expressions.CompareOp.{CompareOp}
-use Rattle.template_tree.specs.declared.operators.CompareOpKind.{CompareOpKind}
-use Rattle.template_tree.specs.Tree.{Expression, Links, no_links, links_more}
-use Rattle.template_tree.specs.View.{expression_of, links_in}
-use Rattle.template_walk.specs.Constants.{chain_constant, chain_decided, constant_of, made}
-use Rattle.template_walk.specs.Operators.{compared}
-use Rattle.template_walk.specs.Runnable.{IsRunnable, AreRunnableLinks}
-use Rattle.template_code.specs.Code.{Code, jump_if_false_or_pop}
+use Rattle.template_compiler_tree.specs.declared.expressions.CompareOp.{CompareOp}
+use Rattle.template_compiler_tree.specs.declared.operators.CompareOpKind.{CompareOpKind}
+use Rattle.template_compiler_tree.specs.Tree.{Expression, Links, no_links, links_more}
+use Rattle.template_compiler_tree.specs.View.{expression_of, links_in}
+use Rattle.template_compiler_walk.specs.Constants.{chain_constant, chain_decided, constant_of, made}
+use Rattle.template_compiler_walk.specs.Operators.{compared}
+use Rattle.template_compiler_walk.specs.Runnable.{IsRunnable, AreRunnableLinks}
+use Rattle.template_compiler_code.specs.Code.{Code, jump_if_false_or_pop}
 use Rattle.template_compiler_codegen.specs.Expressions.{then_code, linked_code}
 use Rattle.template_compiler_emission.proofs.Pieces.{two_pieces, one_more, one_longer}
 use Rattle.template_compiler_folding.specs.Folding.{comparison_folded}

@@ -2,18 +2,18 @@
 use Rattle.std.proofs.Common.{◌≡◌, ℕ, ◌+◌, Bool, true, false, ◌&&◌, List, [], ◌∷◌, ◌++◌, length, Option, None, Some, refl, sym, ap, ◌∙◌, append-nil, append_assoc, add-zero, length-append}
 use Rattle.std.specs.Prelude.{option_and_then}
 use Rattle.template_values_model.specs.Val.{Val, none}
-use Rattle.template_tree.specs.declared.operators.BinOpKind.{BinOpKind}
-use Rattle.template_tree.specs.declared.operators.BinOpKind.TheVariants.{ScAnd, ScOr}
-use Rattle.template_tree.specs.Kinds.{is_self_name, is_empty}
-use Rattle.template_tree.specs.Tree.{Expression, Arguments, variable, constant, unary, binary, chain, conditional, filtered, tested, attribute, item, call, list_literal, tuple_literal, map_literal, absent, given}
-use Rattle.template_tree.specs.Tree as tree
-use Rattle.template_tree_parts.specs.Spine.{before}
+use Rattle.template_compiler_tree.specs.declared.operators.BinOpKind.{BinOpKind}
+use Rattle.template_compiler_tree.specs.declared.operators.BinOpKind.TheVariants.{ScAnd, ScOr}
+use Rattle.template_compiler_tree.specs.Kinds.{is_self_name, is_empty}
+use Rattle.template_compiler_tree.specs.Tree.{Expression, Arguments, variable, constant, unary, binary, chain, conditional, filtered, tested, attribute, item, call, list_literal, tuple_literal, map_literal, absent, given}
+use Rattle.template_compiler_tree.specs.Tree as tree
+use Rattle.template_compiler_tree_parts.specs.Spine.{before}
 use Rattle.template_compiler_expression_codegen.specs.Coded.{of_called, coded_left}
-use Rattle.template_walk.specs.Constants.{constant_of, binary_constant, chain_constant}
-use Rattle.template_walk.specs.Expressions.{attribute_called}
-use Rattle.template_walk.specs.Runnable.{IsRunnable}
-use Rattle.template_walk.specs.Statements.{number_of}
-use Rattle.template_code.specs.Code.{Code, load_const, get_attr, get_item, slice, build_list, build_tuple, build_map, call_method, call_object}
+use Rattle.template_compiler_walk.specs.Constants.{constant_of, binary_constant, chain_constant}
+use Rattle.template_compiler_walk.specs.Expressions.{attribute_called}
+use Rattle.template_compiler_walk.specs.Runnable.{IsRunnable}
+use Rattle.template_compiler_walk.specs.Statements.{number_of}
+use Rattle.template_compiler_code.specs.Code.{Code, load_const, get_attr, get_item, slice, build_list, build_tuple, build_map, call_method, call_object}
 use Rattle.template_compiler_codegen.specs.Core.{no_ways, flat}
 use Rattle.template_compiler_codegen.specs.Expressions.{Coded, one, then_code, loaded, unary_code, binary_code, called_core, expression_core, positional_cores, keyword_cores, expression_code, optional_code, expressions_code, entries_code, entry_count, codes_of, chain_code, filter_code, passed_code, argument_count}
 use Rattle.template_compiler_emission.specs.Puts.{unless, held, behind}

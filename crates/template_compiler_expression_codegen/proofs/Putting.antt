@@ -3,12 +3,12 @@ use Rattle.std.proofs.Common.{◌≡◌, [], ◌++◌, ℕ, ltb, List, filter, l
 use Rattle.std.proofs.Math.ListN.{set}
 use Rattle.std.proofs.lemmas.List.{take_at}
 use Rattle.template_values_model.specs.Val.{Val}
-use Rattle.template_tree.specs.declared.operators.CompareOpKind.{CompareOpKind}
-use Rattle.template_tree.specs.Tree.{Expression, Links, Optional, links_more}
-use Rattle.template_walk.specs.Constants.{constant_of}
-use Rattle.template_code.specs.Code.{Code, swap, discard_top}
-use Rattle.template_code.specs.Listing.{code_in, places_in, IsSameTemplate}
-use Rattle.template_code.specs.declared.listing.Instructions.{Instructions}
+use Rattle.template_compiler_tree.specs.declared.operators.CompareOpKind.{CompareOpKind}
+use Rattle.template_compiler_tree.specs.Tree.{Expression, Links, Optional, links_more}
+use Rattle.template_compiler_walk.specs.Constants.{constant_of}
+use Rattle.template_compiler_code.specs.Code.{Code, swap, discard_top}
+use Rattle.template_compiler_code.specs.Listing.{code_in, places_in, IsSameTemplate}
+use Rattle.template_compiler_code.specs.declared.listing.Instructions.{Instructions}
 use Rattle.template_compiler_codegen.specs.Expressions.{Coded, one, nothing, expression_code, optional_code, linked_code, chain_code}
 use Rattle.template_compiler_emission.specs.declared.leaps.Leap.{Leap}
 use Rattle.template_compiler_emission.specs.Leaps.{leap_code}

@@ -1,8 +1,8 @@
 -- How deep the parts of nodes are.
 use Rattle.std.proofs.Common.{◌≡◌, ℕ, ◌<◌, ◌≤◌, zero, suc, max, List, [], ◌∷◌, length, get_or, Option, None, Some, ap, arith, rules}
-use Rattle.template_tree.specs.declared.calls.CallArg.{CallArg, Pos, Kwarg, PosSplat, KwargSplat, size-CallArg, the_lemmas}
-use Rattle.template_tree.specs.declared.expressions.CompareOp.{CompareOp}
-use Rattle.template_tree.specs.declared.expressions.Expr.{Expr, size-Expr}
+use Rattle.template_compiler_tree.specs.declared.calls.CallArg.{CallArg, Pos, Kwarg, PosSplat, KwargSplat, size-CallArg, the_lemmas}
+use Rattle.template_compiler_tree.specs.declared.expressions.CompareOp.{CompareOp}
+use Rattle.template_compiler_tree.specs.declared.expressions.Expr.{Expr, size-Expr}
 
 abbrev pub optional_deep : Option Expr → ℕ
 optional_deep None = 0

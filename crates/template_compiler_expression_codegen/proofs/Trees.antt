@@ -1,22 +1,22 @@
 -- The trees of nodes, from the parts that a node holds.
 use Rattle.std.proofs.Common.{◌≡◌, ℕ, ◌<◌, List as Items, length, get_or, Box, Global, rules, sym, ap, ◌∙◌}
 use Rattle.std.specs.Cow.{cow_str_bytes}
-use Rattle.template_tree.specs.Tree.{call, chain, conditional, filtered, list_literal, map_literal, slice, tested, tuple_literal}
-use Rattle.template_tree.specs.View.{arguments_in, chain_of, expression_of, expressions_in, links_in, optional_in}
-use Rattle.template_tree.specs.declared.span.Spanned.{Spanned}
-use Rattle.template_tree.specs.declared.calls.Call.{Call as CallNode}
-use Rattle.template_tree.specs.declared.calls.CallArg.{CallArg, size-CallArg}
-use Rattle.template_tree.specs.declared.expressions.Compare.{Compare, Compare' as compared, out-Compare}
-use Rattle.template_tree.specs.declared.expressions.Expr.{Expr, Call, Compare as CompareNode, Filter, IfExpr, List, Map, Slice, Test, Tuple, size-Expr, the_lemmas}
-use Rattle.template_tree.specs.declared.expressions.CompareOp.{CompareOp}
-use Rattle.template_tree.specs.declared.expressions.Filter.{Filter as FilterNode}
-use Rattle.template_tree.specs.declared.expressions.IfExpr.{IfExpr as IfExprNode}
-use Rattle.template_tree.specs.declared.expressions.List.{List as ListNode}
-use Rattle.template_tree.specs.declared.expressions.Map.{Map as MapNode}
-use Rattle.template_tree.specs.declared.expressions.Slice.{Slice as SliceNode}
-use Rattle.template_tree.specs.declared.expressions.Test.{Test as TestNode}
-use Rattle.template_tree.specs.declared.expressions.Tuple.{Tuple as TupleNode}
-use Rattle.template_tree.proofs.Rows.{arguments_row, expressions_row, links_row}
+use Rattle.template_compiler_tree.specs.Tree.{call, chain, conditional, filtered, list_literal, map_literal, slice, tested, tuple_literal}
+use Rattle.template_compiler_tree.specs.View.{arguments_in, chain_of, expression_of, expressions_in, links_in, optional_in}
+use Rattle.template_compiler_tree.specs.declared.span.Spanned.{Spanned}
+use Rattle.template_compiler_tree.specs.declared.calls.Call.{Call as CallNode}
+use Rattle.template_compiler_tree.specs.declared.calls.CallArg.{CallArg, size-CallArg}
+use Rattle.template_compiler_tree.specs.declared.expressions.Compare.{Compare, Compare' as compared, out-Compare}
+use Rattle.template_compiler_tree.specs.declared.expressions.Expr.{Expr, Call, Compare as CompareNode, Filter, IfExpr, List, Map, Slice, Test, Tuple, size-Expr, the_lemmas}
+use Rattle.template_compiler_tree.specs.declared.expressions.CompareOp.{CompareOp}
+use Rattle.template_compiler_tree.specs.declared.expressions.Filter.{Filter as FilterNode}
+use Rattle.template_compiler_tree.specs.declared.expressions.IfExpr.{IfExpr as IfExprNode}
+use Rattle.template_compiler_tree.specs.declared.expressions.List.{List as ListNode}
+use Rattle.template_compiler_tree.specs.declared.expressions.Map.{Map as MapNode}
+use Rattle.template_compiler_tree.specs.declared.expressions.Slice.{Slice as SliceNode}
+use Rattle.template_compiler_tree.specs.declared.expressions.Test.{Test as TestNode}
+use Rattle.template_compiler_tree.specs.declared.expressions.Tuple.{Tuple as TupleNode}
+use Rattle.template_compiler_tree.proofs.Rows.{arguments_row, expressions_row, links_row}
 use Rattle.template_compiler_expression_codegen.proofs.Sizes.{arguments_below, arguments_deep, items_below, items_deep, links_below, links_deep}
 
 pub slice_tree : (n : Box (Spanned SliceNode) Global) → expression_of (Slice n)

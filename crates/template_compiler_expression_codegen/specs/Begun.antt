@@ -1,9 +1,9 @@
 -- A call whose last keyword argument is put apart: what stands before the value of that one, and what stands behind it.
 use Rattle.std.specs.Prelude.{◌≡◌, ℕ, ◌+◌, suc, List, if◌then◌else◌, Option, None, Some}
 use Rattle.template_values_model.specs.Val.{text}
-use Rattle.template_tree.specs.Tree.{Expression, Arguments, variable, attribute}
-use Rattle.template_walk.specs.Expressions.{Passing, has_spread}
-use Rattle.template_code.specs.Code.{Code, load_const, call_function, call_method, call_object}
+use Rattle.template_compiler_tree.specs.Tree.{Expression, Arguments, variable, attribute}
+use Rattle.template_compiler_walk.specs.Expressions.{Passing, has_spread}
+use Rattle.template_compiler_code.specs.Code.{Code, load_const, call_function, call_method, call_object}
 use Rattle.template_compiler_codegen.specs.Core.{Core}
 use Rattle.template_compiler_codegen.specs.Expressions.{Coded, one, nothing, then_code, expression_code, list_count, rest_count, merged_count, positional_cores, keyword_cores}
 use Rattle.template_compiler_expression_codegen.specs.Passing.{mapped_code, merged_code, run_code, stretches_code, named_code}

@@ -3,12 +3,12 @@ use Rattle.std.specs.Prelude.{◌≡◌, ℕ, ◌+◌, suc, Bool, false, not, Li
 use Rattle.std.proofs.Math.ListN.{set}
 use Rattle.template_values_model.specs.Val.{Val}
 use Rattle.template_values_core.specs.Reads.{is_true}
-use Rattle.template_tree.specs.declared.operators.CompareOpKind.{CompareOpKind}
-use Rattle.template_tree.specs.Tree.{Expression, Links, no_links, links_more}
-use Rattle.template_walk.specs.Constants.{chain_constant, chain_decided}
-use Rattle.template_code.specs.Code.{Code, compare_and_preserve, jump_if_false_or_pop}
-use Rattle.template_code.specs.Listing.{code_in}
-use Rattle.template_code.specs.declared.listing.Instructions.{Instructions}
+use Rattle.template_compiler_tree.specs.declared.operators.CompareOpKind.{CompareOpKind}
+use Rattle.template_compiler_tree.specs.Tree.{Expression, Links, no_links, links_more}
+use Rattle.template_compiler_walk.specs.Constants.{chain_constant, chain_decided}
+use Rattle.template_compiler_code.specs.Code.{Code, compare_and_preserve, jump_if_false_or_pop}
+use Rattle.template_compiler_code.specs.Listing.{code_in}
+use Rattle.template_compiler_code.specs.declared.listing.Instructions.{Instructions}
 use Rattle.template_compiler_codegen.specs.Expressions.{Coded, one, then_code, expression_code}
 use Rattle.template_compiler_emission.specs.Puts.{Keeps}
 

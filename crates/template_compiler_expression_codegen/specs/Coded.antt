@@ -1,8 +1,8 @@
 -- The left parts of an expression in the order of their code. There may be as many as the source is long.
 use Rattle.std.specs.Prelude.{List, [], ◌∷◌, ◌++◌, Option, None, Some}
-use Rattle.template_tree.specs.Tree.{Expression, variable, constant, slice, unary, binary, chain, conditional, filtered, tested, attribute, item, call, list_literal, tuple_literal, map_literal, Optional, absent, given}
-use Rattle.template_tree_parts.specs.Spine.{left_of}
-use Rattle.template_walk.specs.Expressions.{Callee, by_name, by_method, by_block, by_value, callee_of}
+use Rattle.template_compiler_tree.specs.Tree.{Expression, variable, constant, slice, unary, binary, chain, conditional, filtered, tested, attribute, item, call, list_literal, tuple_literal, map_literal, Optional, absent, given}
+use Rattle.template_compiler_tree_parts.specs.Spine.{left_of}
+use Rattle.template_compiler_walk.specs.Expressions.{Callee, by_name, by_method, by_block, by_value, callee_of}
 
 -- what is called: a name or a block, a method of an object, or another value
 abbrev pub of_called : {A : Type 0} → Callee → A → A → A → A

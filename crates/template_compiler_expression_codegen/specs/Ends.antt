@@ -2,8 +2,8 @@
 use Rattle.std.specs.Prelude.{◌≡◌, ℕ, ltb, filter, length, take, Option, None, Some}
 use Rattle.std.proofs.Math.ListN.{set}
 use Rattle.template_values_model.specs.Val.{Val}
-use Rattle.template_code.specs.Listing.{code_in, places_in, IsSameTemplate}
-use Rattle.template_code.specs.declared.listing.Instructions.{Instructions}
+use Rattle.template_compiler_code.specs.Listing.{code_in, places_in, IsSameTemplate}
+use Rattle.template_compiler_code.specs.declared.listing.Instructions.{Instructions}
 use Rattle.template_compiler_codegen.specs.Expressions.{Coded}
 use Rattle.template_compiler_emission.specs.declared.leaps.Leap.{Leap}
 use Rattle.template_compiler_emission.specs.Leaps.{leap_code}

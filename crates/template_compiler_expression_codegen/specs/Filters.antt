@@ -1,7 +1,7 @@
 -- The filters of a block, one by one.
 use Rattle.std.specs.Prelude.{List, [], ◌∷◌}
-use Rattle.template_tree.specs.Tree.{Expression, filtered}
-use Rattle.template_walk.specs.Runnable.{AreRunnableArguments}
+use Rattle.template_compiler_tree.specs.Tree.{Expression, filtered}
+use Rattle.template_compiler_walk.specs.Runnable.{AreRunnableArguments}
 use Rattle.template_compiler_codegen.specs.Expressions.{Coded, nothing, then_code, filter_code}
 
 -- the last of some filters, over the value on top

@@ -1,13 +1,13 @@
 -- What a node of an expression adds to its left part: its constant, and its own code.
 use Rattle.std.specs.Prelude.{ℕ, List, Option, None, Some, option_and_then}
 use Rattle.template_values_model.specs.Val.{Val, none}
-use Rattle.template_tree.specs.declared.operators.BinOpKind.{BinOpKind}
-use Rattle.template_tree.specs.Tree.{Expression, Arguments, unary, binary, chain, attribute, item, call, filtered, tested, list_literal, tuple_literal, map_literal}
-use Rattle.template_tree.specs.Tree as tree
-use Rattle.template_walk.specs.Constants.{constant_of, chain_constant}
-use Rattle.template_walk.specs.Expressions.{Callee, by_name, by_method, by_block, by_value, callee_of}
-use Rattle.template_walk.specs.Statements.{number_of}
-use Rattle.template_code.specs.Code.{get_attr, get_item, slice, build_map, build_list, build_tuple, operate, call_function, call_method, call_object, perform_test}
+use Rattle.template_compiler_tree.specs.declared.operators.BinOpKind.{BinOpKind}
+use Rattle.template_compiler_tree.specs.Tree.{Expression, Arguments, unary, binary, chain, attribute, item, call, filtered, tested, list_literal, tuple_literal, map_literal}
+use Rattle.template_compiler_tree.specs.Tree as tree
+use Rattle.template_compiler_walk.specs.Constants.{constant_of, chain_constant}
+use Rattle.template_compiler_walk.specs.Expressions.{Callee, by_name, by_method, by_block, by_value, callee_of}
+use Rattle.template_compiler_walk.specs.Statements.{number_of}
+use Rattle.template_compiler_code.specs.Code.{get_attr, get_item, slice, build_map, build_list, build_tuple, operate, call_function, call_method, call_object, perform_test}
 use Rattle.template_compiler_folding.specs.Folding.{binary_folded}
 use Rattle.template_compiler_codegen.specs.Core.{no_ways, flat}
 use Rattle.template_compiler_codegen.specs.Expressions.{Coded, one, then_code, skipped, unary_code, block_core, expression_code, optional_code, expressions_code, entries_code, codes_of, entry_count, chain_code, no_number, filter_code, passed_code, argument_count}

@@ -1,9 +1,9 @@
 -- Arguments whose code is put one by one: those that are passed by their place, or those that are passed by a name.
 use Rattle.std.specs.Prelude.{◌≡◌, ℕ, ◌+◌, ◌++◌, ◌||◌, Bool, List, length}
-use Rattle.template_tree.specs.Tree.{Argument, Arguments, arguments_more}
-use Rattle.template_walk.specs.Expressions.{Passing, has_spread}
-use Rattle.template_code.specs.Listing.{code_in}
-use Rattle.template_code.specs.declared.listing.Instructions.{Instructions}
+use Rattle.template_compiler_tree.specs.Tree.{Argument, Arguments, arguments_more}
+use Rattle.template_compiler_walk.specs.Expressions.{Passing, has_spread}
+use Rattle.template_compiler_code.specs.Listing.{code_in}
+use Rattle.template_compiler_code.specs.declared.listing.Instructions.{Instructions}
 use Rattle.template_compiler_codegen.specs.Core.{Core, no_ways, flat}
 use Rattle.template_compiler_codegen.specs.Expressions.{Coded, listed_core, mapped_core, stretches_core, entries_stretches_core, list_count, rest_count, merged_core, keywords_core, run_core, positional_cores, keyword_cores}
 use Rattle.template_compiler_emission.specs.Puts.{Keeps, Puts}

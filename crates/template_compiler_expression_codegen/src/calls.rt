@@ -1,9 +1,9 @@
 //! Calls whose last keyword argument is put apart: what stands before its value, and what stands behind it.
 ghost use Rattle.std.specs.Prelude.{◌≡◌, [], ◌∷◌, OnOk, IfOk, IfErr};
-ghost use Rattle.template_tree.specs.View.{arguments_in, expression_of};
-ghost use Rattle.template_walk.specs.Runnable.{AreRunnableArguments, IsRunnable};
-ghost use Rattle.template_code.specs.Listing.{code_in, TakesNoMore};
-ghost use Rattle.template_code.specs.View.{code_of};
+ghost use Rattle.template_compiler_tree.specs.View.{arguments_in, expression_of};
+ghost use Rattle.template_compiler_walk.specs.Runnable.{AreRunnableArguments, IsRunnable};
+ghost use Rattle.template_compiler_code.specs.Listing.{code_in, TakesNoMore};
+ghost use Rattle.template_compiler_code.specs.View.{code_of};
 ghost use Rattle.template_compiler_emission.specs.Puts.{Puts};
 ghost use Rattle.template_compiler_expression_codegen.specs.Begun.{ArgumentsBegin, IsBegun, arguments_begun, begun_code, called_with, ended_code, front_code, front_count};
 ghost use Rattle.template_compiler_expression_codegen.specs.Calls.{call_of};
@@ -13,9 +13,9 @@ use crate::leaves::{one_more, put_keyword, several_more};
 use crate::stretches::{Stretches, put_map, put_merged, put_run, still_from};
 use std::alloc::Global;
 use std::borrow::CowStr;
-use template_code::{Instruction, Instructions};
+use template_compiler_code::{Instruction, Instructions};
 use template_compiler_emission::push;
-use template_tree::{Call, CallArg, Expr, Span};
+use template_compiler_tree::{Call, CallArg, Expr, Span};
 use template_values_errors::ErrorKind;
 
 /// The arguments of a call that are put, all but its last keyword argument.

@@ -1,17 +1,17 @@
 //! The comparisons of a chain, and its leaps, which are told their target at its end.
 ghost use Rattle.std.specs.Prelude.{◌≡◌, ◌++◌, ◌∷◌, [], OnOk, IfOk, IfErr, length};
-ghost use Rattle.template_code.specs.Code.{compare_and_preserve, jump_if_false_or_pop};
-ghost use Rattle.template_code.specs.Listing.{code_in, TakesNoMore};
+ghost use Rattle.template_compiler_code.specs.Code.{compare_and_preserve, jump_if_false_or_pop};
+ghost use Rattle.template_compiler_code.specs.Listing.{code_in, TakesNoMore};
 ghost use Rattle.template_compiler_codegen.specs.Expressions.{one};
 ghost use Rattle.template_compiler_folding.specs.Folding.{comparison_folded};
 ghost use Rattle.template_compiler_emission.specs.Puts.{Keeps, Puts, behind};
 ghost use Rattle.template_compiler_expression_codegen.specs.Chains.{is_false, leapt, left_behind};
 
 use crate::leaves::unless_refused;
-use template_code::Instructions;
+use template_compiler_code::Instructions;
 use template_compiler_emission::{Leap, comparison_instruction, land, load_copy, push, push_leap};
 use template_compiler_folding::fold_comparison;
-use template_tree::CompareOpKind;
+use template_compiler_tree::CompareOpKind;
 use template_values_core::Value;
 use template_values_errors::ErrorKind;
 

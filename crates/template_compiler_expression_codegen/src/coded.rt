@@ -1,12 +1,12 @@
 //! The left parts of an expression in the order of their code. There may be as many as the source is long.
 ghost use Rattle.std.specs.Prelude.{◌≡◌, ◌<◌, ◌≤◌, ◌&&◌, All, IfOk, IfSome, map, option_map};
-ghost use Rattle.template_tree.specs.Kinds.{is_self_name, is_empty};
-ghost use Rattle.template_tree.specs.View.{expression_of, arguments_in};
-ghost use Rattle.template_tree.specs.declared.expressions.Expr.{size-Expr};
+ghost use Rattle.template_compiler_tree.specs.Kinds.{is_self_name, is_empty};
+ghost use Rattle.template_compiler_tree.specs.View.{expression_of, arguments_in};
+ghost use Rattle.template_compiler_tree.specs.declared.expressions.Expr.{size-Expr};
 ghost use Rattle.template_compiler_expression_codegen.specs.Coded.{coded_left, coded_spine};
 
 use std::alloc::{AllocError, Global};
-use template_tree::{Call, Expr};
+use template_compiler_tree::{Call, Expr};
 
 // The left part whose code stands first in the expression's. It is the part that begins where the expression begins,
 // but of a call: that of a name or a block has no such part, and that of a method has the object, whose attribute is

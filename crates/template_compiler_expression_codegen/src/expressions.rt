@@ -4,13 +4,13 @@
 ghost use Rattle.std.specs.Prelude.{◌≡◌, [], ◌∷◌, IsNone, None, Some, OnOk, IfOk, IfErr, length, option_and_then};
 ghost use Rattle.std.specs.Cow.{cow_str_bytes};
 ghost use Rattle.template_values_model.specs.Val.{none, silent_undefined};
-ghost use Rattle.template_tree.specs.Tree.{list_literal, tuple_literal, map_literal};
-ghost use Rattle.template_tree.specs.View.{expression_of, optional_in, expressions_in, links_in, argument_of, arguments_in};
-ghost use Rattle.template_walk.specs.Constants.{constant_of, chain_constant};
-ghost use Rattle.template_walk.specs.Runnable.{IsRunnable, IsRunnableIfGiven, AreRunnable, AreRunnableArguments, IsRunnableChain, AreRunnableLinks};
-ghost use Rattle.template_walk.specs.Statements.{number_of};
-ghost use Rattle.template_code.specs.Code.{build_list, build_map, build_tuple, get_item, operate, slice};
-ghost use Rattle.template_code.specs.Listing.{code_in, TakesNoMore};
+ghost use Rattle.template_compiler_tree.specs.Tree.{list_literal, tuple_literal, map_literal};
+ghost use Rattle.template_compiler_tree.specs.View.{expression_of, optional_in, expressions_in, links_in, argument_of, arguments_in};
+ghost use Rattle.template_compiler_walk.specs.Constants.{constant_of, chain_constant};
+ghost use Rattle.template_compiler_walk.specs.Runnable.{IsRunnable, IsRunnableIfGiven, AreRunnable, AreRunnableArguments, IsRunnableChain, AreRunnableLinks};
+ghost use Rattle.template_compiler_walk.specs.Statements.{number_of};
+ghost use Rattle.template_compiler_code.specs.Code.{build_list, build_map, build_tuple, get_item, operate, slice};
+ghost use Rattle.template_compiler_code.specs.Listing.{code_in, TakesNoMore};
 ghost use Rattle.template_compiler_codegen.specs.Expressions.{one, then_code, skipped, either_code, unary_code, expression_code, optional_code, expressions_code, entries_code, codes_of, entry_count, chain_code, filter_code, passed_code, argument_count, keyword_count, keyword_cores};
 ghost use Rattle.template_compiler_folding.specs.Folding.{unary_folded, binary_folded, comparison_folded};
 ghost use Rattle.template_compiler_emission.specs.Leaps.{leap_code, leap_of};
@@ -29,12 +29,14 @@ use crate::operators::{Choice, end_choice, end_constant_unary, end_operator};
 use crate::stretches::{Stretches, put_list, put_map, put_merged, put_run, still_from};
 use std::alloc::Global;
 use std::borrow::CowStr;
-use template_code::{Instruction, Instructions};
+use template_compiler_code::{Instruction, Instructions};
 use template_compiler_emission::{
     Leap, land, leap_of, load_copy, operator_instruction, push, push_leap, unary_instruction,
 };
 use template_compiler_folding::{fold_list, fold_map, fold_tuple};
-use template_tree::{BinOpKind, Call, CallArg, CompareOp, Expr, Filter, Span, Test, UnaryOpKind};
+use template_compiler_tree::{
+    BinOpKind, Call, CallArg, CompareOp, Expr, Filter, Span, Test, UnaryOpKind,
+};
 use template_values_core::Value;
 use template_values_errors::ErrorKind;
 

@@ -1,8 +1,8 @@
 //! The filters of blocks.
 ghost use Rattle.std.specs.Prelude.{[], ◌∷◌, OnOk, IfErr};
-ghost use Rattle.template_tree.specs.View.{expression_of};
-ghost use Rattle.template_walk.specs.Runnable.{AreFilters};
-ghost use Rattle.template_code.specs.Listing.{code_in, TakesNoMore};
+ghost use Rattle.template_compiler_tree.specs.View.{expression_of};
+ghost use Rattle.template_compiler_walk.specs.Runnable.{AreFilters};
+ghost use Rattle.template_compiler_code.specs.Listing.{code_in, TakesNoMore};
 ghost use Rattle.template_compiler_codegen.specs.Expressions.{filters_code};
 ghost use Rattle.template_compiler_emission.specs.Puts.{Puts};
 ghost use Rattle.template_compiler_expression_codegen.specs.Filters.{IsLastRunnable, last_code};
@@ -11,8 +11,8 @@ use crate::coded::coded_spine;
 use crate::expressions::compile_filter;
 use crate::leaves::unless_refused;
 use std::alloc::Global;
-use template_code::Instructions;
-use template_tree::{Expr, Span};
+use template_compiler_code::Instructions;
+use template_compiler_tree::{Expr, Span};
 use template_values_errors::{Error, ErrorKind};
 
 /// Puts the code of the filters of a block behind the instructions: the first one over the value on top, each other one

@@ -2,17 +2,17 @@
 ghost use Rattle.std.specs.Prelude.{◌≡◌, ◌+◌, [], ◌∷◌, None, Some, Ok, OnOk, IfOk, IfErr};
 ghost use Rattle.std.specs.Cow.{cow_str_bytes};
 ghost use Rattle.template_values_model.specs.Val.{text};
-ghost use Rattle.template_code.specs.Code.{get_attr, load_const, lookup};
-ghost use Rattle.template_code.specs.Listing.{code_in, TakesNoMore};
+ghost use Rattle.template_compiler_code.specs.Code.{get_attr, load_const, lookup};
+ghost use Rattle.template_compiler_code.specs.Listing.{code_in, TakesNoMore};
 ghost use Rattle.template_compiler_codegen.specs.Expressions.{one};
 ghost use Rattle.template_compiler_emission.specs.Puts.{Puts, held, behind};
 ghost use Rattle.template_compiler_expression_codegen.specs.Own.{block_code};
 
 use std::alloc::Global;
 use std::borrow::CowStr;
-use template_code::{CaptureMode, Instruction, Instructions};
+use template_compiler_code::{CaptureMode, Instruction, Instructions};
 use template_compiler_emission::{load, push};
-use template_tree::Span;
+use template_compiler_tree::Span;
 use template_values_core::Value;
 use template_values_errors::ErrorKind;
 

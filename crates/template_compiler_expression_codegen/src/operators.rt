@@ -1,7 +1,7 @@
 //! Operators behind their operands. Where an operator gives a constant, what was put for its operands is dropped again.
 ghost use Rattle.std.specs.Prelude.{◌≡◌, [], ◌∷◌, IsNone, OnOk, IfOk, IfErr};
-ghost use Rattle.template_code.specs.Code.{operate};
-ghost use Rattle.template_code.specs.Listing.{code_in, TakesNoMore};
+ghost use Rattle.template_compiler_code.specs.Code.{operate};
+ghost use Rattle.template_compiler_code.specs.Listing.{code_in, TakesNoMore};
 ghost use Rattle.template_compiler_codegen.specs.Expressions.{one, unary_code};
 ghost use Rattle.template_compiler_folding.specs.Folding.{unary_folded, binary_folded};
 ghost use Rattle.template_compiler_emission.specs.Leaps.{leap_of};
@@ -10,10 +10,10 @@ ghost use Rattle.template_compiler_expression_codegen.specs.Ends.{CutOr, Lands};
 
 use crate::leaves::{hold, unless_refused};
 use std::alloc::Global;
-use template_code::Instructions;
+use template_compiler_code::Instructions;
 use template_compiler_emission::{Leap, land, load, operator_instruction, push, unary_instruction};
 use template_compiler_folding::{fold_binary, fold_unary, joins};
-use template_tree::{BinOpKind, Span, UnaryOpKind};
+use template_compiler_tree::{BinOpKind, Span, UnaryOpKind};
 use template_values_core::Value;
 use template_values_errors::ErrorKind;
 

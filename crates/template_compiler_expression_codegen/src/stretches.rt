@@ -1,15 +1,15 @@
 //! Arguments as they are passed: a stretch of values before a spread becomes a list, a stretch of names with their values a
 //! keyword map.
 ghost use Rattle.std.specs.Prelude.{◌≡◌, ◌+◌, [], ◌∷◌, None, Some, if◌then◌else◌, OnOk, IfOk, IfErr};
-ghost use Rattle.template_code.specs.Listing.{code_in, TakesNoMore};
+ghost use Rattle.template_compiler_code.specs.Listing.{code_in, TakesNoMore};
 ghost use Rattle.template_compiler_codegen.specs.Expressions.{at_most_one, merged_count};
 ghost use Rattle.template_compiler_emission.specs.Puts.{Puts};
 ghost use Rattle.template_compiler_expression_codegen.specs.Passing.{listed_code, mapped_code, merged_code, run_code};
 
 use crate::leaves::one_more;
-use template_code::{Instruction, Instructions};
+use template_compiler_code::{Instruction, Instructions};
 use template_compiler_emission::push;
-use template_tree::Span;
+use template_compiler_tree::Span;
 use template_values_errors::ErrorKind;
 
 // Arguments so far: how many lists and spreads there are of those that are passed by their place, or keyword maps and

@@ -1,9 +1,9 @@
 //! Whole expressions, which come from their span.
 ghost use Rattle.std.specs.Prelude.{◌≡◌, [], ◌∷◌, Some, OnOk, IfOk, IfErr};
-ghost use Rattle.template_tree.specs.View.{expression_of};
-ghost use Rattle.template_walk.specs.Constants.{constant_of};
-ghost use Rattle.template_walk.specs.Runnable.{IsRunnable};
-ghost use Rattle.template_code.specs.Listing.{code_in, TakesNoMore};
+ghost use Rattle.template_compiler_tree.specs.View.{expression_of};
+ghost use Rattle.template_compiler_walk.specs.Constants.{constant_of};
+ghost use Rattle.template_compiler_walk.specs.Runnable.{IsRunnable};
+ghost use Rattle.template_compiler_code.specs.Listing.{code_in, TakesNoMore};
 ghost use Rattle.template_compiler_codegen.specs.Expressions.{expression_code};
 ghost use Rattle.template_compiler_emission.specs.Puts.{Puts, unless};
 ghost use Rattle.template_compiler_expression_codegen.specs.Calls.{call_of};
@@ -14,9 +14,9 @@ use crate::expressions;
 use crate::leaves::first_from;
 use std::alloc::Global;
 use std::borrow::CowStr;
-use template_code::{Instruction, Instructions};
+use template_compiler_code::{Instruction, Instructions};
 use template_compiler_emission::push;
-use template_tree::{Call, Expr, Span, Spanned};
+use template_compiler_tree::{Call, Expr, Span, Spanned};
 use template_values_core::Value;
 use template_values_errors::{Error, ErrorKind};
 

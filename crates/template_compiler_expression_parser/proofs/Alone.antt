@@ -1,11 +1,11 @@
 -- An operand that is alone: no level goes on with it.
 use Rattle.std.proofs.Common.{◌≡◌, codes, bytes_eq, Bool, true, false, ◌&&◌, not, if◌then◌else◌, pos, Result, Ok, List, [], ◌∷◌, None, refl, sym, ap, subst, ◌∙◌}
 use Rattle.template_values_model.specs.Val.{int, none}
-use Rattle.template_tree.specs.Tree.{Expression, constant, unary}
-use Rattle.template_tree.specs.declared.expressions.Expr.{Expr}
-use Rattle.template_tree.specs.declared.operators.UnaryOpKind.TheVariants as unaries
-use Rattle.template_tree.specs.declared.span.Span.{Span}
-use Rattle.template_tree.specs.NodePlaces.{no_parts, one}
+use Rattle.template_compiler_tree.specs.Tree.{Expression, constant, unary}
+use Rattle.template_compiler_tree.specs.declared.expressions.Expr.{Expr}
+use Rattle.template_compiler_tree.specs.declared.operators.UnaryOpKind.TheVariants as unaries
+use Rattle.template_compiler_tree.specs.declared.span.Span.{Span}
+use Rattle.template_compiler_tree.specs.NodePlaces.{no_parts, one}
 use Rattle.template_compiler_tokens.specs.Places.{next_span, stretch}
 use Rattle.template_compiler_tokens.specs.Token.{Token, identifier, number, symbol, variable_end, block_end, comma, colon, paren_close, bracket_close, brace_close}
 use Rattle.template_compiler_grammar.specs.Words.{is_word, literal_word, Level, factors, texts, terms, conjunction, disjunction, operator}

@@ -1,6 +1,6 @@
 -- Filters behind one another, round by round.
 use Rattle.std.proofs.Common.{◌≡◌, ℕ, false, List, ◌∷◌, ◌<◌, length, Ok, refl}
-use Rattle.template_tree.specs.declared.span.Span.{Span}
+use Rattle.template_compiler_tree.specs.declared.span.Span.{Span}
 use Rattle.template_compiler_tokens.specs.Places.{next_span}
 use Rattle.template_compiler_tokens.specs.Token.{Token, symbol, pipe}
 use Rattle.template_compiler_tokens.specs.Steps.{all}

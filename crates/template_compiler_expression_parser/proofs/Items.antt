@@ -1,6 +1,6 @@
 -- Rounds of items, pairs and arguments, by what they read.
 use Rattle.std.proofs.Common.{◌≡◌, true, false, if◌then◌else◌, List, Ok, sym, ap, ◌∙◌}
-use Rattle.template_tree.specs.declared.span.Span.{Span}
+use Rattle.template_compiler_tree.specs.declared.span.Span.{Span}
 use Rattle.template_compiler_tokens.specs.Token.{Token}
 use Rattle.template_compiler_tokens.specs.Steps.{Read, and_then, Step, goes, stops, under}
 use Rattle.template_compiler_grammar.specs.ReaderParts.{begins_closing, colon_end, separated, unless_closing}

@@ -1,8 +1,8 @@
 -- Comparisons behind a sum, by what stands next.
 use Rattle.std.proofs.Common.{◌≡◌, codes, Bool, true, false, if◌then◌else◌, Result, Ok, Err, List, [], ◌∷◌, None, Some, refl, sym, ap, ◌∙◌}
-use Rattle.template_tree.specs.declared.span.Span.{Span}
-use Rattle.template_tree.specs.declared.operators.CompareOpKind.{CompareOpKind}
-use Rattle.template_tree.specs.declared.operators.CompareOpKind.TheVariants as comparisons
+use Rattle.template_compiler_tree.specs.declared.span.Span.{Span}
+use Rattle.template_compiler_tree.specs.declared.operators.CompareOpKind.{CompareOpKind}
+use Rattle.template_compiler_tree.specs.declared.operators.CompareOpKind.TheVariants as comparisons
 use Rattle.template_compiler_tokens.specs.Token.{Token, TokenFault, bad, identifier}
 use Rattle.template_compiler_grammar.specs.Words.{begins_word, is_word, comparison_operator}
 use Rattle.template_compiler_grammar.specs.Nodes.{Node, PlacedLinks, and_placed_link}

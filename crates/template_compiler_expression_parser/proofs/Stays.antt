@@ -1,11 +1,11 @@
 -- An operand stays what it is where what stands next goes on with nothing; and what is read behind it else.
 use Rattle.std.proofs.Common.{◌≡◌, codes, bytes_eq, ℕ, Bool, true, false, ◌||◌, not, if◌then◌else◌, Result, Ok, Err, Option, option_map, is_some, List, [], ◌∷◌, None, Some, refl, sym, ap, subst, ◌∙◌}
-use Rattle.template_tree.specs.declared.expressions.Expr.{Expr}
-use Rattle.template_tree.specs.declared.span.Span.{Span}
-use Rattle.template_tree.specs.declared.operators.CompareOpKind.TheVariants as comparisons
-use Rattle.template_tree.specs.declared.operators.UnaryOpKind.TheVariants as unaries
-use Rattle.template_tree.specs.NodePlaces.{one}
-use Rattle.template_tree.specs.Tree.{unary}
+use Rattle.template_compiler_tree.specs.declared.expressions.Expr.{Expr}
+use Rattle.template_compiler_tree.specs.declared.span.Span.{Span}
+use Rattle.template_compiler_tree.specs.declared.operators.CompareOpKind.TheVariants as comparisons
+use Rattle.template_compiler_tree.specs.declared.operators.UnaryOpKind.TheVariants as unaries
+use Rattle.template_compiler_tree.specs.NodePlaces.{one}
+use Rattle.template_compiler_tree.specs.Tree.{unary}
 use Rattle.template_compiler_tokens.specs.Places.{next_span, stretch}
 use Rattle.template_compiler_tokens.specs.Token.{Token, Symbol, identifier, symbol, plus, minus, mul, div, floor_div, modulo, tilde, eq, ne, gt, gte, lt, lte, dot, bracket_open, paren_open, pipe, pow}
 use Rattle.template_compiler_tokens.specs.Steps.{Read, and_then, stops, all}

@@ -1,11 +1,11 @@
 -- An item, by what is read of it in turn.
 use Rattle.std.proofs.Common.{◌≡◌, false, Result, Ok, List, sym, ap, subst, ◌∙◌}
-use Rattle.template_tree.specs.Tree.{item}
-use Rattle.template_tree.specs.View.{expression_of}
-use Rattle.template_tree.specs.ExpressionPlaces.{places_of}
-use Rattle.template_tree.specs.NodePlaces.{at, one, parts_more}
-use Rattle.template_tree.specs.declared.expressions.Expr.{Expr}
-use Rattle.template_tree.specs.declared.span.Span.{Span}
+use Rattle.template_compiler_tree.specs.Tree.{item}
+use Rattle.template_compiler_tree.specs.View.{expression_of}
+use Rattle.template_compiler_tree.specs.ExpressionPlaces.{places_of}
+use Rattle.template_compiler_tree.specs.NodePlaces.{at, one, parts_more}
+use Rattle.template_compiler_tree.specs.declared.expressions.Expr.{Expr}
+use Rattle.template_compiler_tree.specs.declared.span.Span.{Span}
 use Rattle.template_compiler_tokens.specs.Places.{next_span, until}
 use Rattle.template_compiler_tokens.specs.Token.{Token, colon}
 use Rattle.template_compiler_tokens.specs.Steps.{Read}

@@ -1,9 +1,9 @@
 -- What is read with places, without them.
 use Rattle.std.proofs.Common.{◌≡◌, ℕ, List, Result, Ok, Err, Option}
-use Rattle.template_tree.specs.Tree.{Expression, Optional}
-use Rattle.template_tree.specs.View.{expression_of, optional_in}
-use Rattle.template_tree.specs.declared.expressions.Expr.{Expr}
-use Rattle.template_tree.specs.declared.span.Span.{Span}
+use Rattle.template_compiler_tree.specs.Tree.{Expression, Optional}
+use Rattle.template_compiler_tree.specs.View.{expression_of, optional_in}
+use Rattle.template_compiler_tree.specs.declared.expressions.Expr.{Expr}
+use Rattle.template_compiler_tree.specs.declared.span.Span.{Span}
 use Rattle.template_compiler_tokens.specs.Token.{Token}
 use Rattle.template_compiler_tokens.specs.Steps.{Read}
 use Rattle.template_compiler_grammar.specs.Nodes.{Node, OptionalNode, bare}

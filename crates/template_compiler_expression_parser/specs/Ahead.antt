@@ -6,10 +6,10 @@ use Rattle.template_compiler_tokens.specs.Steps.{Read, and_then, all}
 use Rattle.template_compiler_grammar.specs.Words.{begins_word, factors, texts, terms, conjunction, disjunction}
 use Rattle.template_compiler_grammar.specs.Nodes.{Node, node, compared_node, no_placed_links}
 use Rattle.template_compiler_grammar.specs.Reader.{Deeper, unary_by, filter_step, power_behind, operand_by, operand_step, link_step, terms_by, up_to}
-use Rattle.template_tree.specs.Tree.{unary}
-use Rattle.template_tree.specs.NodePlaces.{one}
-use Rattle.template_tree.specs.declared.operators.UnaryOpKind.TheVariants as unaries
-use Rattle.template_tree.specs.declared.span.Span.{Span}
+use Rattle.template_compiler_tree.specs.Tree.{unary}
+use Rattle.template_compiler_tree.specs.NodePlaces.{one}
+use Rattle.template_compiler_tree.specs.declared.operators.UnaryOpKind.TheVariants as unaries
+use Rattle.template_compiler_tree.specs.declared.span.Span.{Span}
 use Rattle.template_compiler_stream.specs.Signs.{next_symbol, next_comparison, begins_symbol}
 
 -- the operators of sums

@@ -8,12 +8,12 @@ ghost use Rattle.template_compiler_grammar.specs.ReaderParts.{colon_end, paren_e
 ghost use Rattle.template_compiler_grammar.specs.Reader.{link_behind, argument_by, arguments_by, arguments_step, binary_by, bound_by, deeper, else_behind, expression_by, filter_by, filter_step, if_behind, is_by, items_step, link_step, list_by, map_by, negation_by, not_in_link, operand_by, operand_step, optional_arguments_by, paren_by, part_step, parts_by, pairs_step, power_behind, power_by, primary_by, slice_by, step_by, subscript_by, terms_by, test_arguments_by, test_by, through_next, unary_by, up_to};
 ghost use Rattle.template_compiler_grammar.specs.Nodes.{first_node, given_node, no_placed_links, no_placed_pairs, no_placed_written, node};
 ghost use Rattle.template_compiler_grammar.specs.Views.{node_of, nodes_in, optional_node_in, placed_argument_of, placed_arguments_in, placed_links_in};
-ghost use Rattle.template_tree.specs.ExpressionPlaces.{places_of};
-ghost use Rattle.template_tree.specs.NodePlaces.{parts_more};
+ghost use Rattle.template_compiler_tree.specs.ExpressionPlaces.{places_of};
+ghost use Rattle.template_compiler_tree.specs.NodePlaces.{parts_more};
 ghost use Rattle.template_compiler_grammar.specs.Words.{disjunction};
 ghost use Rattle.template_compiler_tokens.specs.Steps.{and_then, all, goes, under};
-ghost use Rattle.template_tree.specs.Tree.{call, tuple_literal};
-ghost use Rattle.template_tree.specs.View.{expression_of};
+ghost use Rattle.template_compiler_tree.specs.Tree.{call, tuple_literal};
+ghost use Rattle.template_compiler_tree.specs.View.{expression_of};
 
 use std::alloc::Global;
 use std::borrow::CowStr;
@@ -22,7 +22,9 @@ use template_compiler_expression_parts::{
     in_order, in_parens, literal, name, separated, tested,
 };
 use template_compiler_stream::{Level, Refusal, Sign, TokenStream};
-use template_tree::{BinOpKind, CallArg, CompareOp, CompareOpKind, Expr, Span, UnaryOpKind};
+use template_compiler_tree::{
+    BinOpKind, CallArg, CompareOp, CompareOpKind, Expr, Span, UnaryOpKind,
+};
 
 // An expression, with so many nesting levels left. Most are operands that are alone, or ones behind which no word stands.
 #[cycle(parser)]

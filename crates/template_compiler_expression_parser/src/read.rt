@@ -4,13 +4,13 @@ ghost use Rattle.template_compiler_expression_parts.specs.Parsed.{Parsed, Parsed
 ghost use Rattle.template_compiler_grammar.specs.Reader.{expression_at, condition_at, filter_at, filter_chain_at};
 ghost use Rattle.template_compiler_grammar.specs.TreeReader as trees;
 ghost use Rattle.template_compiler_grammar.specs.Views.{optional_node_in};
-ghost use Rattle.template_tree.specs.View.{expression_of, optional_in};
+ghost use Rattle.template_compiler_tree.specs.View.{expression_of, optional_in};
 ghost use Rattle.std.specs.Prelude.{◌≡◌};
 
 use crate::expressions::{binary, expression, filter};
 use std::alloc::Global;
 use template_compiler_stream::{Level, Refusal, Sign, TokenStream};
-use template_tree::Expr;
+use template_compiler_tree::Expr;
 
 /// Reads an expression.
 ///

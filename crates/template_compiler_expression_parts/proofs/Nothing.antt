@@ -1,11 +1,11 @@
 -- What stands next, where a sign does not.
 use Rattle.std.proofs.Common.{◌≡◌, Bool, true, false, if◌then◌else◌, List, [], ◌∷◌, Result, Ok, Err, refl, sym, subst, ap}
-use Rattle.template_tree.specs.Tree.{item, positional}
-use Rattle.template_tree.specs.NodePlaces.{parts_more, one}
+use Rattle.template_compiler_tree.specs.Tree.{item, positional}
+use Rattle.template_compiler_tree.specs.NodePlaces.{parts_more, one}
 use Rattle.template_compiler_tokens.specs.Token.{Token, TokenFault, symbol, identifier, mul, pow, comma, colon, assign, bracket_open, bracket_close, paren_open, paren_close, brace_open, brace_close}
 use Rattle.template_compiler_tokens.specs.Steps.{Read, fault, and_then, goes, fails}
 use Rattle.template_compiler_grammar.specs.ReaderParts.{paren_end, bracket_end, brace_end, colon_end, begins_closing, separated}
-use Rattle.template_tree.specs.declared.span.Span.{Span}
+use Rattle.template_compiler_tree.specs.declared.span.Span.{Span}
 use Rattle.template_compiler_grammar.specs.Nodes.{placed, Node, node, no_node, given_node, PlacedArguments, no_placed_arguments, PlacedWritten}
 use Rattle.template_compiler_grammar.specs.Reader.{Deeper, nothing_deeper, few_arguments, primary_by, optional_arguments_by, paren_behind, paren_by, step_by, item_by, subscript_behind, named_argument, argument_by, through_next}
 use Rattle.template_compiler_stream.specs.declared.refusal.Refusal.{Refusal}

@@ -3,19 +3,19 @@ use Rattle.std.proofs.Common.{◌≡◌, ◌<◌, ◌≤◌, Bool, true, false, 
 use Rattle.std.specs.Prelude.{nat_le, Result, IfOk}
 use Rattle.std.proofs.lemmas.Bool.Decides.{nat_tests}
 use Rattle.template_compiler_tokens.specs.Token.{Token, bad_syntax}
-use Rattle.template_tree.specs.declared.span.Span.{Span}
-use Rattle.template_tree.specs.NodePlaces.{at, parts_more}
-use Rattle.template_tree.specs.ExpressionPlaces.{places_of, places_in, places_of_argument, places_in_arguments, places_in_links}
+use Rattle.template_compiler_tree.specs.declared.span.Span.{Span}
+use Rattle.template_compiler_tree.specs.NodePlaces.{at, parts_more}
+use Rattle.template_compiler_tree.specs.ExpressionPlaces.{places_of, places_in, places_of_argument, places_in_arguments, places_in_links}
 use Rattle.template_compiler_grammar.specs.DerivedNodes.{and_place}
 use Rattle.template_compiler_grammar.specs.Nodes.{placed, placed_in_order, Node, node, compared_node, PlacedWritten}
 use Rattle.template_compiler_grammar.specs.Reader.{few_arguments}
 use Rattle.template_compiler_grammar.specs.Views.{node_of, placed_arguments_in, placed_links_in}
 use Rattle.template_compiler_grammar.proofs.Pushes.{placed_arguments_append}
-use Rattle.template_tree.specs.Tree.{expressions_more, links_more, chain, arguments_more}
-use Rattle.template_tree.specs.View.{expression_of, expressions_in, links_in, argument_of, arguments_in}
-use Rattle.template_tree.specs.declared.calls.CallArg.{CallArg}
-use Rattle.template_tree.specs.declared.expressions.CompareOp.{CompareOp}
-use Rattle.template_tree.specs.declared.expressions.Expr.{Expr}
+use Rattle.template_compiler_tree.specs.Tree.{expressions_more, links_more, chain, arguments_more}
+use Rattle.template_compiler_tree.specs.View.{expression_of, expressions_in, links_in, argument_of, arguments_in}
+use Rattle.template_compiler_tree.specs.declared.calls.CallArg.{CallArg}
+use Rattle.template_compiler_tree.specs.declared.expressions.CompareOp.{CompareOp}
+use Rattle.template_compiler_tree.specs.declared.expressions.Expr.{Expr}
 use Rattle.template_compiler_grammar.specs.Trees.{and_expression, and_link, and_argument, followed_by, argument_count, in_order}
 
 pub expressions_push : (xs : List Expr) (x : Expr) → expressions_in (xs ++ x ∷ []) ≡ and_expression (expressions_in xs) (expression_of x)

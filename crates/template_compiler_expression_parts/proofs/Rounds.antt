@@ -1,8 +1,8 @@
 -- Rounds of repetitions, by what stands next.
 use Rattle.std.proofs.Common.{◌≡◌, codes, true, false, if◌then◌else◌, ℕ, Result, Ok, Err, List, [], ◌∷◌, None, Some, refl, sym, ap, subst, ◌∙◌}
-use Rattle.template_tree.specs.Tree.{Expression, attribute, binary}
-use Rattle.template_tree.specs.declared.operators.BinOpKind.{BinOpKind}
-use Rattle.template_tree.specs.declared.expressions.Expr.{Expr}
+use Rattle.template_compiler_tree.specs.Tree.{Expression, attribute, binary}
+use Rattle.template_compiler_tree.specs.declared.operators.BinOpKind.{BinOpKind}
+use Rattle.template_compiler_tree.specs.declared.expressions.Expr.{Expr}
 use Rattle.template_compiler_tokens.specs.Token.{Token, TokenFault, bad, symbol, identifier, number, dot, pipe, bracket_open, paren_open}
 use Rattle.template_compiler_grammar.specs.Words.{begins_dotted, begins_word, word_not, Level, factors, texts, terms, conjunction, disjunction, operator}
 use Rattle.template_compiler_grammar.specs.Trees.{dotted}
@@ -12,14 +12,14 @@ use Rattle.template_compiler_tokens.proofs.Loops.{Shrinks, all_goes, all_stops, 
 use Rattle.template_compiler_stream.specs.declared.refusal.Refusal.{Refusal}
 use Rattle.template_compiler_stream.specs.declared.refusal.Refusal.TheVariants as refusals
 use Rattle.template_compiler_stream.specs.Refusals.{Refused, fault_of}
-use Rattle.template_tree.specs.declared.span.Span.{Span}
+use Rattle.template_compiler_tree.specs.declared.span.Span.{Span}
 use Rattle.template_compiler_tokens.specs.Places.{next_span}
 use Rattle.template_compiler_grammar.specs.Nodes.{placed, Node, node, OptionalNode, given_node, binary_node}
 use Rattle.template_compiler_grammar.specs.Reader.{Deeper, dot_part, operand_behind, operand_step, part_step, is_by, test_by, filter_by, filter_step, chain_step, up_to}
 use Rattle.template_compiler_grammar.specs.Views.{node_of}
-use Rattle.template_tree.specs.View.{expression_of}
-use Rattle.template_tree.specs.ExpressionPlaces.{places_of}
-use Rattle.template_tree.specs.NodePlaces.{Places, at, parts_more, one}
+use Rattle.template_compiler_tree.specs.View.{expression_of}
+use Rattle.template_compiler_tree.specs.ExpressionPlaces.{places_of}
+use Rattle.template_compiler_tree.specs.NodePlaces.{Places, at, parts_more, one}
 use Rattle.template_compiler_expression_parts.specs.Parsed.{RefusedStep, WentOn, dotted_by}
 use Rattle.template_compiler_stream.specs.Left.{passed}
 use Rattle.template_compiler_stream.specs.Signs.{next_operator, next_word, begins_symbol}

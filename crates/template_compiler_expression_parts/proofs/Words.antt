@@ -3,9 +3,9 @@ use Rattle.std.proofs.Common.{◌≡◌, ℕ, Result, Ok, List, [], ◌∷◌, S
 use Rattle.template_compiler_tokens.specs.Token.{Token, identifier, symbol, paren_open, bracket_open, brace_open}
 use Rattle.template_compiler_stream.specs.declared.refusal.Refusal.{Refusal}
 use Rattle.template_compiler_expression_parts.specs.Parsed.{Parsed, literal_at}
-use Rattle.template_tree.specs.declared.span.Span.{Span}
-use Rattle.template_tree.specs.declared.expressions.Expr.{Expr}
-use Rattle.template_tree.specs.NodePlaces.{no_parts}
+use Rattle.template_compiler_tree.specs.declared.span.Span.{Span}
+use Rattle.template_compiler_tree.specs.declared.expressions.Expr.{Expr}
+use Rattle.template_compiler_tree.specs.NodePlaces.{no_parts}
 use Rattle.template_compiler_tokens.specs.Places.{next_span}
 use Rattle.template_compiler_grammar.specs.ReaderParts.{word_tree}
 use Rattle.template_compiler_grammar.specs.Nodes.{node}

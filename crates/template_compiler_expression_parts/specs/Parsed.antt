@@ -1,11 +1,11 @@
 -- What a function of the parser answers, against what the reader reads.
 use Rattle.std.specs.Prelude.{◌≡◌, ◌∷◌, ℕ, suc, pos, Bool, true, false, List, Option, Result, Ok, Err}
-use Rattle.template_tree.specs.Tree.{constant, attribute, item, positional, positional_spread, keyword_spread}
-use Rattle.template_tree.specs.declared.span.Span.{Span}
-use Rattle.template_tree.specs.View.{expressions_in, arguments_in}
-use Rattle.template_tree.specs.ExpressionPlaces.{places_in, places_in_arguments}
-use Rattle.template_tree.specs.NodePlaces.{at, no_parts, parts_more, one}
-use Rattle.template_tree.specs.declared.expressions.Expr.{Expr}
+use Rattle.template_compiler_tree.specs.Tree.{constant, attribute, item, positional, positional_spread, keyword_spread}
+use Rattle.template_compiler_tree.specs.declared.span.Span.{Span}
+use Rattle.template_compiler_tree.specs.View.{expressions_in, arguments_in}
+use Rattle.template_compiler_tree.specs.ExpressionPlaces.{places_in, places_in_arguments}
+use Rattle.template_compiler_tree.specs.NodePlaces.{at, no_parts, parts_more, one}
+use Rattle.template_compiler_tree.specs.declared.expressions.Expr.{Expr}
 use Rattle.template_compiler_tokens.specs.Token.{Token, identifier, string, number, symbol, mul, pow}
 use Rattle.template_values_model.specs.Val.{int, text}
 use Rattle.template_compiler_tokens.specs.Steps.{Read, fault, and_then, Step, goes, stops, fails, all}

@@ -5,7 +5,7 @@ ghost use Rattle.template_compiler_grammar.specs.Views.{node_of, placed_argument
 ghost use Rattle.template_compiler_expression_parts.specs.Parsed.{paired_in, written_in};
 
 use std::alloc::AllocError;
-use template_tree::{CallArg, Expr};
+use template_compiler_tree::{CallArg, Expr};
 
 /// What stands behind a value in a repetition.
 #[derive(Drop)]

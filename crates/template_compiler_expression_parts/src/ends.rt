@@ -4,13 +4,13 @@ ghost use Rattle.template_compiler_expression_parts.specs.Parsed.{IsDeeper, Pars
 ghost use Rattle.template_compiler_grammar.specs.ReaderParts.{brace_end, bracket_end, colon_end, paren_end, separated};
 ghost use Rattle.template_compiler_grammar.specs.Reader.{few_arguments};
 ghost use Rattle.template_compiler_grammar.specs.Views.{node_of, placed_arguments_in};
-ghost use Rattle.template_tree.specs.declared.span.Span.{Span};
+ghost use Rattle.template_compiler_tree.specs.declared.span.Span.{Span};
 ghost use Rattle.template_compiler_tokens.specs.Steps.{and_then};
 ghost use Rattle.template_compiler_tokens.specs.Token.{Token};
 
 use crate::behind::Written;
 use template_compiler_stream::{Fault, Refusal, Sign, TokenStream};
-use template_tree::{CallArg, Expr};
+use template_compiler_tree::{CallArg, Expr};
 
 /// The most arguments of a call, a filter or a test.
 const ARGUMENT_LIMIT: usize = 2000;

@@ -7,22 +7,22 @@ ghost use Rattle.template_compiler_grammar.specs.ReaderParts.{dotted_step, name_
 ghost use Rattle.template_compiler_grammar.specs.Nodes.{node};
 ghost use Rattle.template_compiler_grammar.specs.Reader.{dot_part, nothing_deeper, primary_by, up_to};
 ghost use Rattle.template_compiler_grammar.specs.Views.{node_of};
-ghost use Rattle.template_tree.specs.ExpressionPlaces.{places_of};
-ghost use Rattle.template_tree.specs.NodePlaces.{at, no_parts, one, parts_more};
+ghost use Rattle.template_compiler_tree.specs.ExpressionPlaces.{places_of};
+ghost use Rattle.template_compiler_tree.specs.NodePlaces.{at, no_parts, one, parts_more};
 ghost use Rattle.template_compiler_grammar.specs.Trees.{dotted};
 ghost use Rattle.template_compiler_grammar.specs.Words.{literal_word};
 ghost use Rattle.template_compiler_tokens.specs.Steps.{all, and_then};
 ghost use Rattle.template_compiler_tokens.specs.Token as lexed;
 ghost use Rattle.template_compiler_tokens.specs.View.{token_of};
-ghost use Rattle.template_tree.specs.Tree.{constant, item};
-ghost use Rattle.template_tree.specs.View.{expression_of};
+ghost use Rattle.template_compiler_tree.specs.Tree.{constant, item};
+ghost use Rattle.template_compiler_tree.specs.View.{expression_of};
 ghost use Rattle.template_values_model.specs.Val.{int, text};
 
 use std::alloc::{AllocError, Global};
 use std::borrow::CowStr;
 use template_compiler_stream::{Fault, First, Refusal, TokenStream};
 use template_compiler_tokens::Token;
-use template_tree::{Expr, Span};
+use template_compiler_tree::{Expr, Span};
 use template_values_core::Value;
 
 /// The name of a filter or a test: identifiers with dots between them.

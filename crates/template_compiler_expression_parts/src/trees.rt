@@ -6,7 +6,9 @@ ghost use Rattle.template_compiler_grammar.specs.Views.{node_of, placed_argument
 
 use std::alloc::{AllocError, Global};
 use std::borrow::CowStr;
-use template_tree::{BinOpKind, CallArg, CompareOp, CompareOpKind, Expr, Span, UnaryOpKind};
+use template_compiler_tree::{
+    BinOpKind, CallArg, CompareOp, CompareOpKind, Expr, Span, UnaryOpKind,
+};
 
 /// A value with the comparisons behind it: none is the value, one an operator, more are a chain.
 pub fn compared<'source>(

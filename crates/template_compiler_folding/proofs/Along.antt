@@ -2,12 +2,12 @@
 use Rattle.std.proofs.Common.{◌≡◌, List, Option, None, Bor, refl}
 use Rattle.std.specs.List.{fold}
 use Rattle.template_values_model.specs.Val.{Val}
-use Rattle.template_tree.specs.Tree.{Expression, variable, constant, unary, binary, chain, conditional, filtered, tested, attribute, item, call, list_literal, tuple_literal, map_literal}
-use Rattle.template_tree.specs.Tree as tree
-use Rattle.template_tree.specs.View.{expression_of}
-use Rattle.template_tree.specs.declared.expressions.Expr.{Expr}
-use Rattle.template_tree_parts.specs.Spine.{left_of, before}
-use Rattle.template_walk.specs.Constants.{constant_of}
+use Rattle.template_compiler_tree.specs.Tree.{Expression, variable, constant, unary, binary, chain, conditional, filtered, tested, attribute, item, call, list_literal, tuple_literal, map_literal}
+use Rattle.template_compiler_tree.specs.Tree as tree
+use Rattle.template_compiler_tree.specs.View.{expression_of}
+use Rattle.template_compiler_tree.specs.declared.expressions.Expr.{Expr}
+use Rattle.template_compiler_tree_parts.specs.Spine.{left_of, before}
+use Rattle.template_compiler_walk.specs.Constants.{constant_of}
 use Rattle.template_compiler_folding.specs.Nodes.{node_constant}
 
 pub node_step : (e : Expression) → constant_of e ≡ node_constant (before constant_of None (left_of e)) e

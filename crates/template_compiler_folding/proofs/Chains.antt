@@ -4,12 +4,12 @@ use Rattle.std.proofs.lemmas.List.{drop_more}
 use Rattle.std.specs.Prelude.{option_and_then}
 use Rattle.template_values_model.specs.Val.{Val}
 use Rattle.template_values_forms.specs.Known.{nothing_known}
-use Rattle.template_tree.specs.declared.expressions.CompareOp.{CompareOp}
-use Rattle.template_tree.specs.declared.operators.CompareOpKind.{CompareOpKind}
-use Rattle.template_tree.specs.Tree.{Links, no_links, links_more}
-use Rattle.template_tree.specs.View.{expression_of, links_in}
-use Rattle.template_walk.specs.Constants.{chain_constant, chain_decided, constant_of, made}
-use Rattle.template_walk.specs.Operators.{compared}
+use Rattle.template_compiler_tree.specs.declared.expressions.CompareOp.{CompareOp}
+use Rattle.template_compiler_tree.specs.declared.operators.CompareOpKind.{CompareOpKind}
+use Rattle.template_compiler_tree.specs.Tree.{Links, no_links, links_more}
+use Rattle.template_compiler_tree.specs.View.{expression_of, links_in}
+use Rattle.template_compiler_walk.specs.Constants.{chain_constant, chain_decided, constant_of, made}
+use Rattle.template_compiler_walk.specs.Operators.{compared}
 use Rattle.template_compiler_folding.specs.Folding.{comparison_folded, is_known_true}
 use Rattle.template_compiler_folding.specs.Nodes.{constant_from}
 

@@ -2,12 +2,12 @@
 use Rattle.std.proofs.Common.{◌≡◌, ℕ, ◌+◌, ◌<◌, ◌≤◌, List, [], ◌∷◌, ◌++◌, length, get_or, drop, Option, None, Some, Box, Global, refl, sym, ap, ◌∙◌, append-nil, append_assoc}
 use Rattle.std.proofs.lemmas.List.{drop_more, drop_all}
 use Rattle.template_values_model.specs.Val.{Val}
-use Rattle.template_tree.specs.View.{expression_of, expressions_in}
-use Rattle.template_tree.specs.declared.span.Spanned.{Spanned}
-use Rattle.template_tree.specs.declared.expressions.Const.{Const as Literal}
-use Rattle.template_tree.specs.declared.expressions.Expr.{Expr, Const, Compare'}
-use Rattle.template_tree.specs.declared.expressions.Compare.{Compare' as compared}
-use Rattle.template_walk.specs.Constants.{both, literal_of, literals_of}
+use Rattle.template_compiler_tree.specs.View.{expression_of, expressions_in}
+use Rattle.template_compiler_tree.specs.declared.span.Spanned.{Spanned}
+use Rattle.template_compiler_tree.specs.declared.expressions.Const.{Const as Literal}
+use Rattle.template_compiler_tree.specs.declared.expressions.Expr.{Expr, Const, Compare'}
+use Rattle.template_compiler_tree.specs.declared.expressions.Compare.{Compare' as compared}
+use Rattle.template_compiler_walk.specs.Constants.{both, literal_of, literals_of}
 
 -- a node that is no constant is no literal
 pub other_than_literal : (e : Expr) → ((x : Box (Spanned Literal) Global) → e ≡ Const x → ⊥) → None ≡ literal_of (expression_of e)

@@ -5,7 +5,7 @@ use Rattle.template_values_model.specs.Val.{Val}
 use Rattle.template_values_core.specs.Shape.{pairs_in}
 use Rattle.template_values_core.proofs.PairLemmas.{pairs_in_push}
 use Rattle.template_values_core.specs.declared.value.Entry.{Entry}
-use Rattle.template_walk.specs.Containers.{pairs_with}
+use Rattle.template_compiler_walk.specs.Containers.{pairs_with}
 
 -- one pair more
 pub one_pair : (ks vs : List Val) (i : ℕ) (k v : Val) (es : List Entry) → i < length ks → i < length vs → k ≡ get_or ks i k → v ≡ get_or vs i v

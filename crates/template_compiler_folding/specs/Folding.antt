@@ -3,11 +3,11 @@ use Rattle.std.specs.Prelude.{Bool, false, Option, None, Some, option_and_then}
 use Rattle.template_values_model.specs.Val.{Val}
 use Rattle.template_values_core.specs.Reads.{is_true}
 use Rattle.template_values_forms.specs.Known.{nothing_known}
-use Rattle.template_tree.specs.declared.operators.UnaryOpKind.{UnaryOpKind}
-use Rattle.template_tree.specs.declared.operators.BinOpKind.{BinOpKind}
-use Rattle.template_tree.specs.declared.operators.CompareOpKind.{CompareOpKind}
-use Rattle.template_walk.specs.Operators.{compared}
-use Rattle.template_walk.specs.Constants.{made, unary_constant, binary_constant}
+use Rattle.template_compiler_tree.specs.declared.operators.UnaryOpKind.{UnaryOpKind}
+use Rattle.template_compiler_tree.specs.declared.operators.BinOpKind.{BinOpKind}
+use Rattle.template_compiler_tree.specs.declared.operators.CompareOpKind.{CompareOpKind}
+use Rattle.template_compiler_walk.specs.Operators.{compared}
+use Rattle.template_compiler_walk.specs.Constants.{made, unary_constant, binary_constant}
 
 abbrev pub unary_folded : UnaryOpKind → Option Val → Option Val
 unary_folded op operand = option_and_then (unary_constant op) operand

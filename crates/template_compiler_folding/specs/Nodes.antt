@@ -1,8 +1,8 @@
 -- What a node of an expression makes of the constant of its left part.
 use Rattle.std.specs.Prelude.{Option, option_and_then}
 use Rattle.template_values_model.specs.Val.{Val}
-use Rattle.template_tree.specs.Tree.{Expression, Links, no_links, links_more, binary, chain}
-use Rattle.template_walk.specs.Constants.{constant_of, chain_constant}
+use Rattle.template_compiler_tree.specs.Tree.{Expression, Links, no_links, links_more, binary, chain}
+use Rattle.template_compiler_walk.specs.Constants.{constant_of, chain_constant}
 use Rattle.template_compiler_folding.specs.Folding.{binary_folded}
 
 -- the value of a constant tree, of which the left part has the value or none

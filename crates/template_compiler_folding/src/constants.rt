@@ -1,15 +1,15 @@
 //! The values of constant trees. A tree is gone along its left parts in a loop; its other parts nest at most 150 deep.
 ghost use Rattle.std.specs.Prelude.{◌≡◌, IfOk, IfErr, option_and_then};
 ghost use Rattle.template_values_errors.specs.Memory.{NoMemory};
-ghost use Rattle.template_tree.specs.View.{expression_of, links_in};
-ghost use Rattle.template_walk.specs.Constants.{constant_of, chain_constant};
+ghost use Rattle.template_compiler_tree.specs.View.{expression_of, links_in};
+ghost use Rattle.template_compiler_walk.specs.Constants.{constant_of, chain_constant};
 ghost use Rattle.template_compiler_folding.specs.Folding.{binary_folded};
 ghost use Rattle.template_compiler_folding.specs.Nodes.{node_constant};
 
 use crate::{fold_binary, fold_comparison, fold_list, fold_map, fold_tuple, fold_unary, goes_on};
 use std::alloc::Global;
-use template_tree::{BinOpKind, CompareOp, Expr};
-use template_tree_parts::spine;
+use template_compiler_tree::{BinOpKind, CompareOp, Expr};
+use template_compiler_tree_parts::spine;
 use template_values_core::Value;
 use template_values_errors::Error;
 

@@ -2,15 +2,15 @@
 ghost use Rattle.std.specs.Prelude.{◌≡◌, IfOk, IfErr};
 ghost use Rattle.template_values_errors.specs.Memory.{NoMemory};
 ghost use Rattle.template_values_core.specs.Shape.{pairs_in};
-ghost use Rattle.template_tree.specs.Tree.{list_literal, tuple_literal, map_literal};
-ghost use Rattle.template_tree.specs.View.{expressions_in};
-ghost use Rattle.template_walk.specs.Constants.{constant_of};
-ghost use Rattle.template_walk.specs.Containers.{pairs_with};
+ghost use Rattle.template_compiler_tree.specs.Tree.{list_literal, tuple_literal, map_literal};
+ghost use Rattle.template_compiler_tree.specs.View.{expressions_in};
+ghost use Rattle.template_compiler_walk.specs.Constants.{constant_of};
+ghost use Rattle.template_compiler_walk.specs.Containers.{pairs_with};
 
 use crate::literal_values::literals;
 use crate::operators::settled;
 use std::alloc::Global;
-use template_tree::Expr;
+use template_compiler_tree::Expr;
 use template_values_core::{Entry, Value};
 use template_values_errors::Error;
 use template_values_operations::{make_list, make_map, make_tuple};

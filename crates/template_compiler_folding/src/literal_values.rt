@@ -2,11 +2,11 @@
 
 ghost use Rattle.std.specs.Prelude.{◌≡◌, IfOk, IfErr, option_map};
 ghost use Rattle.template_values_errors.specs.Memory.{NoMemory};
-ghost use Rattle.template_tree.specs.View.{expression_of, expressions_in};
-ghost use Rattle.template_walk.specs.Constants.{literal_of, literals_of};
+ghost use Rattle.template_compiler_tree.specs.View.{expression_of, expressions_in};
+ghost use Rattle.template_compiler_walk.specs.Constants.{literal_of, literals_of};
 
 use std::alloc::Global;
-use template_tree::Expr;
+use template_compiler_tree::Expr;
 use template_values_core::Value;
 use template_values_errors::Error;
 

@@ -6,12 +6,12 @@ ghost use Rattle.template_values_model.specs.Gives.{Gives};
 ghost use Rattle.template_values_model.specs.Val.{Val};
 ghost use Rattle.template_values_forms.specs.Known.{nothing_known};
 ghost use Rattle.template_values_forms.specs.Printed.{printed};
-ghost use Rattle.template_tree.specs.declared.operators.BinOpKind.TheVariants.{Concat};
-ghost use Rattle.template_walk.specs.Constants.{binary_constant, made};
+ghost use Rattle.template_compiler_tree.specs.declared.operators.BinOpKind.TheVariants.{Concat};
+ghost use Rattle.template_compiler_walk.specs.Constants.{binary_constant, made};
 ghost use Rattle.template_compiler_folding.specs.Folding.{unary_folded, binary_folded, comparison_folded, is_known_true};
 
 use std::alloc::Global;
-use template_tree::{BinOpKind, CompareOpKind, UnaryOpKind};
+use template_compiler_tree::{BinOpKind, CompareOpKind, UnaryOpKind};
 use template_values_core::{Content, Value};
 use template_values_errors::{Error, ErrorKind};
 use template_values_operations::{NoRecords, compare, invert, negate, operate_owned};

@@ -1,14 +1,14 @@
 -- What is generated onto no code is the piece alone; and what is accepted of it.
 use Rattle.std.proofs.Common.{◌≡◌, List, [], ◌++◌, length, Result, Ok, Err, IfOk, inl, inr, ap, sym, subst, ◌∙◌}
 use Rattle.template_values_errors.specs.declared.ErrorKind.{ErrorKind}
-use Rattle.template_tree.specs.Tree.{Statement, template}
-use Rattle.template_code.specs.Code.{Code}
-use Rattle.template_code.specs.Listing.{TakesNoMore}
-use Rattle.template_code.specs.declared.listing.Instructions.{Instructions}
-use Rattle.template_code_shapes.specs.Checked.{kind_in, stream_in}
-use Rattle.template_code_shapes.specs.Streams.{IsGood}
-use Rattle.template_code_shapes.specs.declared.StreamKind.TheVariants.{Template}
-use Rattle.template_code_shapes.specs.declared.checked.Checked.{Checked}
+use Rattle.template_compiler_tree.specs.Tree.{Statement, template}
+use Rattle.template_compiler_code.specs.Code.{Code}
+use Rattle.template_compiler_code.specs.Listing.{TakesNoMore}
+use Rattle.template_compiler_code.specs.declared.listing.Instructions.{Instructions}
+use Rattle.template_compiler_code_shapes.specs.Checked.{kind_in, stream_in}
+use Rattle.template_compiler_code_shapes.specs.Streams.{IsGood}
+use Rattle.template_compiler_code_shapes.specs.declared.StreamKind.TheVariants.{Template}
+use Rattle.template_compiler_code_shapes.specs.declared.checked.Checked.{Checked}
 use Rattle.template_compiler_statement_codegen.specs.Listed.{IsRunnableTree}
 use Rattle.template_compiler_codegen.specs.Expressions.{Coded}
 use Rattle.template_compiler_emission.specs.Puts.{NoRoom}

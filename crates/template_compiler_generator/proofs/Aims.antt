@@ -2,15 +2,15 @@
 use Rattle.std.proofs.Common.{◌≡◌, ℕ, zero, suc, ◌+◌, ◌≤◌, ◌⊎◌, inl, inr, Bool, true, false, ◌&&◌, if◌then◌else◌, List, [], ◌∷◌, ◌++◌, length, Option, None, Some, slice_get, refl, sym, ap, subst, ◌∙◌, append-nil, length-append, arith}
 use Rattle.std.specs.Prelude.{not, is_some}
 use Rattle.std.proofs.lemmas.Option.{slice_get_past}
-use Rattle.template_tree.specs.Tree.{Expression, Statement, Expressions, Statements, Imports, no_expressions, absent, given, call, raw, print, for_loop, if_condition, with_block, set, set_block, auto_escape, filter_block, block, from_import, extends, macro, continue_loop, break_loop, do_call, no_statements, statements_more, no_imports, imports_more}
-use Rattle.template_tree.specs.Tree as tree
+use Rattle.template_compiler_tree.specs.Tree.{Expression, Statement, Expressions, Statements, Imports, no_expressions, absent, given, call, raw, print, for_loop, if_condition, with_block, set, set_block, auto_escape, filter_block, block, from_import, extends, macro, continue_loop, break_loop, do_call, no_statements, statements_more, no_imports, imports_more}
+use Rattle.template_compiler_tree.specs.Tree as tree
 use Rattle.template_values_model.specs.Val.{text}
-use Rattle.template_names.specs.Names.{reversed}
-use Rattle.template_names.specs.Enclosed.{enclosed_names}
-use Rattle.template_walk.specs.Expressions.{Passing, alone, spreads, has_spread, Callee, by_name, by_method, by_block, by_value, callee_of}
-use Rattle.template_walk.specs.Statements.{Printed, prints_value, prints_block, prints_super, prints_rounds, printed_of, imported_names, stored_as, caller_name}
-use Rattle.template_code.specs.Code.{Code, load_const, jump, jump_if_false, iterate, return, call_function, call_method, call_object}
-use Rattle.template_code_shapes.specs.Effects.{aim_of, leans}
+use Rattle.template_compiler_names.specs.Names.{reversed}
+use Rattle.template_compiler_names.specs.Enclosed.{enclosed_names}
+use Rattle.template_compiler_walk.specs.Expressions.{Passing, alone, spreads, has_spread, Callee, by_name, by_method, by_block, by_value, callee_of}
+use Rattle.template_compiler_walk.specs.Statements.{Printed, prints_value, prints_block, prints_super, prints_rounds, printed_of, imported_names, stored_as, caller_name}
+use Rattle.template_compiler_code.specs.Code.{Code, load_const, jump, jump_if_false, iterate, return, call_function, call_method, call_object}
+use Rattle.template_compiler_code_shapes.specs.Effects.{aim_of, leans}
 use Rattle.template_compiler_codegen.specs.Core.{Core, empty, straight, both, leaping, either, rounds, within, leave, sealed, loading, chosen, aside, Ways, no_ways, own_ways, closing_with, flat}
 use Rattle.template_compiler_codegen.specs.Expressions.{one, then_code, skipped, mapped_core, stretches_core, entries_stretches_core, list_count, rest_count, merged_core, map_count, keyword_count, run_core, passed_core, passed_count, called_core, object_core, positional_cores, keyword_cores, expression_core, expressions_core, filters_core}
 use Rattle.template_compiler_codegen.specs.Statements.{target_core, assignments_core, iterable_core, loop_end_core, branches_core, printed_core, imports_core, apart_core, parameters_core, enclosed_core, made_of_core, declared_core, statement_core, statements_core, template_code, standalone_code}

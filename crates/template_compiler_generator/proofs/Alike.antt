@@ -1,11 +1,11 @@
 -- Code does the same whatever its numbers.
 use Rattle.std.proofs.Common.{◌≡◌, ℕ, zero, suc, List, [], ◌∷◌, map, Option, None, Some, option_map, slice_get, refl, sym, ap, ◌∙◌}
 use Rattle.std.proofs.lemmas.Option.{slice_get-map}
-use Rattle.template_process.specs.Process.{Process, Counts, counted_together}
-use Rattle.template_code.specs.Code.{Operand, Code, apply_filter, perform_test}
-use Rattle.template_code.specs.Counting.{counts_of, counts_before}
-use Rattle.template_code.specs.Prices.{price_of, steps}
-use Rattle.template_code.specs.Steps.{deed, act, exec}
+use Rattle.template_compiler_process.specs.Process.{Process, Counts, counted_together}
+use Rattle.template_compiler_code.specs.Code.{Operand, Code, apply_filter, perform_test}
+use Rattle.template_compiler_code.specs.Counting.{counts_of, counts_before}
+use Rattle.template_compiler_code.specs.Prices.{price_of, steps}
+use Rattle.template_compiler_code.specs.Steps.{deed, act, exec}
 use Rattle.template_compiler_generator.specs.Numbers.{Names, names_with, numbered, numbered_behind, numbered_in, no_names, bare}
 use Rattle.template_compiler_generator.specs.NumberLaws.{NumbersRunAlike}
 

@@ -1,6 +1,6 @@
 -- What the steps around pieces of code make.
 use Rattle.std.proofs.Common.{◌≡◌, ℕ, ◌+◌, suc, Bool, true, false, [], ◌∷◌, ◌++◌, length, drop, refl, sym, subst, ap, ap₂, ◌∙◌, append_assoc, length-append, arith}
-use Rattle.template_code.specs.Code.{Code, jump, jump_if_false, iterate, pop_loop_frame, push_did_not_iterate, push_loop}
+use Rattle.template_compiler_code.specs.Code.{Code, jump, jump_if_false, iterate, pop_loop_frame, push_did_not_iterate, push_loop}
 use Rattle.template_compiler_codegen.specs.Expressions.{Coded, either_code, one, skipped, then_code}
 use Rattle.template_compiler_codegen.specs.Statements.{rounds_code}
 use Rattle.template_compiler_emission.specs.declared.leaps.Leap.TheVariants.{Always, IfFalse, Iterate}

@@ -1,10 +1,10 @@
 -- A call block stands alone.
 use Rattle.std.proofs.Common.{◌≡◌, Box, Global, refl}
-use Rattle.template_tree.specs.Tree.{no_statements, statements_more}
-use Rattle.template_tree.specs.declared.span.Spanned.{Spanned}
-use Rattle.template_tree_statements.specs.View.{statement_of}
-use Rattle.template_tree_statements.specs.declared.statements.CallBlock.{CallBlock as CallBlockNode, CallBlock' as called}
-use Rattle.template_tree_statements.specs.declared.statements.Stmt.{CallBlock}
+use Rattle.template_compiler_tree.specs.Tree.{no_statements, statements_more}
+use Rattle.template_compiler_tree.specs.declared.span.Spanned.{Spanned}
+use Rattle.template_compiler_tree_statements.specs.View.{statement_of}
+use Rattle.template_compiler_tree_statements.specs.declared.statements.CallBlock.{CallBlock as CallBlockNode, CallBlock' as called}
+use Rattle.template_compiler_tree_statements.specs.declared.statements.Stmt.{CallBlock}
 use Rattle.template_compiler_generator.specs.Alone.{statements_of}
 
 with_value : Box (Spanned CallBlockNode) Global → CallBlockNode → Box (Spanned CallBlockNode) Global

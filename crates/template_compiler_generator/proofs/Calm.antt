@@ -2,14 +2,14 @@
 use Rattle.std.proofs.Common.{◌≡◌, ℕ, zero, suc, ◌+◌, Bool, true, ◌&&◌, if◌then◌else◌, List, [], ◌∷◌, Option, None, Some, refl}
 use Rattle.std.specs.Prelude.{not, is_some}
 use Rattle.template_values_model.specs.Val.{Val, silent_undefined, none}
-use Rattle.template_tree.specs.declared.operators.UnaryOpKind.{UnaryOpKind}
-use Rattle.template_tree.specs.declared.operators.UnaryOpKind.TheVariants.{Not, Neg}
-use Rattle.template_tree.specs.Tree.{Expression, Optional, Expressions, Links, Arguments, Assignments, variable, constant, unary, binary, chain, conditional, attribute, item, call, filtered, tested, list_literal, tuple_literal, map_literal, absent, given, no_expressions, expressions_more, no_links, links_more, no_arguments, arguments_more, positional, keyword, positional_spread, keyword_spread, no_assignments, assignments_more}
-use Rattle.template_tree.specs.Tree as tree
-use Rattle.template_walk.specs.Expressions.{Passing, alone, spreads, Callee, by_name, by_method, by_block, by_value, callee_of}
-use Rattle.template_walk.specs.Statements.{first_of, rest_of}
-use Rattle.template_code.specs.Code.{Code}
-use Rattle.template_code_shapes.specs.Effects.{aim_of, leans}
+use Rattle.template_compiler_tree.specs.declared.operators.UnaryOpKind.{UnaryOpKind}
+use Rattle.template_compiler_tree.specs.declared.operators.UnaryOpKind.TheVariants.{Not, Neg}
+use Rattle.template_compiler_tree.specs.Tree.{Expression, Optional, Expressions, Links, Arguments, Assignments, variable, constant, unary, binary, chain, conditional, attribute, item, call, filtered, tested, list_literal, tuple_literal, map_literal, absent, given, no_expressions, expressions_more, no_links, links_more, no_arguments, arguments_more, positional, keyword, positional_spread, keyword_spread, no_assignments, assignments_more}
+use Rattle.template_compiler_tree.specs.Tree as tree
+use Rattle.template_compiler_walk.specs.Expressions.{Passing, alone, spreads, Callee, by_name, by_method, by_block, by_value, callee_of}
+use Rattle.template_compiler_walk.specs.Statements.{first_of, rest_of}
+use Rattle.template_compiler_code.specs.Code.{Code}
+use Rattle.template_compiler_code_shapes.specs.Effects.{aim_of, leans}
 use Rattle.template_compiler_codegen.specs.Core.{Core, empty, straight, both, leaping, either, rounds, within, leave, sealed, loading, chosen, aside}
 use Rattle.template_compiler_codegen.specs.Expressions.{unary_code, listed_core, mapped_core, stretches_core, entries_stretches_core, rest_count, keywords_core, keyword_count, passed_core, called_core, filters_core, object_core, positional_cores, keyword_cores, expression_core, optional_core, expressions_core, codes_of, entries_core, chain_core, linked_core}
 use Rattle.template_compiler_codegen.specs.Statements.{target_core, targets_core, assignments_core, iterable_core, parameter_core, parameters_core}

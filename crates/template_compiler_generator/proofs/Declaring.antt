@@ -5,14 +5,14 @@ use Rattle.std.specs.Prelude.{option_map, is_some}
 use Rattle.std.proofs.lemmas.Bool.{and_from}
 use Rattle.template_values_model.specs.Val.{Val, list, vals_of, items_of}
 use Rattle.template_values_core.specs.Answers.{text_in}
-use Rattle.template_tree.specs.Tree.{Expression, Optional, Expressions, variable, absent, given as is_given, no_expressions, expressions_more}
-use Rattle.template_names.specs.Names.{reversed}
-use Rattle.template_walk.specs.Expressions.{Passing, alone, spreads}
-use Rattle.template_walk.specs.Statements.{number_of, name_text, name_texts, first_of, rest_of}
-use Rattle.template_walk.specs.Runnable.{IsRunnableIfGiven, AreRunnable, IsTarget, AreTargets}
-use Rattle.template_code.specs.Code.{Code, load_const, jump, jump_if_false, dup_top, discard_top, is_undefined, enclose, get_closure, build_macro, return}
-use Rattle.template_code_shapes.specs.Shapes.{Shape, single_form, closure_form, body_of, closure_taken, given, topped}
-use Rattle.template_code_shapes.specs.Effects.{Effect, ending, code_before, are_texts, texts_loaded, making, effect_of}
+use Rattle.template_compiler_tree.specs.Tree.{Expression, Optional, Expressions, variable, absent, given as is_given, no_expressions, expressions_more}
+use Rattle.template_compiler_names.specs.Names.{reversed}
+use Rattle.template_compiler_walk.specs.Expressions.{Passing, alone, spreads}
+use Rattle.template_compiler_walk.specs.Statements.{number_of, name_text, name_texts, first_of, rest_of}
+use Rattle.template_compiler_walk.specs.Runnable.{IsRunnableIfGiven, AreRunnable, IsTarget, AreTargets}
+use Rattle.template_compiler_code.specs.Code.{Code, load_const, jump, jump_if_false, dup_top, discard_top, is_undefined, enclose, get_closure, build_macro, return}
+use Rattle.template_compiler_code_shapes.specs.Shapes.{Shape, single_form, closure_form, body_of, closure_taken, given, topped}
+use Rattle.template_compiler_code_shapes.specs.Effects.{Effect, ending, code_before, are_texts, texts_loaded, making, effect_of}
 use Rattle.template_compiler_codegen.specs.Core.{Core, no_ways, flat}
 use Rattle.template_compiler_codegen.specs.Expressions.{Coded, then_code, one, skipped, expression_code}
 use Rattle.template_compiler_codegen.specs.Statements.{target_code, parameter_core, parameters_core, enclosed_core, made_of_core, macro_flags}

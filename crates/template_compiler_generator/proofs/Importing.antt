@@ -1,13 +1,13 @@
 -- The code of templates that are imported: it keeps the shape.
 use Rattle.std.proofs.Common.{◌≡◌, ℕ, suc, ◌+◌, true, false, cond, List, [], length, None, Some, slice_get, refl, sym, ap, ◌∙◌, arith}
 use Rattle.std.specs.Prelude.{option_map}
-use Rattle.template_tree.specs.Tree.{Expression, Imports, no_imports, imports_more}
-use Rattle.template_walk.specs.Statements.{number_of, imported_names, stored_as}
-use Rattle.template_walk.specs.Runnable.{IsRunnable, IsTarget, AreRunnable, AreImports}
-use Rattle.template_code.specs.Code.{Code, begin_capture, discard_top, end_capture, export_locals, include, pop_frame, push_with}
-use Rattle.template_code_shapes.specs.declared.outline.Opened.TheVariants.{With as with_frame}
-use Rattle.template_code_shapes.specs.Shapes.{Shape, given, opened, with_capture}
-use Rattle.template_code_shapes.specs.Effects.{falling, traded, ends_capture, effect_of}
+use Rattle.template_compiler_tree.specs.Tree.{Expression, Imports, no_imports, imports_more}
+use Rattle.template_compiler_walk.specs.Statements.{number_of, imported_names, stored_as}
+use Rattle.template_compiler_walk.specs.Runnable.{IsRunnable, IsTarget, AreRunnable, AreImports}
+use Rattle.template_compiler_code.specs.Code.{Code, begin_capture, discard_top, end_capture, export_locals, include, pop_frame, push_with}
+use Rattle.template_compiler_code_shapes.specs.declared.outline.Opened.TheVariants.{With as with_frame}
+use Rattle.template_compiler_code_shapes.specs.Shapes.{Shape, given, opened, with_capture}
+use Rattle.template_compiler_code_shapes.specs.Effects.{falling, traded, ends_capture, effect_of}
 use Rattle.template_compiler_codegen.specs.Core.{no_ways, flat}
 use Rattle.template_compiler_codegen.specs.Expressions.{Coded, then_code, one, expression_code, expressions_code}
 use Rattle.template_compiler_codegen.specs.Statements.{imports_core, target_code}

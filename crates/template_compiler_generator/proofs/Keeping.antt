@@ -3,13 +3,13 @@
 use Rattle.std.proofs.Common.{◌≡◌, ℕ, suc, ◌+◌, true, cond, List, [], ◌∷◌, ◌++◌, length, None, Some, slice_get, refl, sym, ap, ◌∙◌, length-append, arith}
 use Rattle.std.specs.Prelude.{◌&&◌}
 use Rattle.std.proofs.lemmas.Bool.{and_from}
-use Rattle.template_tree.specs.declared.operators.BinOpKind.TheVariants.{Add}
-use Rattle.template_tree.specs.Tree.{Expression, Optional, absent, given as is_given}
-use Rattle.template_walk.specs.Runnable.{IsRunnable, IsRunnableIfGiven, IsTarget}
-use Rattle.template_code.specs.Code.{Code, load_const, build_list, unpack_lists, operate, swap, dup_top, discard_top, jump, push_loop, iterate, pop_loop_frame}
-use Rattle.template_code_shapes.specs.declared.outline.Opened.TheVariants.{Loop as loop_frame}
-use Rattle.template_code_shapes.specs.Shapes.{Shape, single_form, counted_form, counting_form, lowered, given, topped, opened, innermost_loop}
-use Rattle.template_code_shapes.specs.Effects.{falling, made, loads_one, adds, effect_of}
+use Rattle.template_compiler_tree.specs.declared.operators.BinOpKind.TheVariants.{Add}
+use Rattle.template_compiler_tree.specs.Tree.{Expression, Optional, absent, given as is_given}
+use Rattle.template_compiler_walk.specs.Runnable.{IsRunnable, IsRunnableIfGiven, IsTarget}
+use Rattle.template_compiler_code.specs.Code.{Code, load_const, build_list, unpack_lists, operate, swap, dup_top, discard_top, jump, push_loop, iterate, pop_loop_frame}
+use Rattle.template_compiler_code_shapes.specs.declared.outline.Opened.TheVariants.{Loop as loop_frame}
+use Rattle.template_compiler_code_shapes.specs.Shapes.{Shape, single_form, counted_form, counting_form, lowered, given, topped, opened, innermost_loop}
+use Rattle.template_compiler_code_shapes.specs.Effects.{falling, made, loads_one, adds, effect_of}
 use Rattle.template_compiler_codegen.specs.Expressions.{then_code, one, either_code, expression_code}
 use Rattle.template_compiler_codegen.specs.Statements.{target_code, no_flags, one_item, keep_code, kept_code, iterable_code}
 use Rattle.template_compiler_codegen.proofs.Standing.{StandsAt, behind_one, instruction_at, stands_first, stands_second, first_part, last_part, stands_either}

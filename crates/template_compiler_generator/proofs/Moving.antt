@@ -2,20 +2,20 @@
 use Rattle.std.proofs.Common.{◌≡◌, ℕ, zero, suc, ◌+◌, ◌*◌, ◌<◌, ◌≤◌, Bool, true, false, ◌||◌, List, [], ◌∷◌, ◌++◌, length, Option, None, Some, slice_get, refl, sym, ap, subst, ◌∙◌, length-append, arith}
 use Rattle.std.specs.Prelude.{option_and_then, option_map, if◌then◌else◌}
 use Rattle.template_values_model.specs.Val.{Val, silent_undefined, none, text}
-use Rattle.template_tree.specs.declared.operators.UnaryOpKind.{UnaryOpKind}
-use Rattle.template_tree.specs.declared.operators.UnaryOpKind.TheVariants.{Not, Neg}
-use Rattle.template_tree.specs.declared.operators.BinOpKind.{BinOpKind}
-use Rattle.template_tree.specs.declared.operators.BinOpKind.TheVariants.{ScAnd, ScOr}
-use Rattle.template_tree.specs.declared.operators.CompareOpKind.{CompareOpKind}
-use Rattle.template_tree.specs.Tree.{Expression, Optional, Expressions, Links, Arguments, Assignments, variable, constant, unary, binary, chain, conditional, attribute, item, call, filtered, tested, list_literal, tuple_literal, map_literal, absent, given as is_given, no_expressions, expressions_more, no_links, links_more, no_arguments, arguments_more, positional, keyword, positional_spread, keyword_spread, no_assignments, assignments_more}
-use Rattle.template_tree.specs.Tree as tree
-use Rattle.template_walk.specs.Constants.{constant_of}
-use Rattle.template_walk.specs.Expressions.{Passing, alone, spreads, has_spread, Callee, by_name, by_method, by_block, by_value, callee_of}
-use Rattle.template_walk.specs.Statements.{number_of}
-use Rattle.template_walk.specs.Runnable.{IsRunnable, IsRunnableIfGiven, AreRunnable, AreRunnableArguments, IsRunnableChain, AreRunnableLinks, AreFilters, IsTarget, AreTargets, AreAssignments}
-use Rattle.template_code.specs.Code.{Code, store_local, lookup, load_const, get_attr, set_attr, get_item, slice, build_map, build_kwargs, merge_kwargs, call_function, call_method, call_object, call_block, begin_capture, end_capture, apply_filter, perform_test, build_list, build_tuple, unpack_list, unpack_lists, operate, compare_and_preserve, swap, discard_top, jump, jump_if_false, jump_if_false_or_pop, jump_if_true_or_pop}
-use Rattle.template_code_shapes.specs.Shapes.{Shape, single_form, counted_form, handed, given, topped, with_capture}
-use Rattle.template_code_shapes.specs.Effects.{Effect, falling, made, jumping, effect_of}
+use Rattle.template_compiler_tree.specs.declared.operators.UnaryOpKind.{UnaryOpKind}
+use Rattle.template_compiler_tree.specs.declared.operators.UnaryOpKind.TheVariants.{Not, Neg}
+use Rattle.template_compiler_tree.specs.declared.operators.BinOpKind.{BinOpKind}
+use Rattle.template_compiler_tree.specs.declared.operators.BinOpKind.TheVariants.{ScAnd, ScOr}
+use Rattle.template_compiler_tree.specs.declared.operators.CompareOpKind.{CompareOpKind}
+use Rattle.template_compiler_tree.specs.Tree.{Expression, Optional, Expressions, Links, Arguments, Assignments, variable, constant, unary, binary, chain, conditional, attribute, item, call, filtered, tested, list_literal, tuple_literal, map_literal, absent, given as is_given, no_expressions, expressions_more, no_links, links_more, no_arguments, arguments_more, positional, keyword, positional_spread, keyword_spread, no_assignments, assignments_more}
+use Rattle.template_compiler_tree.specs.Tree as tree
+use Rattle.template_compiler_walk.specs.Constants.{constant_of}
+use Rattle.template_compiler_walk.specs.Expressions.{Passing, alone, spreads, has_spread, Callee, by_name, by_method, by_block, by_value, callee_of}
+use Rattle.template_compiler_walk.specs.Statements.{number_of}
+use Rattle.template_compiler_walk.specs.Runnable.{IsRunnable, IsRunnableIfGiven, AreRunnable, AreRunnableArguments, IsRunnableChain, AreRunnableLinks, AreFilters, IsTarget, AreTargets, AreAssignments}
+use Rattle.template_compiler_code.specs.Code.{Code, store_local, lookup, load_const, get_attr, set_attr, get_item, slice, build_map, build_kwargs, merge_kwargs, call_function, call_method, call_object, call_block, begin_capture, end_capture, apply_filter, perform_test, build_list, build_tuple, unpack_list, unpack_lists, operate, compare_and_preserve, swap, discard_top, jump, jump_if_false, jump_if_false_or_pop, jump_if_true_or_pop}
+use Rattle.template_compiler_code_shapes.specs.Shapes.{Shape, single_form, counted_form, handed, given, topped, with_capture}
+use Rattle.template_compiler_code_shapes.specs.Effects.{Effect, falling, made, jumping, effect_of}
 use Rattle.template_compiler_codegen.specs.Core.{Core, no_ways, flat}
 use Rattle.template_compiler_codegen.specs.Expressions.{Coded, then_code, one, nothing, dropped, loaded, skipped, either_code, unary_code, binary_code, listed_core, mapped_core, at_most_one, stretches_core, entries_stretches_core, list_count, rest_count, merged_core, merged_count, map_count, keywords_core, keyword_count, run_core, passed_core, passed_count, called_core, no_number, object_core, positional_cores, keyword_cores, expression_core, entry_count, expression_code, optional_code, expressions_code, codes_of, entries_code, chain_code, linked_code, filter_code, filters_code, passed_code, argument_count}
 use Rattle.template_compiler_codegen.specs.Statements.{target_code, targets_code, assignments_code}

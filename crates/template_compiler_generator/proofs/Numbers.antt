@@ -2,12 +2,12 @@
 use Rattle.std.proofs.Common.{◌≡◌, ℕ, zero, suc, not, cond, ◌&&◌, nat_le, nat_lt, List, ◌∷◌, length, map, Option, None, Some, option_map, option_and_then, slice_get, IsSomeAnd, refl, sym, ap, subst, ◌∙◌}
 use Rattle.std.proofs.lemmas.List.{length-map}
 use Rattle.std.proofs.lemmas.Option.{slice_get-map}
-use Rattle.template_code.specs.Code.{Code, apply_filter, perform_test, swap, jump, jump_if_false, jump_if_false_or_pop, jump_if_true_or_pop, push_loop, iterate, export_locals, build_macro}
-use Rattle.template_code.specs.Loops.{is_iterate_past}
-use Rattle.template_code_shapes.specs.declared.StreamKind.{StreamKind}
-use Rattle.template_code_shapes.specs.Shapes.{Shape, Form, single_form, counted_form, counting_form, lowered, taken, closure_taken, given, body_of, opened, loop_opened, innermost_loop}
-use Rattle.template_code_shapes.specs.Effects.{Effect, effect_of, adds, code_before, ends_capture, falling, is_behind, is_iterate, jumping, leans, loads_one, made, making, may_jump, may_lead, swapped, texts_loaded, traded}
-use Rattle.template_code_shapes.specs.Streams.{IsCertificate, Leads}
+use Rattle.template_compiler_code.specs.Code.{Code, apply_filter, perform_test, swap, jump, jump_if_false, jump_if_false_or_pop, jump_if_true_or_pop, push_loop, iterate, export_locals, build_macro}
+use Rattle.template_compiler_code.specs.Loops.{is_iterate_past}
+use Rattle.template_compiler_code_shapes.specs.declared.StreamKind.{StreamKind}
+use Rattle.template_compiler_code_shapes.specs.Shapes.{Shape, Form, single_form, counted_form, counting_form, lowered, taken, closure_taken, given, body_of, opened, loop_opened, innermost_loop}
+use Rattle.template_compiler_code_shapes.specs.Effects.{Effect, effect_of, adds, code_before, ends_capture, falling, is_behind, is_iterate, jumping, leans, loads_one, made, making, may_jump, may_lead, swapped, texts_loaded, traded}
+use Rattle.template_compiler_code_shapes.specs.Streams.{IsCertificate, Leads}
 use Rattle.template_compiler_generator.specs.Numbers.{bare, numbered_in}
 use Rattle.template_compiler_generator.proofs.Alike.{bare_in}
 

@@ -1,10 +1,10 @@
 -- The steps of the pass over code.
 use Rattle.std.proofs.Common.{◌≡◌, ℕ, zero, suc, ◌+◌, ◌<◌, List, [], ◌∷◌, ◌++◌, length, map, take, drop, set, Option, None, Some, option_map, slice_get, refl, sym, ap, ◌∙◌, add-one}
 use Rattle.std.proofs.lemmas.Option.{slice_get-get_or, slice_get-map}
-use Rattle.template_code.specs.Code.{Code, apply_filter, perform_test, emit}
-use Rattle.template_code.specs.View.{code_of}
-use Rattle.template_code.specs.declared.instruction.Instruction.{Instruction}
-use Rattle.template_code.specs.declared.instruction.Instruction.TheVariants as instructions
+use Rattle.template_compiler_code.specs.Code.{Code, apply_filter, perform_test, emit}
+use Rattle.template_compiler_code.specs.View.{code_of}
+use Rattle.template_compiler_code.specs.declared.instruction.Instruction.{Instruction}
+use Rattle.template_compiler_code.specs.declared.instruction.Instruction.TheVariants as instructions
 use Rattle.template_compiler_generator.specs.Numbers.{Names, Numbers, bare, name_at, name_of, names_at, names_past, names_with, number_among, numbered, numbered_at, numbered_behind, with_name}
 use Rattle.template_compiler_generator.proofs.Alike.{bare_numbered}
 

@@ -1,10 +1,10 @@
 -- What the code of a piece does, from the lemmas of generated code.
 use Rattle.std.proofs.Common.{ℕ, ◌+◌, List, ◌∷◌, length, refl}
-use Rattle.template_process.proofs.Below.{below-refl}
-use Rattle.template_code.specs.Code.{Operand, single, Code}
-use Rattle.template_code.specs.Counting.{counts_before}
-use Rattle.template_code.specs.Steps.{exec}
-use Rattle.template_walk.specs.Statements.{Exits}
+use Rattle.template_compiler_process.proofs.Below.{below-refl}
+use Rattle.template_compiler_code.specs.Code.{Operand, single, Code}
+use Rattle.template_compiler_code.specs.Counting.{counts_before}
+use Rattle.template_compiler_code.specs.Steps.{exec}
+use Rattle.template_compiler_walk.specs.Statements.{Exits}
 use Rattle.template_compiler_codegen.specs.Expressions.{expression_code}
 use Rattle.template_compiler_codegen.specs.Statements.{Ways, statements_code}
 use Rattle.template_compiler_codegen.proofs.Standing.{StandsAt}

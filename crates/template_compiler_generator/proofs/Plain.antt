@@ -4,12 +4,12 @@ use Rattle.std.proofs.Common.{◌≡◌, ℕ, zero, suc, ◌+◌, ◌<◌, ◌�
 use Rattle.std.specs.Prelude.{not, nat_lt, nat_le, option_map, option_and_then, ◌&&◌}
 use Rattle.std.proofs.lemmas.Bool.{lt-ltb, le-ltb, le-leb, eq-eqb, and_from}
 use Rattle.std.proofs.lemmas.List.{replicate-append-replicate}
-use Rattle.template_code.specs.Code.{Code, iterate}
-use Rattle.template_code_shapes.specs.declared.outline.Opened.{Opened}
-use Rattle.template_code_shapes.specs.declared.outline.Opened.TheVariants.{Loop as loop_frame, Recursive as recursive_frame}
-use Rattle.template_code_shapes.specs.Shapes.{Form, single_form, Shape, floor_of, below_values, lowered, taken, given, topped, opened, loop_closed, with_escape, escape_closed, with_capture, capture_closed, innermost_loop}
-use Rattle.template_code.specs.Loops.{is_iterate_past}
-use Rattle.template_code_shapes.specs.Effects.{falling, traded, is_behind, aim_of, leans, may_lead, may_jump, jumping, may_iterate}
+use Rattle.template_compiler_code.specs.Code.{Code, iterate}
+use Rattle.template_compiler_code_shapes.specs.declared.outline.Opened.{Opened}
+use Rattle.template_compiler_code_shapes.specs.declared.outline.Opened.TheVariants.{Loop as loop_frame, Recursive as recursive_frame}
+use Rattle.template_compiler_code_shapes.specs.Shapes.{Form, single_form, Shape, floor_of, below_values, lowered, taken, given, topped, opened, loop_closed, with_escape, escape_closed, with_capture, capture_closed, innermost_loop}
+use Rattle.template_compiler_code.specs.Loops.{is_iterate_past}
+use Rattle.template_compiler_code_shapes.specs.Effects.{falling, traded, is_behind, aim_of, leans, may_lead, may_jump, jumping, may_iterate}
 use Rattle.template_compiler_generator.proofs.Aims.{IsCalm}
 
 -- what the innermost recursive loop found lies there still

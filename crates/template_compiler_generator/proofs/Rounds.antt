@@ -1,10 +1,10 @@
 -- The rounds of a loop: they begin with its shape, and come back with it.
 use Rattle.std.proofs.Common.{◌≡◌, ℕ, suc, ◌<◌, ◌≤◌, Bool, true, false, cond, List, [], ◌∷◌, length, Option, None, Some, slice_get, refl, sym, ap, subst, ◌∙◌, arith}
 use Rattle.std.specs.Prelude.{option_map}
-use Rattle.template_code.specs.Code.{Code, jump, push_loop, iterate}
-use Rattle.template_code_shapes.specs.declared.outline.Opened.{Opened}
-use Rattle.template_code_shapes.specs.Shapes.{Shape, taken, given, opened, loop_opened, innermost_loop}
-use Rattle.template_code_shapes.specs.Effects.{Effect, falling, is_iterate, effect_of}
+use Rattle.template_compiler_code.specs.Code.{Code, jump, push_loop, iterate}
+use Rattle.template_compiler_code_shapes.specs.declared.outline.Opened.{Opened}
+use Rattle.template_compiler_code_shapes.specs.Shapes.{Shape, taken, given, opened, loop_opened, innermost_loop}
+use Rattle.template_compiler_code_shapes.specs.Effects.{Effect, falling, is_iterate, effect_of}
 use Rattle.template_compiler_codegen.proofs.Standing.{StandsAt, instruction_at}
 use Rattle.template_compiler_generator.proofs.Segments.{Free, Lands, Goes, goes_to, goes_on, goes_then, goes_dead, goes_with, gate, lands_at}
 use Rattle.template_compiler_generator.proofs.Plain.{IsPlain, taken_plain, jumps_back, iterates}

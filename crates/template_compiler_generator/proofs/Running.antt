@@ -1,17 +1,17 @@
 -- The code of statements: it keeps the shape, or leaves a loop with what the loop began with.
 use Rattle.std.proofs.Common.{◌≡◌, ℕ, suc, ◌+◌, ◌<◌, ◌≤◌, Bool, true, false, ◌&&◌, ◌||◌, cond, List, [], ◌∷◌, ◌++◌, length, Option, None, Some, slice_get, refl, sym, ap, ◌∙◌, length-append, arith}
 use Rattle.std.specs.Prelude.{IsTrue, option_map, is_some, if◌then◌else◌}
-use Rattle.template_tree.specs.Tree.{Expression, Expressions, Arguments, Statement, Statements, Assignments, variable, attribute, call, no_arguments, arguments_more, positional, keyword, positional_spread, keyword_spread, absent, given as is_given, raw, print, for_loop, if_condition, with_block, set, set_block, auto_escape, filter_block, block, from_import, extends, macro, continue_loop, break_loop, do_call, no_statements, statements_more}
-use Rattle.template_tree.specs.Kinds.{is_self_name, is_empty}
-use Rattle.template_tree.specs.Tree as tree
-use Rattle.template_names.specs.Enclosed.{enclosed_names, uses_caller}
-use Rattle.template_walk.specs.Expressions.{alone, attribute_called, callee_of}
-use Rattle.template_walk.specs.Statements.{Printed, prints_value, prints_block, prints_super, prints_rounds, printed_of, printed_by, printed_rounds, is_super_name, is_loop_name, caller_name}
-use Rattle.template_walk.specs.Runnable.{IsRunnable, AreRunnable, AreRunnableArguments, IsTarget, AreTargets, AreAssignments, IsRunnableStatement, AreRunnableStatements}
-use Rattle.template_code.specs.Code.{Code, emit_raw, emit, store_local, jump, jump_if_false, push_with, pop_frame, push_loop, iterate, push_did_not_iterate, pop_loop_frame, push_auto_escape, pop_auto_escape, begin_capture, end_capture, discard_top, fast_super, fast_recurse, call_block, load_blocks, include}
-use Rattle.template_code_shapes.specs.declared.outline.Opened.TheVariants.{With as with_frame}
-use Rattle.template_code_shapes.specs.Shapes.{Shape, given, opened, loop_opened, with_escape, with_capture, innermost_loop}
-use Rattle.template_code_shapes.specs.Effects.{Effect, falling, jumping, effect_of}
+use Rattle.template_compiler_tree.specs.Tree.{Expression, Expressions, Arguments, Statement, Statements, Assignments, variable, attribute, call, no_arguments, arguments_more, positional, keyword, positional_spread, keyword_spread, absent, given as is_given, raw, print, for_loop, if_condition, with_block, set, set_block, auto_escape, filter_block, block, from_import, extends, macro, continue_loop, break_loop, do_call, no_statements, statements_more}
+use Rattle.template_compiler_tree.specs.Kinds.{is_self_name, is_empty}
+use Rattle.template_compiler_tree.specs.Tree as tree
+use Rattle.template_compiler_names.specs.Enclosed.{enclosed_names, uses_caller}
+use Rattle.template_compiler_walk.specs.Expressions.{alone, attribute_called, callee_of}
+use Rattle.template_compiler_walk.specs.Statements.{Printed, prints_value, prints_block, prints_super, prints_rounds, printed_of, printed_by, printed_rounds, is_super_name, is_loop_name, caller_name}
+use Rattle.template_compiler_walk.specs.Runnable.{IsRunnable, AreRunnable, AreRunnableArguments, IsTarget, AreTargets, AreAssignments, IsRunnableStatement, AreRunnableStatements}
+use Rattle.template_compiler_code.specs.Code.{Code, emit_raw, emit, store_local, jump, jump_if_false, push_with, pop_frame, push_loop, iterate, push_did_not_iterate, pop_loop_frame, push_auto_escape, pop_auto_escape, begin_capture, end_capture, discard_top, fast_super, fast_recurse, call_block, load_blocks, include}
+use Rattle.template_compiler_code_shapes.specs.declared.outline.Opened.TheVariants.{With as with_frame}
+use Rattle.template_compiler_code_shapes.specs.Shapes.{Shape, given, opened, loop_opened, with_escape, with_capture, innermost_loop}
+use Rattle.template_compiler_code_shapes.specs.Effects.{Effect, falling, jumping, effect_of}
 use Rattle.template_compiler_codegen.specs.Expressions.{Coded, then_code, one, nothing, skipped, either_code, object_core, positional_cores, keyword_cores, expression_core, expression_code, filters_code}
 use Rattle.template_compiler_codegen.specs.Core.{no_ways, flat}
 use Rattle.template_compiler_codegen.specs.Statements.{Ways, own_ways, closing_with, target_code, assignments_code, loop_flags, rounds_code, iterable_code, loop_end_code, branches_code, left_by, printed_core, declared_core, calling_core, statements_core, statement_code, statements_code}

@@ -2,10 +2,10 @@
 use Rattle.std.proofs.Common.{◌≡◌, ℕ, suc, ◌<◌, ◌≤◌, ◌⊎◌, inl, inr, Bool, true, false, cond, ◌||◌, List, Option, None, Some, slice_get, refl, sym, ap, subst, ◌∙◌, arith}
 use Rattle.std.specs.Prelude.{IsSomeAnd, nat_lt}
 use Rattle.std.proofs.lemmas.Bool.{ltb-true, ltb-false, lt-ltb, le-ltb}
-use Rattle.template_code.specs.Code.{Code}
-use Rattle.template_code_shapes.specs.Shapes.{Shape}
-use Rattle.template_code_shapes.specs.Effects.{Effect, effect_of}
-use Rattle.template_code_shapes.specs.Streams.{Leads}
+use Rattle.template_compiler_code.specs.Code.{Code}
+use Rattle.template_compiler_code_shapes.specs.Shapes.{Shape}
+use Rattle.template_compiler_code_shapes.specs.Effects.{Effect, effect_of}
+use Rattle.template_compiler_code_shapes.specs.Streams.{Leads}
 
 -- the instruction at a place is admissible with the table's shape there, and leads to shapes of the table
 abbrev pub Fine : List Code → (ℕ → Option Shape) → ℕ → Type 0

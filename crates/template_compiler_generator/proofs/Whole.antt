@@ -3,11 +3,11 @@ use Rattle.std.proofs.Common.{◌≡◌, ℕ, ◌+◌, false, cond, List, [], le
 use Rattle.std.specs.Prelude.{nat_lt}
 use Rattle.std.proofs.lemmas.Bool.{lt-ltb, le-ltb}
 use Rattle.std.proofs.lemmas.Option.{slice_get_within}
-use Rattle.template_code.specs.Code.{Code}
-use Rattle.template_code_shapes.specs.declared.StreamKind.{StreamKind}
-use Rattle.template_code_shapes.specs.declared.StreamKind.TheVariants.{Template, Expression as ExpressionStream}
-use Rattle.template_code_shapes.specs.Shapes.{Shape, start, given}
-use Rattle.template_code_shapes.specs.Streams.{end_of, IsCertificate}
+use Rattle.template_compiler_code.specs.Code.{Code}
+use Rattle.template_compiler_code_shapes.specs.declared.StreamKind.{StreamKind}
+use Rattle.template_compiler_code_shapes.specs.declared.StreamKind.TheVariants.{Template, Expression as ExpressionStream}
+use Rattle.template_compiler_code_shapes.specs.Shapes.{Shape, start, given}
+use Rattle.template_compiler_code_shapes.specs.Streams.{end_of, IsCertificate}
 use Rattle.template_compiler_codegen.specs.Statements.{no_ways, template_code, standalone_code}
 use Rattle.template_compiler_codegen.proofs.Standing.{StandsAt}
 use Rattle.template_compiler_generator.specs.Certificates.{TemplatesAreCertified, ExpressionsAreCertified}

@@ -1,9 +1,9 @@
 -- What is generated is a good stream, once its names have their numbers.
 use Rattle.std.specs.Prelude.{◌≡◌, []}
-use Rattle.template_tree.specs.Tree.{Expression, Statements}
-use Rattle.template_walk.specs.Runnable.{IsRunnable, IsRunnableTemplate}
-use Rattle.template_code_shapes.specs.declared.StreamKind.TheVariants.{Template, Expression as ExpressionStream}
-use Rattle.template_code_shapes.specs.Streams.{IsGood}
+use Rattle.template_compiler_tree.specs.Tree.{Expression, Statements}
+use Rattle.template_compiler_walk.specs.Runnable.{IsRunnable, IsRunnableTemplate}
+use Rattle.template_compiler_code_shapes.specs.declared.StreamKind.TheVariants.{Template, Expression as ExpressionStream}
+use Rattle.template_compiler_code_shapes.specs.Streams.{IsGood}
 use Rattle.template_compiler_codegen.specs.Expressions.{expression_code}
 use Rattle.template_compiler_codegen.specs.Statements.{no_ways, statements_code}
 use Rattle.template_compiler_generator.specs.Numbers.{numbered_in}

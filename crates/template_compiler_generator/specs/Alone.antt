@@ -1,6 +1,6 @@
 -- A statement that stands alone.
-use Rattle.template_tree.specs.Tree.{Statement, Statements, template, no_statements, statements_more}
-use Rattle.template_walk.specs.Runnable.{IsRunnableTemplate}
+use Rattle.template_compiler_tree.specs.Tree.{Statement, Statements, template, no_statements, statements_more}
+use Rattle.template_compiler_walk.specs.Runnable.{IsRunnableTemplate}
 
 -- the statements of a whole template, or a statement alone
 abbrev pub statements_of : Statement → Statements

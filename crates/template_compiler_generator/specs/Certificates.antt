@@ -1,12 +1,12 @@
 -- Generated code has certificates.
 use Rattle.std.specs.Prelude.{ℕ, ◌+◌, ◌*◌, ◌≤◌, [], length, Option}
-use Rattle.template_tree.specs.Tree.{Expression, Statements}
-use Rattle.template_walk.specs.Runnable.{IsRunnable, IsRunnableTemplate}
-use Rattle.template_code.specs.Steps.{exec}
-use Rattle.template_code_shapes.specs.declared.StreamKind.TheVariants.{Template, Expression as ExpressionStream}
-use Rattle.template_code_shapes.specs.Laws.{LastsFor}
-use Rattle.template_code_shapes.specs.Shapes.{Shape}
-use Rattle.template_code_shapes.specs.Streams.{IsCertificate}
+use Rattle.template_compiler_tree.specs.Tree.{Expression, Statements}
+use Rattle.template_compiler_walk.specs.Runnable.{IsRunnable, IsRunnableTemplate}
+use Rattle.template_compiler_code.specs.Steps.{exec}
+use Rattle.template_compiler_code_shapes.specs.declared.StreamKind.TheVariants.{Template, Expression as ExpressionStream}
+use Rattle.template_compiler_code_shapes.specs.Laws.{LastsFor}
+use Rattle.template_compiler_code_shapes.specs.Shapes.{Shape}
+use Rattle.template_compiler_code_shapes.specs.Streams.{IsCertificate}
 use Rattle.template_compiler_codegen.specs.Statements.{template_code, standalone_code}
 
 -- The code of a runnable template has a table of shapes that shows it to be good.

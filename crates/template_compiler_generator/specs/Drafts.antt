@@ -1,13 +1,13 @@
 -- What is generated so far, and what each step makes of it.
 use Rattle.std.specs.Prelude.{◌≡◌, ◌==◌, ◌+◌, ◌≤◌, ◌⊎◌, ℕ, Bool, true, false, List, [], ◌∷◌, ◌++◌, Option, None, Some, length, drop, if◌then◌else◌}
 use Rattle.std.proofs.Math.ListN.{set}
-use Rattle.template_tree.specs.declared.span.Span.{Span}
-use Rattle.template_code.specs.declared.marks.Mark.{Mark}
-use Rattle.template_code.specs.Code.{Code}
-use Rattle.template_code.specs.Code as steps
+use Rattle.template_compiler_tree.specs.declared.span.Span.{Span}
+use Rattle.template_compiler_code.specs.declared.marks.Mark.{Mark}
+use Rattle.template_compiler_code.specs.Code.{Code}
+use Rattle.template_compiler_code.specs.Code as steps
 use Rattle.template_values_errors.specs.declared.ErrorKind.{ErrorKind}
 use Rattle.template_values_errors.specs.declared.ErrorKind.TheVariants.{TooLarge, OutOfMemory}
-use Rattle.template_code.specs.Listing.{line_mark, span_mark, too_many}
+use Rattle.template_compiler_code.specs.Listing.{line_mark, span_mark, too_many}
 use Rattle.template_compiler_codegen.specs.Expressions.{Coded}
 use Rattle.template_compiler_emission.specs.declared.leaps.Leap.{Leap}
 use Rattle.template_compiler_emission.specs.declared.leaps.Leap.TheVariants.{Always, IfFalse, IfFalseOrPop, IfTrueOrPop, Iterate}

@@ -1,6 +1,6 @@
 -- The laws of the blocks: the steps around pieces of code make the code of conditions, of `and` and `or`, and of loops.
 use Rattle.std.specs.Prelude.{Bool, true, false}
-use Rattle.template_code.specs.Code.{jump_if_false, pop_loop_frame, push_did_not_iterate, push_loop}
+use Rattle.template_compiler_code.specs.Code.{jump_if_false, pop_loop_frame, push_did_not_iterate, push_loop}
 use Rattle.template_compiler_codegen.specs.Expressions.{Coded, either_code, one, skipped, then_code}
 use Rattle.template_compiler_codegen.specs.Statements.{rounds_code}
 use Rattle.template_compiler_emission.specs.Leaps.{leap_code}

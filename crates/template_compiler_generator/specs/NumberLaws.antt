@@ -1,7 +1,7 @@
 -- The law of numbers.
 use Rattle.std.specs.Prelude.{◌≡◌, ℕ, List}
-use Rattle.template_code.specs.Code.{Operand, Code}
-use Rattle.template_code.specs.Steps.{exec}
+use Rattle.template_compiler_code.specs.Code.{Operand, Code}
+use Rattle.template_compiler_code.specs.Steps.{exec}
 use Rattle.template_compiler_generator.specs.Numbers.{numbered_in}
 
 -- Code does the same with its numbers as without them.

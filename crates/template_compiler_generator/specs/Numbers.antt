@@ -2,7 +2,7 @@
 use Rattle.std.specs.Prelude.{◌≡◌, ℕ, ◌||◌, if◌then◌else◌, List, [], ◌∷◌, ◌++◌, length, map, nat_le, bytes_eq, Option, None, Some, is_some, slice_get, unwrap_or}
 use Rattle.std.specs.List.{position}
 use Rattle.std.proofs.Math.ListN.{set}
-use Rattle.template_code.specs.Code.{Code, apply_filter, perform_test}
+use Rattle.template_compiler_code.specs.Code.{Code, apply_filter, perform_test}
 
 -- the place of a name among others
 abbrev pub place_among : List (List ℕ) → List ℕ → Option ℕ

@@ -1,12 +1,12 @@
 -- What generated code does wherever it stands.
 use Rattle.std.specs.Prelude.{◌≡◌, ℕ, ◌+◌, List, ◌∷◌, ◌++◌, length}
-use Rattle.template_tree.specs.Tree.{Expression, Statements}
-use Rattle.template_process.specs.Process.{no_counts, Process, Below}
-use Rattle.template_walk.specs.Expressions.{expression_walk}
-use Rattle.template_walk.specs.Statements.{Exits, statements_walk}
-use Rattle.template_code.specs.Code.{Operand, single, Code}
-use Rattle.template_code.specs.Counting.{counts_in, counts_before}
-use Rattle.template_code.specs.Steps.{exec}
+use Rattle.template_compiler_tree.specs.Tree.{Expression, Statements}
+use Rattle.template_compiler_process.specs.Process.{no_counts, Process, Below}
+use Rattle.template_compiler_walk.specs.Expressions.{expression_walk}
+use Rattle.template_compiler_walk.specs.Statements.{Exits, statements_walk}
+use Rattle.template_compiler_code.specs.Code.{Operand, single, Code}
+use Rattle.template_compiler_code.specs.Counting.{counts_in, counts_before}
+use Rattle.template_compiler_code.specs.Steps.{exec}
 use Rattle.template_compiler_codegen.specs.Expressions.{expression_code}
 use Rattle.template_compiler_codegen.specs.Statements.{Ways, left_by, statements_code}
 

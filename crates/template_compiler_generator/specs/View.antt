@@ -1,7 +1,7 @@
 -- What a generator has generated.
 use Rattle.std.specs.Prelude.{map, reverse, Option}
 use Rattle.template_values_errors.specs.declared.ErrorKind.{ErrorKind}
-use Rattle.template_code.specs.Listing.{name_in, source_in, code_in, places_in}
+use Rattle.template_compiler_code.specs.Listing.{name_in, source_in, code_in, places_in}
 use Rattle.template_compiler_generator.specs.declared.blocks.Block.{Block}
 use Rattle.template_compiler_generator.specs.declared.blocks.Block.TheVariants as kinds
 use Rattle.template_compiler_generator.specs.declared.generator.CodeGenerator.{CodeGenerator}

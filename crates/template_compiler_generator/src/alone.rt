@@ -1,11 +1,11 @@
 //! The statements of a tree.
 ghost use Rattle.std.specs.Prelude.{◌≡◌};
-ghost use Rattle.template_tree_parts.specs.Listed.{statements_in};
-ghost use Rattle.template_tree_statements.specs.View.{statement_of};
+ghost use Rattle.template_compiler_tree_parts.specs.Listed.{statements_in};
+ghost use Rattle.template_compiler_tree_statements.specs.View.{statement_of};
 ghost use Rattle.template_compiler_generator.specs.Alone.{statements_of};
 
 use std::slice;
-use template_tree_statements::Stmt;
+use template_compiler_tree_statements::Stmt;
 
 // The statements of a whole template; of another statement, itself.
 pub(crate) fn statements<'ast, 'source>(tree: &'ast Stmt<'source>) -> &'ast [Stmt<'source>]

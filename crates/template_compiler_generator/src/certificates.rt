@@ -4,7 +4,7 @@
 ghost use Rattle.template_compiler_generator.specs.Certificates.{TemplatesAreCertified, ExpressionsAreCertified, TemplatesGoOn, ExpressionsGoOn};
 ghost use Rattle.template_compiler_generator.specs.Pieces.{ExpressionsPerformAnywhere, StatementsPerformAnywhere};
 
-use template_code_shapes::{certified_is_good, good_goes_on};
+use template_compiler_code_shapes::{certified_is_good, good_goes_on};
 
 /// The code of every runnable template has a certificate as a template's, so it is good.
 pub fn templates_are_certified()

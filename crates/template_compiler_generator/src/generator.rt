@@ -1,12 +1,12 @@
 //! The generator.
 ghost use Rattle.std.specs.Prelude.{◌≡◌, ◌*◌, ◌↔◌, ◌∷◌, [], None, IfOk, IfErr, OnOk, OnErr, IsOk, IsSomeAnd, MatchOption, Err, IsTrue, length, reverse, drop, min, sum_by};
 ghost use Rattle.template_values_errors.specs.Memory.{NoMemory};
-ghost use Rattle.template_code.specs.Listing.{name_in, source_in, code_in, places_in, line_mark, TakesNoMore};
-ghost use Rattle.template_code.specs.View.{code_of};
-ghost use Rattle.template_code.specs.Texts.{raw_length};
-ghost use Rattle.template_tree_statements.specs.View.{statement_of};
-ghost use Rattle.template_tree.specs.View.{expression_of};
-ghost use Rattle.template_walk.specs.Runnable.{IsRunnable, IsTarget};
+ghost use Rattle.template_compiler_code.specs.Listing.{name_in, source_in, code_in, places_in, line_mark, TakesNoMore};
+ghost use Rattle.template_compiler_code.specs.View.{code_of};
+ghost use Rattle.template_compiler_code.specs.Texts.{raw_length};
+ghost use Rattle.template_compiler_tree_statements.specs.View.{statement_of};
+ghost use Rattle.template_compiler_tree.specs.View.{expression_of};
+ghost use Rattle.template_compiler_walk.specs.Runnable.{IsRunnable, IsTarget};
 ghost use Rattle.template_compiler_codegen.specs.Expressions.{expression_code};
 ghost use Rattle.template_compiler_codegen.specs.Statements.{no_ways, statements_code, target_code};
 ghost use Rattle.template_compiler_generator.specs.Alone.{CanStand, statements_of};
@@ -19,14 +19,14 @@ use crate::alone::statements;
 use crate::blocks::{Block, Jump};
 use crate::number_names;
 use std::alloc::Global;
-use template_code::{
+use template_compiler_code::{
     Instruction, Instructions, LOOP_FLAG_RECURSIVE, LOOP_FLAG_WITH_LOOP_VAR, buffer_size_hint,
 };
 use template_compiler_emission::Leap;
 use template_compiler_expression_codegen::compile_expr;
 use template_compiler_statement_codegen::{compile_assignment, compile_statements};
-use template_tree::{Expr, Span};
-use template_tree_statements::Stmt;
+use template_compiler_tree::{Expr, Span};
+use template_compiler_tree_statements::Stmt;
 use template_values_errors::{Error, ErrorKind};
 
 /// Instructions that are generated one behind the other, with the blocks that are open, the current line, and the spans

@@ -2,11 +2,11 @@
 ghost use Rattle.std.specs.Prelude.{◌≡◌, ◌≤◌, IfOk, IfErr, OnOk, OnErr, bytes_eq, length, map};
 ghost use Rattle.std.specs.List.{position};
 ghost use Rattle.template_values_errors.specs.Memory.{NoMemory};
-ghost use Rattle.template_code.specs.Listing.{code_in, places_in, IsSameTemplate};
+ghost use Rattle.template_compiler_code.specs.Listing.{code_in, places_in, IsSameTemplate};
 ghost use Rattle.template_compiler_generator.specs.Numbers.{Numbers, bare, name_at, names_at, number_among, numbered_in, with_name};
 
 use std::alloc::Global;
-use template_code::{Instruction, Instructions, LocalId, MAX_LOCALS};
+use template_compiler_code::{Instruction, Instructions, LocalId, MAX_LOCALS};
 use template_values_errors::Error;
 
 // The number of a name that has none of its own.

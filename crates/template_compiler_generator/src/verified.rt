@@ -1,26 +1,26 @@
 //! What is generated for a tree is accepted by the check of streams.
 
 ghost use Rattle.std.specs.Prelude.{◌≡◌, IfOk, IfErr};
-ghost use Rattle.template_code.specs.Listing.{code_in, name_in, source_in};
-ghost use Rattle.template_code_shapes.specs.Checked.{kind_in, stream_in};
-ghost use Rattle.template_code_shapes.specs.Streams.{IsGood};
-ghost use Rattle.template_code_shapes.specs.declared.StreamKind.{StreamKind};
+ghost use Rattle.template_compiler_code.specs.Listing.{code_in, name_in, source_in};
+ghost use Rattle.template_compiler_code_shapes.specs.Checked.{kind_in, stream_in};
+ghost use Rattle.template_compiler_code_shapes.specs.Streams.{IsGood};
+ghost use Rattle.template_compiler_code_shapes.specs.declared.StreamKind.{StreamKind};
 ghost use Rattle.template_compiler_codegen.specs.Statements.{standalone_code, template_code};
 ghost use Rattle.template_compiler_emission.specs.Puts.{NoRoom};
 ghost use Rattle.template_compiler_generator.specs.Numbers.{numbered_in};
 ghost use Rattle.template_compiler_generator.specs.Acceptance.{ExpressionsAreAccepted, TemplatesAreAccepted};
 ghost use Rattle.template_compiler_generator.specs.Alone.{CanStand, statements_of};
-ghost use Rattle.template_tree_statements.specs.View.{statement_of};
-ghost use Rattle.template_tree.specs.View.{expression_of};
+ghost use Rattle.template_compiler_tree_statements.specs.View.{statement_of};
+ghost use Rattle.template_compiler_tree.specs.View.{expression_of};
 ghost use Rattle.template_values_errors.specs.Memory.{NoMemory};
-ghost use Rattle.template_walk.specs.Runnable.{IsRunnable};
+ghost use Rattle.template_compiler_walk.specs.Runnable.{IsRunnable};
 
 use crate::{CodeGenerator, expressions_are_certified, templates_are_certified};
 use std::alloc::Global;
-use template_code::Instructions;
-use template_code_shapes::{Checked, StreamKind, certified_is_good, verify};
-use template_tree::Expr;
-use template_tree_statements::Stmt;
+use template_compiler_code::Instructions;
+use template_compiler_code_shapes::{Checked, StreamKind, certified_is_good, verify};
+use template_compiler_tree::Expr;
+use template_compiler_tree_statements::Stmt;
 use template_values_errors::Error;
 
 /// Whatever draft is generated for a template, onto one without code, is a good stream of a template with its numbers. The

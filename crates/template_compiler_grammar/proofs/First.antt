@@ -1,11 +1,11 @@
 -- The first of a node's places is its own span.
 use Rattle.std.proofs.Common.{◌≡◌, refl}
-use Rattle.template_tree.specs.Places.{expression_span}
-use Rattle.template_tree_statements.specs.Places.{statement_span}
-use Rattle.template_tree.specs.declared.expressions.Expr.{Expr, Var, Const, Slice', UnaryOp', BinOp', Compare', IfExpr', Filter', Test', GetAttr', GetItem', Call', List', Tuple', Map'}
-use Rattle.template_tree_statements.specs.declared.statements.Stmt.{Stmt, Template', EmitExpr, EmitRaw, ForLoop', IfCond', WithBlock', Set, SetBlock', AutoEscape', FilterBlock', Block', Import, FromImport, Extends, Include, Macro', CallBlock', Continue, Break, Do}
-use Rattle.template_tree.specs.ExpressionPlaces.{places_of}
-use Rattle.template_tree.specs.NodePlaces.{span_at}
+use Rattle.template_compiler_tree.specs.Places.{expression_span}
+use Rattle.template_compiler_tree_statements.specs.Places.{statement_span}
+use Rattle.template_compiler_tree.specs.declared.expressions.Expr.{Expr, Var, Const, Slice', UnaryOp', BinOp', Compare', IfExpr', Filter', Test', GetAttr', GetItem', Call', List', Tuple', Map'}
+use Rattle.template_compiler_tree_statements.specs.declared.statements.Stmt.{Stmt, Template', EmitExpr, EmitRaw, ForLoop', IfCond', WithBlock', Set, SetBlock', AutoEscape', FilterBlock', Block', Import, FromImport, Extends, Include, Macro', CallBlock', Continue, Break, Do}
+use Rattle.template_compiler_tree.specs.ExpressionPlaces.{places_of}
+use Rattle.template_compiler_tree.specs.NodePlaces.{span_at}
 use Rattle.template_compiler_grammar.specs.TreeStatements.{statement_places}
 
 pub expression_first : (e : Expr) → span_at (places_of e) ≡ expression_span e

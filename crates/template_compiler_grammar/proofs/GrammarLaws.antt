@@ -1,6 +1,6 @@
 -- What follows from the laws on the reader.
 use Rattle.std.proofs.Common.{◌≡◌, ℕ, ◌⊎◌, inl, inr, List, [], ◌∷◌, Ok, Err, refl, sym, ◌∙◌}
-use Rattle.template_tree.specs.Tree.{Expression}
+use Rattle.template_compiler_tree.specs.Tree.{Expression}
 use Rattle.template_compiler_tokens.specs.Token.{Token}
 use Rattle.template_compiler_grammar.specs.Ends.{Ends}
 use Rattle.template_compiler_tokens.specs.Steps.{Read}

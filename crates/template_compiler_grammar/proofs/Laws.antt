@@ -1,7 +1,7 @@
 -- What follows from the laws on the reader with places.
 use Rattle.std.proofs.Common.{◌≡◌, ℕ, List, [], Ok, sym, ◌∙◌, ap}
-use Rattle.template_tree.specs.declared.span.Span.{Span}
-use Rattle.template_tree.specs.Tree.{Expression}
+use Rattle.template_compiler_tree.specs.declared.span.Span.{Span}
+use Rattle.template_compiler_tree.specs.Tree.{Expression}
 use Rattle.template_compiler_tokens.specs.Token.{Token}
 use Rattle.template_compiler_tokens.proofs.Readings.{ok_tree}
 use Rattle.template_compiler_grammar.specs.Ends.{Ends}

@@ -1,6 +1,6 @@
 -- What an expression begins with.
 use Rattle.std.proofs.Common.{◌≡◌, ℕ, Bool, true, false, List, [], ◌∷◌, refl}
-use Rattle.template_tree.specs.Tree.{Expression}
+use Rattle.template_compiler_tree.specs.Tree.{Expression}
 use Rattle.template_compiler_tokens.specs.Token.{Token, identifier, string, number, symbol, minus, bracket_open, paren_open, brace_open}
 use Rattle.template_compiler_grammar.specs.Words.{Level}
 use Rattle.template_compiler_grammar.specs.Grammar.{IsExpression, unconditional, if_alone, if_else, IsBinary, operands, IsOperand, factor, text_operand, term, conjunct, disjunct, IsNegation, negation, no_negation, IsComparison, comparison, IsPower, no_power, power, filtered_value, IsUnary, minus_sign, primary, IsPrimary, name_primary, word_primary, number_primary, text_primary, paren_primary, list_primary, map_primary}

@@ -1,12 +1,12 @@
 -- Lists of nodes with one more at the end, and where they stand.
 use Rattle.std.proofs.Common.{◌≡◌, List, [], ◌∷◌, ◌++◌, Option, None, Some, refl, ap}
-use Rattle.template_tree.specs.View.{expression_of, optional_in, argument_of, arguments_in}
-use Rattle.template_tree.specs.Tree.{expressions_more, links_more, arguments_more, imports_more, assignments_more}
-use Rattle.template_tree.specs.declared.calls.CallArg.{CallArg}
-use Rattle.template_tree.specs.declared.expressions.CompareOp.{CompareOp}
-use Rattle.template_tree.specs.declared.expressions.Expr.{Expr}
-use Rattle.template_tree.specs.NodePlaces.{parts_more, and_parts}
-use Rattle.template_tree.specs.ExpressionPlaces.{places_of, places_of_argument, places_in_arguments}
+use Rattle.template_compiler_tree.specs.View.{expression_of, optional_in, argument_of, arguments_in}
+use Rattle.template_compiler_tree.specs.Tree.{expressions_more, links_more, arguments_more, imports_more, assignments_more}
+use Rattle.template_compiler_tree.specs.declared.calls.CallArg.{CallArg}
+use Rattle.template_compiler_tree.specs.declared.expressions.CompareOp.{CompareOp}
+use Rattle.template_compiler_tree.specs.declared.expressions.Expr.{Expr}
+use Rattle.template_compiler_tree.specs.NodePlaces.{parts_more, and_parts}
+use Rattle.template_compiler_tree.specs.ExpressionPlaces.{places_of, places_of_argument, places_in_arguments}
 use Rattle.template_compiler_grammar.specs.Trees.{followed_by}
 use Rattle.template_compiler_grammar.specs.Nodes.{placed, and_node, and_placed_link}
 use Rattle.template_compiler_grammar.specs.TemplateNodes.{and_placed_assignment, and_placed_import}

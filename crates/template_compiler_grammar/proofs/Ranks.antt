@@ -2,8 +2,8 @@
 use Rattle.std.proofs.Common.{◌≡◌, ℕ, ◌<◌, ◌≤◌, Bool, true, false, if◌then◌else◌, List, [], ◌∷◌, codes, Option, None, Some, refl, sym, ◌∙◌, ap, arith, lit<}
 use Rattle.std.specs.Prelude.{bytes_eq}
 use Rattle.std.specs.Cmp.Lexicographic.{same_text}
-use Rattle.template_tree.specs.declared.operators.BinOpKind.{BinOpKind}
-use Rattle.template_tree.specs.declared.operators.CompareOpKind.{CompareOpKind}
+use Rattle.template_compiler_tree.specs.declared.operators.BinOpKind.{BinOpKind}
+use Rattle.template_compiler_tree.specs.declared.operators.CompareOpKind.{CompareOpKind}
 use Rattle.template_compiler_tokens.specs.Token.{plus, minus, mul, div, floor_div, modulo, tilde, eq, ne, gt, gte, lt, lte, Token, identifier, symbol}
 use Rattle.template_compiler_grammar.specs.Words.{is_word, Level, factors, texts, terms, conjunction, disjunction, operator, comparison_operator}
 use Rattle.template_compiler_grammar.specs.Ends.{word_rank, rank, Behind}

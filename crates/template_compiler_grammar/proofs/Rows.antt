@@ -1,10 +1,10 @@
 -- The reader on expressions.
 use Rattle.std.specs.Prelude.{◌≡◌, ℕ, zero, suc, Bool, ◌++◌, replicate, pos, [], ◌∷◌, codes, Ok, Err, refl, List, true, false}
 use Rattle.template_values_model.specs.Val.{int, text, none, truth}
-use Rattle.template_tree.specs.Tree.{Expression, Arguments, variable, constant, slice, unary, binary, chain, conditional, filtered, tested, attribute, item, call, list_literal, tuple_literal, map_literal, absent, given, no_expressions, expressions_more, no_links, links_more, no_arguments, arguments_more, positional, keyword, positional_spread, keyword_spread}
-use Rattle.template_tree.specs.declared.operators.UnaryOpKind.TheVariants.{Not, Neg}
-use Rattle.template_tree.specs.declared.operators.BinOpKind.TheVariants.{Eq, Gt, ScAnd, ScOr, Add, Pow, In}
-use Rattle.template_tree.specs.declared.operators.CompareOpKind.TheVariants as compare
+use Rattle.template_compiler_tree.specs.Tree.{Expression, Arguments, variable, constant, slice, unary, binary, chain, conditional, filtered, tested, attribute, item, call, list_literal, tuple_literal, map_literal, absent, given, no_expressions, expressions_more, no_links, links_more, no_arguments, arguments_more, positional, keyword, positional_spread, keyword_spread}
+use Rattle.template_compiler_tree.specs.declared.operators.UnaryOpKind.TheVariants.{Not, Neg}
+use Rattle.template_compiler_tree.specs.declared.operators.BinOpKind.TheVariants.{Eq, Gt, ScAnd, ScOr, Add, Pow, In}
+use Rattle.template_compiler_tree.specs.declared.operators.CompareOpKind.TheVariants as compare
 use Rattle.template_compiler_tokens.specs.Token.{Token, bad_syntax, bad_escape, float_literal, bad, identifier, string, number, symbol, plus, minus, mul, pow, dot, comma, colon, assign, pipe, eq, gt, lt, bracket_open, bracket_close, paren_open, paren_close, brace_open, brace_close}
 use Rattle.template_compiler_tokens.specs.Steps.{Read, many, all, and_then, under, goes_on}
 use Rattle.template_compiler_grammar.specs.ReaderParts.{dotted_step, name_of, text_step, paren_end, bracket_end, brace_end, colon_end, separated, unless_closing}

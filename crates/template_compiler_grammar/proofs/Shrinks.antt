@@ -1,6 +1,6 @@
 -- What stands behind a tree is shorter than the tokens from it on.
 use Rattle.std.proofs.Common.{◌<◌, ◌≤◌, ℕ, Bool, List, length, arith}
-use Rattle.template_tree.specs.Tree.{Expression, Optional, Expressions, Links, Arguments, Argument}
+use Rattle.template_compiler_tree.specs.Tree.{Expression, Optional, Expressions, Links, Arguments, Argument}
 use Rattle.template_compiler_tokens.specs.Token.{Token}
 use Rattle.template_compiler_grammar.specs.Words.{Level}
 use Rattle.template_compiler_grammar.specs.Trees.{Paired, Written}

@@ -3,13 +3,13 @@ use Rattle.std.proofs.Common.{◌≡◌, ℕ, zero, suc, ◌<◌, ◌≤◌, Boo
 use Rattle.std.specs.Prelude.{nat_le}
 use Rattle.std.proofs.lemmas.Bool.Decides.{nat_tests}
 use Rattle.template_values_model.specs.Val.{Val}
-use Rattle.template_tree.specs.declared.span.Span.{Span}
-use Rattle.template_tree.specs.declared.operators.UnaryOpKind.TheVariants as unaries
-use Rattle.template_tree.specs.declared.operators.BinOpKind.{BinOpKind}
-use Rattle.template_tree.specs.declared.operators.BinOpKind.TheVariants as operators
-use Rattle.template_tree.specs.declared.operators.CompareOpKind.{CompareOpKind}
-use Rattle.template_tree.specs.NodePlaces.{Places, Parts, no_parts}
-use Rattle.template_tree.specs.Tree.{Expression, unary, binary, call, item, slice, list_literal, tuple_literal, map_literal, conditional, Optional, absent, given, Expressions, no_expressions, expressions_more, Links, no_links}
+use Rattle.template_compiler_tree.specs.declared.span.Span.{Span}
+use Rattle.template_compiler_tree.specs.declared.operators.UnaryOpKind.TheVariants as unaries
+use Rattle.template_compiler_tree.specs.declared.operators.BinOpKind.{BinOpKind}
+use Rattle.template_compiler_tree.specs.declared.operators.BinOpKind.TheVariants as operators
+use Rattle.template_compiler_tree.specs.declared.operators.CompareOpKind.{CompareOpKind}
+use Rattle.template_compiler_tree.specs.NodePlaces.{Places, Parts, no_parts}
+use Rattle.template_compiler_tree.specs.Tree.{Expression, unary, binary, call, item, slice, list_literal, tuple_literal, map_literal, conditional, Optional, absent, given, Expressions, no_expressions, expressions_more, Links, no_links}
 use Rattle.template_compiler_tokens.specs.Places.{next_span}
 use Rattle.template_compiler_tokens.specs.Token.{Token, bad_syntax, identifier, string, number, symbol, minus, mul, pow, dot, comma, colon, assign, pipe, bracket_open, bracket_close, paren_open, paren_close, brace_open, brace_close}
 use Rattle.template_compiler_tokens.specs.Steps.{Read, Step, goes, fails, fault, and_then, goes_on, many, all}

@@ -1,7 +1,7 @@
 -- Where repetitions stop, and what the reader with places does at tokens that are given by a test alone.
 use Rattle.std.proofs.Common.{◌≡◌, ℕ, ◌<◌, true, false, List, [], ◌∷◌, codes, None, Ok, refl, ◌∙◌, ap, arith}
-use Rattle.template_tree.specs.declared.span.Span.{Span}
-use Rattle.template_tree.specs.Tree.{Argument}
+use Rattle.template_compiler_tree.specs.declared.span.Span.{Span}
+use Rattle.template_compiler_tree.specs.Tree.{Argument}
 use Rattle.template_compiler_tokens.specs.Token.{Token, identifier, string, symbol, pow, dot, colon, pipe, bracket_open, bracket_close, paren_open, paren_close, brace_close}
 use Rattle.template_compiler_tokens.specs.Steps.{Read, Step, goes, stops, and_then}
 use Rattle.template_compiler_grammar.specs.Words.{is_word, begins_word, begins_paren, begins_dotted, Level}

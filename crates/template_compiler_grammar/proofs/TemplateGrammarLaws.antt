@@ -1,6 +1,6 @@
 -- What follows from the laws on the reader.
 use Rattle.std.proofs.Common.{◌≡◌, ◌⊎◌, inl, inr, List, Result, Ok, Err, refl, sym, ◌∙◌}
-use Rattle.template_tree.specs.Tree.{Statements}
+use Rattle.template_compiler_tree.specs.Tree.{Statements}
 use Rattle.template_compiler_tokens.specs.Token.{Token, TokenFault}
 use Rattle.template_compiler_grammar.specs.TemplateGrammar.{IsTemplate}
 use Rattle.template_compiler_grammar.specs.TreeReader.{template_of}

@@ -1,8 +1,8 @@
 -- What follows from the laws on the reader with places.
 use Rattle.std.proofs.Common.{◌≡◌, List, [], Result, Ok, Err, sym, ◌∙◌, ap}
-use Rattle.template_tree.specs.declared.span.Span.{Span}
-use Rattle.template_tree.specs.Tree.{Statements}
-use Rattle.template_tree.specs.NodePlaces.{Places}
+use Rattle.template_compiler_tree.specs.declared.span.Span.{Span}
+use Rattle.template_compiler_tree.specs.Tree.{Statements}
+use Rattle.template_compiler_tree.specs.NodePlaces.{Places}
 use Rattle.template_compiler_tokens.specs.Token.{Token, TokenFault}
 use Rattle.template_compiler_grammar.specs.DerivedStatements.{template_places}
 use Rattle.template_compiler_grammar.specs.TemplateGrammar.{IsTemplate}

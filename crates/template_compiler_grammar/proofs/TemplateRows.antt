@@ -3,7 +3,7 @@ use lib.Utf8.{encode}
 use Rattle.std.specs.Str.{trim_start, chars}
 use Rattle.std.specs.Prelude.{◌≡◌, true, false, pos, [], ◌∷◌, codes, Ok, Err, refl}
 use Rattle.template_values_model.specs.Val.{int}
-use Rattle.template_tree.specs.Tree.{variable, constant, attribute, filtered, list_literal, tuple_literal, absent, given, no_expressions, expressions_more, no_arguments, raw, print, for_loop, if_condition, with_block, set, set_block, block, import, from_import, include, macro, call_block, break_loop, do_call, no_statements, statements_more, no_assignments, assignments_more, no_imports, imports_more}
+use Rattle.template_compiler_tree.specs.Tree.{variable, constant, attribute, filtered, list_literal, tuple_literal, absent, given, no_expressions, expressions_more, no_arguments, raw, print, for_loop, if_condition, with_block, set, set_block, block, import, from_import, include, macro, call_block, break_loop, do_call, no_statements, statements_more, no_assignments, assignments_more, no_imports, imports_more}
 use Rattle.template_compiler_tokens.specs.Token.{bad_syntax, template_data, variable_start, variable_end, block_end, identifier, number, symbol, dot, comma, assign, pipe, paren_open, paren_close}
 use Rattle.template_compiler_tokens.specs.Steps.{and_then, under, goes_on, many, all}
 use Rattle.template_compiler_grammar.specs.ReaderParts.{dotted_step, name_of, text_step, paren_end, bracket_end, brace_end, colon_end, separated, unless_closing}

@@ -1,6 +1,6 @@
 -- What is read takes tokens.
 use Rattle.std.proofs.Common.{ℕ, ◌<◌, ◌≤◌, Bool, List, length, arith}
-use Rattle.template_tree.specs.Tree.{Expression, Optional, Expressions, Statement, Statements, Assignments, Imports}
+use Rattle.template_compiler_tree.specs.Tree.{Expression, Optional, Expressions, Statement, Statements, Assignments, Imports}
 use Rattle.template_compiler_tokens.specs.Token.{Token}
 use Rattle.template_compiler_grammar.specs.Grammar.{IsFilterChain, chain_end, chain_more}
 use Rattle.template_compiler_grammar.proofs.Shrinks.{expression_shrinks, binary_shrinks, filter_shrinks}

@@ -2,9 +2,9 @@
 use Rattle.std.proofs.Common.{◌≡◌, ℕ, suc, ◌<◌, Bool, true, false, if◌then◌else◌, List, [], ◌∷◌, ◌++◌, codes, None, Ok, Err, refl, sym, ◌∙◌, ap, arith, lit<, length}
 use Rattle.std.specs.Prelude.{bytes_eq}
 use Rattle.std.proofs.lemmas.Slice.Eq.{bytes_eq-Decides}
-use Rattle.template_tree.specs.declared.span.Span.{Span}
-use Rattle.template_tree.specs.Tree.{Expression, Optional, absent, given, Expressions, no_expressions, Statement, macro, call_block, Statements, call, Assignments, Imports, no_imports, if_condition}
-use Rattle.template_tree.specs.NodePlaces.{Places, at, Parts, no_parts, parts_more, one, and_parts}
+use Rattle.template_compiler_tree.specs.declared.span.Span.{Span}
+use Rattle.template_compiler_tree.specs.Tree.{Expression, Optional, absent, given, Expressions, no_expressions, Statement, macro, call_block, Statements, call, Assignments, Imports, no_imports, if_condition}
+use Rattle.template_compiler_tree.specs.NodePlaces.{Places, at, Parts, no_parts, parts_more, one, and_parts}
 use Rattle.template_compiler_tokens.specs.Places.{next_span, stretch}
 use Rattle.template_compiler_tokens.specs.Token.{Token, bad_syntax, variable_end, block_end, identifier, symbol, dot, comma, assign, paren_open}
 use Rattle.template_compiler_tokens.specs.Steps.{Read, goes, stops, and_then, all}

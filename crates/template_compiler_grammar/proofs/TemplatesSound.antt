@@ -2,10 +2,10 @@
 use Rattle.std.proofs.Common.{◌≡◌, ℕ, zero, suc, arith, Bool, true, false, if◌then◌else◌, List, [], ◌∷◌, length, codes, Option, None, Some, unwrap_or, Result, Ok, Err, refl, sym, ◌∙◌, ap, subst, inl, inr}
 use Rattle.std.specs.Prelude.{bytes_eq}
 use Rattle.std.proofs.lemmas.Slice.Eq.{bytes_eq-Decides}
-use Rattle.template_tree.specs.declared.span.Span.{Span}
-use Rattle.template_tree.specs.Kinds.{call_parts}
-use Rattle.template_tree.specs.NodePlaces.{Places, at, Parts, no_parts}
-use Rattle.template_tree.specs.Tree.{Expression, variable, call, Optional, absent, given, Expressions, no_expressions, expressions_more, Arguments, Statement, for_loop, if_condition, with_block, set_block, auto_escape, filter_block, block, macro, call_block, continue_loop, break_loop, Statements, no_statements, Assignments, no_assignments, Imports, no_imports}
+use Rattle.template_compiler_tree.specs.declared.span.Span.{Span}
+use Rattle.template_compiler_tree.specs.Kinds.{call_parts}
+use Rattle.template_compiler_tree.specs.NodePlaces.{Places, at, Parts, no_parts}
+use Rattle.template_compiler_tree.specs.Tree.{Expression, variable, call, Optional, absent, given, Expressions, no_expressions, expressions_more, Arguments, Statement, for_loop, if_condition, with_block, set_block, auto_escape, filter_block, block, macro, call_block, continue_loop, break_loop, Statements, no_statements, Assignments, no_assignments, Imports, no_imports}
 use Rattle.template_compiler_tokens.specs.Places.{next_span}
 use Rattle.template_compiler_tokens.specs.Token.{Token, TokenFault, bad_syntax, template_data, variable_start, variable_end, block_start, block_end, identifier, symbol, dot, comma, assign, paren_open, paren_close}
 use Rattle.template_compiler_tokens.specs.Blame.{Blamed}

@@ -1,8 +1,8 @@
 -- A statement stands from its first token to its last.
 use Rattle.std.proofs.Common.{◌≡◌, ℕ, List, refl}
-use Rattle.template_tree.specs.declared.span.Span.{Span}
-use Rattle.template_tree.specs.Tree.{Statement}
-use Rattle.template_tree.specs.NodePlaces.{span_at}
+use Rattle.template_compiler_tree.specs.declared.span.Span.{Span}
+use Rattle.template_compiler_tree.specs.Tree.{Statement}
+use Rattle.template_compiler_tree.specs.NodePlaces.{span_at}
 use Rattle.template_compiler_tokens.specs.Token.{Token}
 use Rattle.template_compiler_grammar.specs.TemplateGrammar.{Around, IsStatement, text_statement, print_statement, for_statement, if_statement, with_statement, set_statement, set_block_statement, autoescape_statement, filter_statement, block_statement, import_statement, from_statement, extends_statement, include_statement, macro_statement, call_statement, do_statement, break_statement, continue_statement}
 use Rattle.template_compiler_tokens.specs.Places.{stretch}

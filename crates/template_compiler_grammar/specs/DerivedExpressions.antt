@@ -1,9 +1,9 @@
 -- Where the nodes of an expression stand: the places of what the grammar reads, with the spans of all tokens. A node that
 -- begins with one that was read before it has the tokens where that began.
 use Rattle.std.specs.Prelude.{ℕ, List, ◌∷◌}
-use Rattle.template_tree.specs.declared.span.Span.{Span}
-use Rattle.template_tree.specs.Tree.{Expression, Optional, Expressions, Links, Arguments, Argument}
-use Rattle.template_tree.specs.NodePlaces.{Places, at, Parts, no_parts, parts_more, one, and_parts}
+use Rattle.template_compiler_tree.specs.declared.span.Span.{Span}
+use Rattle.template_compiler_tree.specs.Tree.{Expression, Optional, Expressions, Links, Arguments, Argument}
+use Rattle.template_compiler_tree.specs.NodePlaces.{Places, at, Parts, no_parts, parts_more, one, and_parts}
 use Rattle.template_compiler_tokens.specs.Places.{next_span, stretch}
 use Rattle.template_compiler_tokens.specs.Token.{Token, identifier, string, number, symbol, minus, bracket_open, bracket_close, brace_open, brace_close, paren_open, paren_close}
 use Rattle.template_compiler_grammar.specs.Words.{Level, word_not}

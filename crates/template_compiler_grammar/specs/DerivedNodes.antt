@@ -1,12 +1,12 @@
 -- The places of the nodes that productions put together.
 use Rattle.std.specs.Prelude.{Bool, true, false, if◌then◌else◌, List}
-use Rattle.template_tree.specs.declared.span.Span.{Span}
-use Rattle.template_tree.specs.declared.operators.CompareOpKind.{CompareOpKind}
-use Rattle.template_tree.specs.declared.operators.CompareOpKind.TheVariants.{NotIn}
-use Rattle.template_tree.specs.Tree.{Links, no_links, links_more, Argument, positional, keyword, positional_spread, keyword_spread}
+use Rattle.template_compiler_tree.specs.declared.span.Span.{Span}
+use Rattle.template_compiler_tree.specs.declared.operators.CompareOpKind.{CompareOpKind}
+use Rattle.template_compiler_tree.specs.declared.operators.CompareOpKind.TheVariants.{NotIn}
+use Rattle.template_compiler_tree.specs.Tree.{Links, no_links, links_more, Argument, positional, keyword, positional_spread, keyword_spread}
 use Rattle.template_compiler_tokens.specs.Places.{next_span, until}
 use Rattle.template_compiler_tokens.specs.Token.{Token}
-use Rattle.template_tree.specs.NodePlaces.{Places, at, Parts, parts_more, one, and_parts}
+use Rattle.template_compiler_tree.specs.NodePlaces.{Places, at, Parts, parts_more, one, and_parts}
 
 -- from the next of the ones to the next of the others, as from bracket to bracket
 abbrev pub enclosed : List Span → List Token → List Token → Span

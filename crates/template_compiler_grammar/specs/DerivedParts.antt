@@ -1,8 +1,8 @@
 -- Where the parts of statements stand: targets, values, names and parameters.
 use Rattle.std.specs.Prelude.{ℕ, Bool, List, ◌∷◌}
-use Rattle.template_tree.specs.declared.span.Span.{Span}
-use Rattle.template_tree.specs.Tree.{Expression, Optional, Expressions, Assignments, Imports}
-use Rattle.template_tree.specs.NodePlaces.{Places, at, Parts, no_parts, parts_more, one, and_parts}
+use Rattle.template_compiler_tree.specs.declared.span.Span.{Span}
+use Rattle.template_compiler_tree.specs.Tree.{Expression, Optional, Expressions, Assignments, Imports}
+use Rattle.template_compiler_tree.specs.NodePlaces.{Places, at, Parts, no_parts, parts_more, one, and_parts}
 use Rattle.template_compiler_tokens.specs.Places.{next_span, stretch}
 use Rattle.template_compiler_tokens.specs.Token.{Token, identifier}
 use Rattle.template_compiler_grammar.specs.Grammar.{IsFilterChain, chain_end, chain_more}

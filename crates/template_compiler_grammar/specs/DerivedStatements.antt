@@ -1,8 +1,8 @@
 -- Where the nodes of a template stand: the places of what the grammar reads, with the spans of all tokens.
 use Rattle.std.specs.Prelude.{ℕ, codes, List, [], ◌∷◌, ◌++◌}
-use Rattle.template_tree.specs.declared.span.Span.{Span}
-use Rattle.template_tree.specs.Tree.{Statement, Statements}
-use Rattle.template_tree.specs.NodePlaces.{Places, at, Parts, no_parts, parts_more, one, and_parts}
+use Rattle.template_compiler_tree.specs.declared.span.Span.{Span}
+use Rattle.template_compiler_tree.specs.Tree.{Statement, Statements}
+use Rattle.template_compiler_tree.specs.NodePlaces.{Places, at, Parts, no_parts, parts_more, one, and_parts}
 use Rattle.template_compiler_tokens.specs.Places.{stretch}
 use Rattle.template_compiler_tokens.specs.Token.{Token, template_data, variable_start, identifier, symbol, paren_open}
 use Rattle.template_compiler_grammar.specs.DerivedNodes.{and_place}

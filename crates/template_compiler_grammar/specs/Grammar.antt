@@ -2,12 +2,12 @@
 -- the tokens, the tree, and the tokens behind it. A repetition has what it has put together so far before the tokens.
 use Rattle.std.specs.Prelude.{◌≡◌, ℕ, suc, ◌≤◌, pos, Bool, true, false, codes, List, ◌∷◌, ◌++◌, None, Some}
 use Rattle.template_values_model.specs.Val.{Val, int, text}
-use Rattle.template_tree.specs.Tree.{Expression, variable, constant, slice, unary, binary, conditional, filtered, attribute, item, call, list_literal, tuple_literal, map_literal, Optional, absent, given, Expressions, no_expressions, expressions_more, Links, no_links, Arguments, no_arguments, arguments_more, Argument, positional, keyword, positional_spread, keyword_spread}
-use Rattle.template_tree.specs.declared.operators.UnaryOpKind.TheVariants as unaries
-use Rattle.template_tree.specs.declared.operators.BinOpKind.{BinOpKind}
-use Rattle.template_tree.specs.declared.operators.BinOpKind.TheVariants as operators
-use Rattle.template_tree.specs.declared.operators.CompareOpKind.{CompareOpKind}
-use Rattle.template_tree.specs.declared.operators.CompareOpKind.TheVariants as comparisons
+use Rattle.template_compiler_tree.specs.Tree.{Expression, variable, constant, slice, unary, binary, conditional, filtered, attribute, item, call, list_literal, tuple_literal, map_literal, Optional, absent, given, Expressions, no_expressions, expressions_more, Links, no_links, Arguments, no_arguments, arguments_more, Argument, positional, keyword, positional_spread, keyword_spread}
+use Rattle.template_compiler_tree.specs.declared.operators.UnaryOpKind.TheVariants as unaries
+use Rattle.template_compiler_tree.specs.declared.operators.BinOpKind.{BinOpKind}
+use Rattle.template_compiler_tree.specs.declared.operators.BinOpKind.TheVariants as operators
+use Rattle.template_compiler_tree.specs.declared.operators.CompareOpKind.{CompareOpKind}
+use Rattle.template_compiler_tree.specs.declared.operators.CompareOpKind.TheVariants as comparisons
 use Rattle.template_compiler_tokens.specs.Token.{Token, identifier, string, number, symbol, minus, mul, pow, dot, comma, colon, assign, pipe, bracket_open, bracket_close, paren_open, paren_close, brace_open, brace_close}
 use Rattle.template_compiler_grammar.specs.Words.{word_if, word_else, word_not, word_in, word_is, begins_word, begins_paren, begins_dotted, begins_bare, literal_word, Level, factors, texts, terms, conjunction, disjunction, operator, comparison_operator}
 use Rattle.template_compiler_grammar.specs.Trees.{dotted, and_expression, and_link, compared, tested_as, Paired, nothing_paired, and_pair, Written, nothing_written, and_written, in_order, argument_count}

@@ -1,10 +1,10 @@
 -- Trees with their places, and what productions put together of them.
 use Rattle.std.specs.Prelude.{ℕ, Bool, List, Ok, Err}
-use Rattle.template_tree.specs.declared.span.Span.{Span}
-use Rattle.template_tree.specs.declared.operators.BinOpKind.{BinOpKind}
-use Rattle.template_tree.specs.declared.operators.CompareOpKind.{CompareOpKind}
-use Rattle.template_tree.specs.Tree.{Expression, slice, binary, conditional, Optional, absent, given, Expressions, no_expressions, expressions_more, Links, no_links, Arguments, no_arguments, arguments_more, Argument, positional}
-use Rattle.template_tree.specs.NodePlaces.{Places, at, Parts, no_parts, parts_more, one, and_parts}
+use Rattle.template_compiler_tree.specs.declared.span.Span.{Span}
+use Rattle.template_compiler_tree.specs.declared.operators.BinOpKind.{BinOpKind}
+use Rattle.template_compiler_tree.specs.declared.operators.CompareOpKind.{CompareOpKind}
+use Rattle.template_compiler_tree.specs.Tree.{Expression, slice, binary, conditional, Optional, absent, given, Expressions, no_expressions, expressions_more, Links, no_links, Arguments, no_arguments, arguments_more, Argument, positional}
+use Rattle.template_compiler_tree.specs.NodePlaces.{Places, at, Parts, no_parts, parts_more, one, and_parts}
 use Rattle.template_compiler_tokens.specs.Steps.{Read, Step, goes, stops, fails}
 use Rattle.template_compiler_grammar.specs.Trees.{and_expression, and_link, compared, tested_as, Paired, nothing_paired, and_pair, Written, nothing_written, and_written, in_order}
 use Rattle.template_compiler_grammar.specs.DerivedNodes.{and_place, negated_at, compared_at, WrittenPlaces, and_written_place, PairedPlaces, and_pair_place}

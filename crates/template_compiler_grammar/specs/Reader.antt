@@ -3,14 +3,14 @@
 -- and that its places are those of the grammar, is proved.
 use Rattle.std.specs.Prelude.{ℕ, zero, suc, pos, Bool, true, false, nat_le, if◌then◌else◌, codes, List, [], ◌∷◌, Option, None, Some, Ok, Err}
 use Rattle.template_values_model.specs.Val.{int, text}
-use Rattle.template_tree.specs.declared.span.Span.{Span}
-use Rattle.template_tree.specs.Tree.{constant, unary, filtered, attribute, item, call, list_literal, tuple_literal, map_literal, Optional, absent, given, no_expressions, keyword, positional, positional_spread, keyword_spread}
-use Rattle.template_tree.specs.declared.operators.UnaryOpKind.TheVariants as unaries
-use Rattle.template_tree.specs.declared.operators.BinOpKind.{BinOpKind}
-use Rattle.template_tree.specs.declared.operators.BinOpKind.TheVariants as operators
-use Rattle.template_tree.specs.declared.operators.CompareOpKind.{CompareOpKind}
-use Rattle.template_tree.specs.declared.operators.CompareOpKind.TheVariants as comparisons
-use Rattle.template_tree.specs.NodePlaces.{at, Parts, no_parts, parts_more, one, and_parts}
+use Rattle.template_compiler_tree.specs.declared.span.Span.{Span}
+use Rattle.template_compiler_tree.specs.Tree.{constant, unary, filtered, attribute, item, call, list_literal, tuple_literal, map_literal, Optional, absent, given, no_expressions, keyword, positional, positional_spread, keyword_spread}
+use Rattle.template_compiler_tree.specs.declared.operators.UnaryOpKind.TheVariants as unaries
+use Rattle.template_compiler_tree.specs.declared.operators.BinOpKind.{BinOpKind}
+use Rattle.template_compiler_tree.specs.declared.operators.BinOpKind.TheVariants as operators
+use Rattle.template_compiler_tree.specs.declared.operators.CompareOpKind.{CompareOpKind}
+use Rattle.template_compiler_tree.specs.declared.operators.CompareOpKind.TheVariants as comparisons
+use Rattle.template_compiler_tree.specs.NodePlaces.{at, Parts, no_parts, parts_more, one, and_parts}
 use Rattle.template_compiler_tokens.specs.Places.{last_span, next_span, until, stretch}
 use Rattle.template_compiler_tokens.specs.Token.{Token, bad_syntax, identifier, string, number, symbol, minus, mul, pow, dot, comma, colon, assign, pipe, bracket_open, paren_open, paren_close, brace_open}
 use Rattle.template_compiler_tokens.specs.Steps.{Read, fault, and_then, Step, goes, stops, fails, under, all}

@@ -2,7 +2,7 @@
 -- itself stands in `template_compiler_grammar`.
 use Rattle.std.specs.Prelude.{ℕ, Bool, true, false, if◌then◌else◌, List, [], ◌∷◌, ◌++◌, Option, None, Some, Ok, Err}
 use Rattle.template_values_model.specs.Val.{Val}
-use Rattle.template_tree.specs.Tree.{Expression, variable, constant}
+use Rattle.template_compiler_tree.specs.Tree.{Expression, variable, constant}
 use Rattle.template_compiler_tokens.specs.Token.{Token, bad_syntax, identifier, string, symbol, dot, comma, colon, bracket_close, paren_close, brace_close}
 use Rattle.template_compiler_tokens.specs.Steps.{Read, fault, Step, goes, stops, fails, all}
 use Rattle.template_compiler_grammar.specs.Trees.{dotted}

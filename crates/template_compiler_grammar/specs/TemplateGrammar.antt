@@ -1,7 +1,7 @@
 -- The grammar of templates: which tokens are which statements. Each relation has the nesting levels that are left,
 -- the tokens, the tree, and the tokens behind it. A repetition has what it has put together so far before the tokens.
 use Rattle.std.specs.Prelude.{◌≡◌, ℕ, suc, Bool, true, false, codes, List, [], ◌∷◌}
-use Rattle.template_tree.specs.Tree.{Expression, variable, attribute, call, Optional, absent, given, Expressions, no_expressions, expressions_more, Arguments, Statement, raw, print, for_loop, if_condition, with_block, set, set_block, auto_escape, filter_block, block, import, from_import, extends, include, macro, call_block, continue_loop, break_loop, do_call, Statements, no_statements, Assignments, no_assignments, Imports, no_imports}
+use Rattle.template_compiler_tree.specs.Tree.{Expression, variable, attribute, call, Optional, absent, given, Expressions, no_expressions, expressions_more, Arguments, Statement, raw, print, for_loop, if_condition, with_block, set, set_block, auto_escape, filter_block, block, import, from_import, extends, include, macro, call_block, continue_loop, break_loop, do_call, Statements, no_statements, Assignments, no_assignments, Imports, no_imports}
 use Rattle.template_compiler_tokens.specs.Token.{Token, template_data, variable_start, variable_end, block_end, identifier, symbol, dot, comma, assign, paren_open, paren_close}
 use Rattle.template_compiler_grammar.specs.Words.{word_if, word_in, begins_paren, disjunction}
 use Rattle.template_compiler_grammar.specs.Trees.{and_expression}

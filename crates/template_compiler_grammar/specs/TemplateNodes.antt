@@ -1,8 +1,8 @@
 -- Statements with their places, and what productions put together of them.
 use Rattle.std.specs.Prelude.{ℕ, Bool, List, [], ◌∷◌, ◌++◌, Result, Ok, Err}
-use Rattle.template_tree.specs.declared.span.Span.{Span}
-use Rattle.template_tree.specs.Tree.{Expression, Arguments, Statement, for_loop, if_condition, with_block, set_block, auto_escape, block, macro, call_block, Statements, no_statements, Assignments, no_assignments, Imports, no_imports}
-use Rattle.template_tree.specs.NodePlaces.{Places, at, Parts, no_parts, parts_more, one, and_parts}
+use Rattle.template_compiler_tree.specs.declared.span.Span.{Span}
+use Rattle.template_compiler_tree.specs.Tree.{Expression, Arguments, Statement, for_loop, if_condition, with_block, set_block, auto_escape, block, macro, call_block, Statements, no_statements, Assignments, no_assignments, Imports, no_imports}
+use Rattle.template_compiler_tree.specs.NodePlaces.{Places, at, Parts, no_parts, parts_more, one, and_parts}
 use Rattle.template_compiler_tokens.specs.Places.{until}
 use Rattle.template_compiler_tokens.specs.Token.{TokenFault}
 use Rattle.template_compiler_grammar.specs.TemplateReaderParts.{filtered_body}

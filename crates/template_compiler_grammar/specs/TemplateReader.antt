@@ -2,10 +2,10 @@
 -- statement has the span of its start. The parser's functions cite it; that it is the grammar, and that its places are those of
 -- the grammar, is proved.
 use Rattle.std.specs.Prelude.{ℕ, zero, suc, Bool, true, false, if◌then◌else◌, codes, List, [], ◌∷◌, Option, None, Some, Result, Ok, Err}
-use Rattle.template_tree.specs.declared.span.Span.{Span}
-use Rattle.template_tree.specs.Tree.{Expression, variable, attribute, Arguments, Statement, raw, print, set, import, from_import, extends, include, continue_loop, break_loop, do_call}
-use Rattle.template_tree.specs.Kinds.{call_parts}
-use Rattle.template_tree.specs.NodePlaces.{Places, at, no_parts, parts_more, one}
+use Rattle.template_compiler_tree.specs.declared.span.Span.{Span}
+use Rattle.template_compiler_tree.specs.Tree.{Expression, variable, attribute, Arguments, Statement, raw, print, set, import, from_import, extends, include, continue_loop, break_loop, do_call}
+use Rattle.template_compiler_tree.specs.Kinds.{call_parts}
+use Rattle.template_compiler_tree.specs.NodePlaces.{Places, at, no_parts, parts_more, one}
 use Rattle.template_compiler_tokens.specs.Places.{next_span, stretch}
 use Rattle.template_compiler_tokens.specs.Token.{Token, TokenFault, bad_syntax, template_data, variable_start, block_start, block_end, identifier, symbol, dot, assign, paren_open, paren_close}
 use Rattle.template_compiler_tokens.specs.Steps.{Read, fault, and_then, Step, goes, stops, under, all}

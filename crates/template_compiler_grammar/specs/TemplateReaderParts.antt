@@ -1,7 +1,7 @@
 -- Parts of the reader of statements that need no places: what must stand behind something, words that may stand, and which
 -- statement a word begins. The reader itself stands in `template_compiler_grammar`.
 use Rattle.std.specs.Prelude.{ℕ, Bool, true, false, if◌then◌else◌, codes, List, [], ◌∷◌, Option, None, Some, Ok, Err, bytes_eq}
-use Rattle.template_tree.specs.Tree.{Expression, Optional, absent, given, Expressions, no_expressions, expressions_more, Arguments, Statement, raw, filter_block, Statements}
+use Rattle.template_compiler_tree.specs.Tree.{Expression, Optional, absent, given, Expressions, no_expressions, expressions_more, Arguments, Statement, raw, filter_block, Statements}
 use Rattle.template_compiler_tokens.specs.Token.{Token, bad_syntax, variable_end, block_start, block_end, identifier, symbol, comma, assign}
 use Rattle.template_compiler_tokens.specs.Steps.{Read, fault, and_then, Step, goes, stops, under}
 use Rattle.template_compiler_grammar.specs.Words.{is_word}

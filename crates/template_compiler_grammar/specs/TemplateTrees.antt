@@ -2,7 +2,7 @@
 use Rattle.std.specs.Prelude.{ℕ, Bool, true, false, ◌&&◌, not, if◌then◌else◌, List, [], ◌∷◌, ◌++◌, bytes_eq}
 use Rattle.std.specs.List.{list_any}
 use Rattle.std.specs.Str.{trim_start}
-use Rattle.template_tree.specs.Tree.{Expression, list_literal, tuple_literal, Expressions, no_expressions, expressions_more, Optional, Statement, template, raw, for_loop, if_condition, with_block, set_block, auto_escape, filter_block, block, macro, call_block, Statements, no_statements, statements_more, Assignments, no_assignments, assignments_more, Imports, no_imports, imports_more}
+use Rattle.template_compiler_tree.specs.Tree.{Expression, list_literal, tuple_literal, Expressions, no_expressions, expressions_more, Optional, Statement, template, raw, for_loop, if_condition, with_block, set_block, auto_escape, filter_block, block, macro, call_block, Statements, no_statements, statements_more, Assignments, no_assignments, assignments_more, Imports, no_imports, imports_more}
 use Rattle.template_compiler_grammar.specs.Trees.{and_expression}
 
 -- lists with one more at the end

@@ -1,8 +1,8 @@
 -- The trees that tokens are read as: what the reader answers, without its places. It is the same over any table of spans, as is
 -- proved; here it is over none.
 use Rattle.std.specs.Prelude.{ℕ, List, [], Result}
-use Rattle.template_tree.specs.Tree.{Expression, Optional, Statements}
-use Rattle.template_tree.specs.NodePlaces.{no_parts}
+use Rattle.template_compiler_tree.specs.Tree.{Expression, Optional, Statements}
+use Rattle.template_compiler_tree.specs.NodePlaces.{no_parts}
 use Rattle.template_compiler_tokens.specs.Token.{Token, TokenFault}
 use Rattle.template_compiler_tokens.specs.Steps.{Read}
 use Rattle.template_compiler_grammar.specs.TemplateGrammar.{Around}

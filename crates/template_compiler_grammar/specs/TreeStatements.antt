@@ -1,10 +1,10 @@
 -- The places of statements, as their nodes tell them.
 use Rattle.std.specs.Prelude.{List, [], ◌∷◌, Option}
-use Rattle.template_tree.specs.declared.expressions.Expr.{Expr}
-use Rattle.template_tree_statements.specs.declared.statements.CallBlock.{CallBlock, CallBlock' as called}
-use Rattle.template_tree_statements.specs.declared.statements.Stmt.{Stmt, Template', EmitExpr, EmitRaw, ForLoop', IfCond', WithBlock', Set, SetBlock', AutoEscape', FilterBlock', Block', Import, FromImport, Extends, Include, Macro', CallBlock', Continue, Break, Do, Row_of-Stmt, end_of-Stmt, more_of-Stmt}
-use Rattle.template_tree.specs.NodePlaces.{Places, at, Parts, no_parts, parts_more, one, and_parts}
-use Rattle.template_tree.specs.ExpressionPlaces.{places_of, places_optional, places_in, places_in_arguments}
+use Rattle.template_compiler_tree.specs.declared.expressions.Expr.{Expr}
+use Rattle.template_compiler_tree_statements.specs.declared.statements.CallBlock.{CallBlock, CallBlock' as called}
+use Rattle.template_compiler_tree_statements.specs.declared.statements.Stmt.{Stmt, Template', EmitExpr, EmitRaw, ForLoop', IfCond', WithBlock', Set, SetBlock', AutoEscape', FilterBlock', Block', Import, FromImport, Extends, Include, Macro', CallBlock', Continue, Break, Do, Row_of-Stmt, end_of-Stmt, more_of-Stmt}
+use Rattle.template_compiler_tree.specs.NodePlaces.{Places, at, Parts, no_parts, parts_more, one, and_parts}
+use Rattle.template_compiler_tree.specs.ExpressionPlaces.{places_of, places_optional, places_in, places_in_arguments}
 
 abbrev pub places_of_assignments : List (Expr × Expr) → Parts
 places_of_assignments [] = no_parts

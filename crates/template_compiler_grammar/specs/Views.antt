@@ -1,12 +1,12 @@
 -- Nodes with their places, as a parser puts them together.
 use Rattle.std.specs.Prelude.{List, Option}
-use Rattle.template_tree.specs.View.{expression_of, optional_in, expressions_in, links_in, argument_of, arguments_in}
-use Rattle.template_tree.specs.declared.calls.CallArg.{CallArg}
-use Rattle.template_tree.specs.declared.expressions.CompareOp.{CompareOp}
-use Rattle.template_tree.specs.declared.expressions.Expr.{Expr}
-use Rattle.template_tree.specs.ExpressionPlaces.{places_of, places_optional, places_in, places_in_links, places_of_argument, places_in_arguments}
-use Rattle.template_tree_statements.specs.View.{assignments_in, imports_in, statement_of}
-use Rattle.template_tree_statements.specs.declared.statements.Stmt.{Stmt}
+use Rattle.template_compiler_tree.specs.View.{expression_of, optional_in, expressions_in, links_in, argument_of, arguments_in}
+use Rattle.template_compiler_tree.specs.declared.calls.CallArg.{CallArg}
+use Rattle.template_compiler_tree.specs.declared.expressions.CompareOp.{CompareOp}
+use Rattle.template_compiler_tree.specs.declared.expressions.Expr.{Expr}
+use Rattle.template_compiler_tree.specs.ExpressionPlaces.{places_of, places_optional, places_in, places_in_links, places_of_argument, places_in_arguments}
+use Rattle.template_compiler_tree_statements.specs.View.{assignments_in, imports_in, statement_of}
+use Rattle.template_compiler_tree_statements.specs.declared.statements.Stmt.{Stmt}
 use Rattle.template_compiler_grammar.specs.TemplateNodes.{PlacedAssignments, PlacedImports, PlacedStatement}
 use Rattle.template_compiler_grammar.specs.TreeStatements.{places_of_assignments, places_of_imports, statement_places}
 use Rattle.template_compiler_grammar.specs.Nodes.{placed, Node, OptionalNode, Nodes, PlacedLinks, PlacedArgument, PlacedArguments}

@@ -2,10 +2,10 @@
 use Rattle.std.specs.Prelude.{ℕ, Bool, true, false, ◌||◌, not, List, [], ◌∷◌, Option, None, Some, if◌then◌else◌, codes, bytes_eq}
 use Rattle.std.specs.List.{list_any}
 use Rattle.template_values_model.specs.Val.{Val, none, truth}
-use Rattle.template_tree.specs.declared.operators.BinOpKind.{BinOpKind}
-use Rattle.template_tree.specs.declared.operators.BinOpKind.TheVariants as operators
-use Rattle.template_tree.specs.declared.operators.CompareOpKind.{CompareOpKind}
-use Rattle.template_tree.specs.declared.operators.CompareOpKind.TheVariants as comparisons
+use Rattle.template_compiler_tree.specs.declared.operators.BinOpKind.{BinOpKind}
+use Rattle.template_compiler_tree.specs.declared.operators.BinOpKind.TheVariants as operators
+use Rattle.template_compiler_tree.specs.declared.operators.CompareOpKind.{CompareOpKind}
+use Rattle.template_compiler_tree.specs.declared.operators.CompareOpKind.TheVariants as comparisons
 use Rattle.template_compiler_tokens.specs.Token.{plus, minus, mul, div, floor_div, modulo, dot, tilde, eq, ne, gt, gte, lt, lte, bracket_open, paren_open, brace_open, Token, identifier, string, number, symbol}
 
 -- the words with a meaning of their own

@@ -7,9 +7,9 @@ ghost use Rattle.template_compiler_tokens.specs.Places.{last_span, next_span, st
 ghost use Rattle.template_compiler_grammar.specs.DerivedStatements.{statement_places};
 ghost use Rattle.template_compiler_grammar.specs.TemplateGrammar.{Around, IsStatement};
 ghost use Rattle.template_compiler_tokens.specs.Token.{Token};
-ghost use Rattle.template_tree.specs.Tree.{Statement};
-ghost use Rattle.template_tree.specs.declared.span.Span.{Span};
-ghost use Rattle.template_tree.specs.NodePlaces.{span_at};
+ghost use Rattle.template_compiler_tree.specs.Tree.{Statement};
+ghost use Rattle.template_compiler_tree.specs.declared.span.Span.{Span};
+ghost use Rattle.template_compiler_tree.specs.NodePlaces.{span_at};
 
 /// A law, as the contract of a function that does nothing: a statement stands from its first token to its last.
 pub fn stands_whole()

@@ -6,7 +6,7 @@ ghost use Rattle.template_compiler_grammar.specs.Grammar.{IsExpression};
 ghost use Rattle.template_compiler_grammar.specs.TreeReader.{expression_at};
 ghost use Rattle.template_compiler_tokens.specs.Blame.{Blamed};
 ghost use Rattle.template_compiler_tokens.specs.Token.{Token, TokenFault};
-ghost use Rattle.template_tree.specs.Tree.{Expression};
+ghost use Rattle.template_compiler_tree.specs.Tree.{Expression};
 
 /// A law, as the contract of a function that does nothing: from a place on, with so many nesting levels left,
 /// there is at most one expression that no token behind it goes on with, and one place where it ends.

@@ -12,8 +12,8 @@ ghost use Rattle.template_compiler_grammar.specs.Nodes.{Node, bare, placed};
 ghost use Rattle.template_compiler_grammar.specs.Reader.{expression_at};
 ghost use Rattle.template_compiler_grammar.specs.TreeReader as tree;
 ghost use Rattle.template_compiler_tokens.specs.Token.{Token};
-ghost use Rattle.template_tree.specs.Tree.{Expression};
-ghost use Rattle.template_tree.specs.declared.span.Span.{Span};
+ghost use Rattle.template_compiler_tree.specs.Tree.{Expression};
+ghost use Rattle.template_compiler_tree.specs.declared.span.Span.{Span};
 
 /// A law, as the contract of a function that does nothing: without its places, what is read is the same over any table of spans;
 /// what has a tree is read with the places that the grammar has for it, and all that is read has these.

@@ -5,7 +5,7 @@ ghost use Rattle.template_compiler_tokens.specs.Blame.{Blamed};
 ghost use Rattle.template_compiler_grammar.specs.TemplateGrammar.{IsTemplate};
 ghost use Rattle.template_compiler_grammar.specs.TreeReader.{template_of};
 ghost use Rattle.template_compiler_tokens.specs.Token.{Token, TokenFault};
-ghost use Rattle.template_tree.specs.Tree.{Statements};
+ghost use Rattle.template_compiler_tree.specs.Tree.{Statements};
 
 /// A law, as the contract of a function that does nothing: the reading from left to right finds the tree of
 /// all tokens that have one, and no other; where it finds none, the reason stands among the tokens.

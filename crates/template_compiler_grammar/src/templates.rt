@@ -10,8 +10,8 @@ ghost use Rattle.template_compiler_grammar.specs.TemplateReader.{template_of};
 ghost use Rattle.template_compiler_grammar.specs.TreeReader as tree;
 ghost use Rattle.template_compiler_grammar.specs.TemplateGrammar.{IsTemplate};
 ghost use Rattle.template_compiler_tokens.specs.Token.{Token};
-ghost use Rattle.template_tree.specs.Tree.{Statements};
-ghost use Rattle.template_tree.specs.declared.span.Span.{Span};
+ghost use Rattle.template_compiler_tree.specs.Tree.{Statements};
+ghost use Rattle.template_compiler_tree.specs.declared.span.Span.{Span};
 
 /// A law, as the contract of a function that does nothing: without its places, what is read is the same over any table of spans;
 /// what is a template is read with the places that the grammar has for it, and all that is read has these.

@@ -3,12 +3,12 @@
 //! Here are definitions that the grammar with places and the parser share, and laws.
 
 ghost use Rattle.std.specs.Prelude.{◌≡◌};
-ghost use Rattle.template_tree.specs.Places.{expression_span};
-ghost use Rattle.template_tree_statements.specs.Places.{statement_span};
-ghost use Rattle.template_tree.specs.declared.expressions.Expr.{Expr};
-ghost use Rattle.template_tree_statements.specs.declared.statements.Stmt.{Stmt};
-ghost use Rattle.template_tree.specs.ExpressionPlaces.{places_of};
-ghost use Rattle.template_tree.specs.NodePlaces.{span_at};
+ghost use Rattle.template_compiler_tree.specs.Places.{expression_span};
+ghost use Rattle.template_compiler_tree_statements.specs.Places.{statement_span};
+ghost use Rattle.template_compiler_tree.specs.declared.expressions.Expr.{Expr};
+ghost use Rattle.template_compiler_tree_statements.specs.declared.statements.Stmt.{Stmt};
+ghost use Rattle.template_compiler_tree.specs.ExpressionPlaces.{places_of};
+ghost use Rattle.template_compiler_tree.specs.NodePlaces.{span_at};
 ghost use Rattle.template_compiler_grammar.specs.TreeStatements.{statement_places};
 
 /// A law, as the contract of a function that does nothing: the first of a node's places is its own span.

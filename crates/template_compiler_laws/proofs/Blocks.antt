@@ -2,8 +2,8 @@
 use Rattle.std.proofs.Common.{◌≤◌, ℕ, suc, List, ◌++◌, arith}
 use Rattle.std.specs.List.{All}
 use Rattle.std.proofs.lemmas.List.Elements.{All-nil, All-cons, All-append}
-use Rattle.template_tree.specs.Tree.{Statement, Statements, for_loop, if_condition, with_block, set_block, auto_escape, filter_block, block, no_statements, statements_more}
-use Rattle.template_walk.specs.Blocks.{Block, blocks_by, blocks_in}
+use Rattle.template_compiler_tree.specs.Tree.{Statement, Statements, for_loop, if_condition, with_block, set_block, auto_escape, filter_block, block, no_statements, statements_more}
+use Rattle.template_compiler_walk.specs.Blocks.{Block, blocks_by, blocks_in}
 use Rattle.template_compiler_laws.proofs.Sizes.{statement_size, statements_size}
 
 abbrev Within : ℕ → Block → Type 0

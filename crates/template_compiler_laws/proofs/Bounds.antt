@@ -1,6 +1,6 @@
 -- The code of a tree is bounded by its source.
 use Rattle.std.proofs.Common.{get_or, arith}
-use Rattle.template_walk.specs.Blocks.{blocks_in}
+use Rattle.template_compiler_walk.specs.Blocks.{blocks_in}
 use Rattle.template_compiler_codegen.specs.Statements.{no_ways}
 use Rattle.template_compiler_laws.specs.Bounds.{TemplatesAreBounded, BlocksAreBounded, ExpressionsAreBounded, ShortTextsFit}
 use Rattle.template_compiler_laws.proofs.Expressions.{expression_bound}

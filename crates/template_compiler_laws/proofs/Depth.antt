@@ -2,8 +2,8 @@
 use Rattle.std.proofs.Common.{◌≤◌, ℕ, zero, suc, List, subst, sym, arith}
 use Rattle.std.specs.List.{All}
 use Rattle.std.proofs.lemmas.List.Elements.{All-nil, All-cons, All-append}
-use Rattle.template_tree.specs.Tree.{Expression, Statement, Statements, for_loop, if_condition, with_block, set_block, auto_escape, filter_block, block, macro, call_block, no_statements, statements_more}
-use Rattle.template_walk.specs.Blocks.{Block, blocks_by, blocks_in}
+use Rattle.template_compiler_tree.specs.Tree.{Expression, Statement, Statements, for_loop, if_condition, with_block, set_block, auto_escape, filter_block, block, macro, call_block, no_statements, statements_more}
+use Rattle.template_compiler_walk.specs.Blocks.{Block, blocks_by, blocks_in}
 use Rattle.template_compiler_tokens.specs.Token.{Token}
 use Rattle.template_compiler_grammar.specs.TemplateTrees.{and_statement, Branches, no_branches, branches_more, and_branch, branched}
 use Rattle.template_compiler_grammar.specs.TemplateGrammar.{Around, IsStatements, statements_end, statements_next, IsStatement, text_statement, print_statement, for_statement, if_statement, with_statement, set_statement, set_block_statement, autoescape_statement, filter_statement, block_statement, import_statement, from_statement, extends_statement, include_statement, macro_statement, call_statement, do_statement, break_statement, continue_statement, IsBranches, branches_end, branches_next, IsElse, no_else, an_else, IsTemplate, whole_template}

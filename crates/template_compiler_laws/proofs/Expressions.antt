@@ -1,7 +1,7 @@
 -- An expression is no larger than 201 times what its tokens weigh.
 use Rattle.std.proofs.Common.{◌≤◌, ℕ, ◌+◌, ◌*◌, suc, Bool, List, ap, arith}
-use Rattle.template_tree.specs.declared.operators.CompareOpKind.TheVariants as comparisons
-use Rattle.template_tree.specs.Tree.{Expression, Optional, Expressions, Links, Arguments, Argument, no_arguments, arguments_more, positional}
+use Rattle.template_compiler_tree.specs.declared.operators.CompareOpKind.TheVariants as comparisons
+use Rattle.template_compiler_tree.specs.Tree.{Expression, Optional, Expressions, Links, Arguments, Argument, no_arguments, arguments_more, positional}
 use Rattle.template_compiler_tokens.specs.Token.{Token}
 use Rattle.template_compiler_grammar.specs.Words.{Level}
 use Rattle.template_compiler_grammar.specs.Trees.{Paired, Written}

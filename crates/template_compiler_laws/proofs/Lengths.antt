@@ -1,17 +1,17 @@
 -- The code of a tree is no longer than the tree is large, wherever it begins.
 use Rattle.std.proofs.Common.{◌≤◌, ◌≡◌, ℕ, ◌+◌, zero, suc, Bool, true, false, ◌&&◌, if◌then◌else◌, List, [], ◌∷◌, ◌++◌, length, Option, None, Some, arith, length-append}
 use Rattle.template_values_model.specs.Val.{Val, silent_undefined, none, text, list, vals_of}
-use Rattle.template_tree.specs.declared.operators.BinOpKind.{BinOpKind}
-use Rattle.template_tree.specs.declared.operators.BinOpKind.TheVariants.{Add, ScAnd, ScOr}
-use Rattle.template_tree.specs.Tree.{Expression, Optional, Expressions, Links, Arguments, unary, binary, chain, conditional, attribute, item, call, filtered, tested, list_literal, tuple_literal, map_literal, absent, given, no_expressions, expressions_more, no_links, links_more, no_arguments, arguments_more, positional, keyword, positional_spread, keyword_spread, Statement, print, for_loop, if_condition, with_block, set, set_block, auto_escape, filter_block, from_import, extends, macro, continue_loop, break_loop, do_call, Statements, no_statements, statements_more, Assignments, no_assignments, assignments_more, Imports, no_imports, imports_more}
-use Rattle.template_tree.specs.Tree as tree
-use Rattle.template_tree.specs.Kinds.{is_self_name, is_empty}
-use Rattle.template_walk.specs.Constants.{constant_of}
-use Rattle.template_walk.specs.Expressions.{Passing, alone, has_spread, Callee, by_name, by_method, by_block, by_value, attribute_called, callee_of}
-use Rattle.template_names.specs.Names.{reversed}
-use Rattle.template_names.specs.Enclosed.{enclosed_names, uses_caller}
-use Rattle.template_walk.specs.Statements.{number_of, Printed, prints_value, prints_block, prints_super, prints_rounds, is_super_name, is_loop_name, printed_rounds, printed_by, printed_of, imported_names, stored_as, name_texts, caller_name}
-use Rattle.template_code.specs.Code.{Code, get_attr, set_attr, get_item, slice, build_map, build_kwargs, merge_kwargs, build_list, build_tuple, call_function, call_method, call_object, apply_filter, perform_test, operate, compare_and_preserve, jump, jump_if_false, jump_if_false_or_pop, jump_if_true_or_pop, emit, load_const, unpack_list, unpack_lists, swap, dup_top, discard_top, push_with, pop_frame, push_loop, pop_loop_frame, push_auto_escape, pop_auto_escape, begin_capture, end_capture, fast_recurse, is_undefined, enclose, get_closure, build_macro, return, store_local, call_block, load_blocks, include, export_locals}
+use Rattle.template_compiler_tree.specs.declared.operators.BinOpKind.{BinOpKind}
+use Rattle.template_compiler_tree.specs.declared.operators.BinOpKind.TheVariants.{Add, ScAnd, ScOr}
+use Rattle.template_compiler_tree.specs.Tree.{Expression, Optional, Expressions, Links, Arguments, unary, binary, chain, conditional, attribute, item, call, filtered, tested, list_literal, tuple_literal, map_literal, absent, given, no_expressions, expressions_more, no_links, links_more, no_arguments, arguments_more, positional, keyword, positional_spread, keyword_spread, Statement, print, for_loop, if_condition, with_block, set, set_block, auto_escape, filter_block, from_import, extends, macro, continue_loop, break_loop, do_call, Statements, no_statements, statements_more, Assignments, no_assignments, assignments_more, Imports, no_imports, imports_more}
+use Rattle.template_compiler_tree.specs.Tree as tree
+use Rattle.template_compiler_tree.specs.Kinds.{is_self_name, is_empty}
+use Rattle.template_compiler_walk.specs.Constants.{constant_of}
+use Rattle.template_compiler_walk.specs.Expressions.{Passing, alone, has_spread, Callee, by_name, by_method, by_block, by_value, attribute_called, callee_of}
+use Rattle.template_compiler_names.specs.Names.{reversed}
+use Rattle.template_compiler_names.specs.Enclosed.{enclosed_names, uses_caller}
+use Rattle.template_compiler_walk.specs.Statements.{number_of, Printed, prints_value, prints_block, prints_super, prints_rounds, is_super_name, is_loop_name, printed_rounds, printed_by, printed_of, imported_names, stored_as, name_texts, caller_name}
+use Rattle.template_compiler_code.specs.Code.{Code, get_attr, set_attr, get_item, slice, build_map, build_kwargs, merge_kwargs, build_list, build_tuple, call_function, call_method, call_object, apply_filter, perform_test, operate, compare_and_preserve, jump, jump_if_false, jump_if_false_or_pop, jump_if_true_or_pop, emit, load_const, unpack_list, unpack_lists, swap, dup_top, discard_top, push_with, pop_frame, push_loop, pop_loop_frame, push_auto_escape, pop_auto_escape, begin_capture, end_capture, fast_recurse, is_undefined, enclose, get_closure, build_macro, return, store_local, call_block, load_blocks, include, export_locals}
 use Rattle.template_compiler_codegen.specs.Core.{Core, flat}
 use Rattle.template_compiler_codegen.specs.Expressions.{Coded, unary_code, then_code, one, nothing, dropped, loaded, skipped, either_code, binary_code, entry_count, listed_core, mapped_core, at_most_one, stretches_core, entries_stretches_core, list_count, rest_count, merged_core, map_count, keywords_core, keyword_count, run_core, passed_core, passed_count, block_core, called_core, no_number, expression_core, object_core, positional_cores, keyword_cores, expression_code, optional_code, expressions_code, codes_of, entries_code, chain_code, linked_code, filter_code, filters_code, passed_code, argument_count}
 use Rattle.template_compiler_codegen.specs.Statements.{Ways, no_ways, own_ways, closing_with, target_code, targets_code, assignments_code, loop_flags, no_flags, one_item, rounds_code, iterable_code, keep_code, kept_code, loop_end_code, branches_code, left_by, printed_core, imports_core, apart_core, parameter_core, parameters_core, enclosed_core, macro_flags, declared_core, calling_core, statements_core, statement_code, statements_code}

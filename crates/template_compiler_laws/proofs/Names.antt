@@ -6,11 +6,11 @@ use Rattle.std.specs.declared.cmp.Ordering.{Ordering}
 use Rattle.std.specs.declared.cmp.Ordering.TheVariants.{Less, Equal, Greater}
 use Rattle.std.specs.Cmp.Lexicographic.{slice_cmp}
 use Rattle.std.specs.BTreeSet.{insert_key}
-use Rattle.template_tree.specs.Tree.{Expression, Optional, Expressions, Links, Arguments, Argument, variable, constant, slice, unary, binary, chain, conditional, filtered, tested, attribute, item, call, list_literal, tuple_literal, map_literal, absent, given, no_expressions, expressions_more, no_links, links_more, no_arguments, arguments_more, positional, keyword, positional_spread, keyword_spread, Statement, Statements, Assignments, Imports, template, raw, print, for_loop, if_condition, with_block, set, set_block, auto_escape, filter_block, block, import, from_import, extends, include, macro, call_block, continue_loop, break_loop, do_call, no_statements, statements_more, no_assignments, assignments_more, no_imports, imports_more}
-use Rattle.template_names.specs.Among.{Among}
-use Rattle.template_names.specs.Names.{reversed, is_stored_in, is_stored_by, is_stored_everywhere}
-use Rattle.template_names.specs.Enclosed.{without, standing, standing_if_given, standing_in_each, standing_in_links, standing_in_arguments, standing_in_argument, used_by_target, used_by_targets, used_from, used_of_arguments, is_caller, is_loop, used_of_macro, used_by, used_in, in_order, enclosed_names}
-use Rattle.template_walk.specs.Statements.{imported_names, stored_as}
+use Rattle.template_compiler_tree.specs.Tree.{Expression, Optional, Expressions, Links, Arguments, Argument, variable, constant, slice, unary, binary, chain, conditional, filtered, tested, attribute, item, call, list_literal, tuple_literal, map_literal, absent, given, no_expressions, expressions_more, no_links, links_more, no_arguments, arguments_more, positional, keyword, positional_spread, keyword_spread, Statement, Statements, Assignments, Imports, template, raw, print, for_loop, if_condition, with_block, set, set_block, auto_escape, filter_block, block, import, from_import, extends, include, macro, call_block, continue_loop, break_loop, do_call, no_statements, statements_more, no_assignments, assignments_more, no_imports, imports_more}
+use Rattle.template_compiler_names.specs.Among.{Among}
+use Rattle.template_compiler_names.specs.Names.{reversed, is_stored_in, is_stored_by, is_stored_everywhere}
+use Rattle.template_compiler_names.specs.Enclosed.{without, standing, standing_if_given, standing_in_each, standing_in_links, standing_in_arguments, standing_in_argument, used_by_target, used_by_targets, used_from, used_of_arguments, is_caller, is_loop, used_of_macro, used_by, used_in, in_order, enclosed_names}
+use Rattle.template_compiler_walk.specs.Statements.{imported_names, stored_as}
 use Rattle.template_compiler_laws.proofs.Sizes.{expression_size, optional_size, expressions_size, argument_size, arguments_size, chain_size, links_size, target_size, targets_size, assignments_size, stored_size, imports_size, iterable_size, defaults_size, statement_size, statements_size}
 
 fewer_kept : (t : Bool) (x : List ℕ) (kept all : List (List ℕ)) → length kept ≤ length all → length (cond t (x ∷ kept) kept) ≤ suc (length all)

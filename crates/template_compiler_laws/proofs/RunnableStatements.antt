@@ -1,7 +1,7 @@
 -- Statements.
 use Rattle.std.proofs.Common.{ℕ, Bool, List, sym, subst}
-use Rattle.template_tree.specs.Tree.{Expression, Optional, absent, given, Expressions, Statement, Statements, set_block, Assignments, Imports}
-use Rattle.template_walk.specs.Runnable.{IsRunnable, IsRunnableIfGiven, AreRunnable, IsTarget, AreTargets, AreAssignments, AreImports, IsRunnableStatement, AreRunnableStatements, IsRunnableTemplate}
+use Rattle.template_compiler_tree.specs.Tree.{Expression, Optional, absent, given, Expressions, Statement, Statements, set_block, Assignments, Imports}
+use Rattle.template_compiler_walk.specs.Runnable.{IsRunnable, IsRunnableIfGiven, AreRunnable, IsTarget, AreTargets, AreAssignments, AreImports, IsRunnableStatement, AreRunnableStatements, IsRunnableTemplate}
 use Rattle.template_compiler_tokens.specs.Token.{Token}
 use Rattle.template_compiler_grammar.specs.TemplateGrammar as grammar
 use Rattle.template_compiler_grammar.specs.TemplateGrammar.{Around, IsStored, stored, IsPath, path_end, path_more, IsMore, more_end, more_next, name_target, path_target, paren_target, IsTargets, targets, IsMoreTargets, targets_end, targets_next, IsValue, value, IsValues, values, IsAssignment, assignment, IsAssignments, none_assigned, some_assigned, IsLoopFilter, no_loop_filter, a_loop_filter, IsImport, same_name, other_name, IsParameter, plain_parameter, default_parameter, IsParameters, none_declared, some_declared, IsOptionalParameters, not_declared, declared, IsStatements, statements_end, statements_next, IsStatement, text_statement, print_statement, for_statement, if_statement, with_statement, set_statement, set_block_statement, autoescape_statement, filter_statement, block_statement, import_statement, from_statement, extends_statement, include_statement, macro_statement, call_statement, do_statement, break_statement, continue_statement, IsBranches, branches_end, branches_next, IsElse, no_else, an_else, IsTemplate, whole_template}

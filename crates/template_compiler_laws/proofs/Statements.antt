@@ -2,7 +2,7 @@
 -- capture.
 use Rattle.std.proofs.Common.{◌≡◌, ◌≤◌, ℕ, ◌+◌, ◌*◌, suc, Bool, List, refl, ap, arith}
 use Rattle.std.specs.Prelude.{codes}
-use Rattle.template_tree.specs.Tree.{Expression, Optional, absent, given, Expressions, Statement, Statements, Assignments, Imports}
+use Rattle.template_compiler_tree.specs.Tree.{Expression, Optional, absent, given, Expressions, Statement, Statements, Assignments, Imports}
 use Rattle.template_compiler_tokens.specs.Token.{Token, identifier}
 use Rattle.template_compiler_grammar.specs.TemplateTrees.{Branches, Parameters}
 use Rattle.template_compiler_grammar.specs.Grammar.{IsFilterChain, chain_end, chain_more}

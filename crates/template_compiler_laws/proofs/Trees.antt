@@ -1,10 +1,10 @@
 -- What productions put together runs where its parts do.
 use Rattle.std.proofs.Common.{Bool, true, false, List}
-use Rattle.template_tree.specs.declared.operators.CompareOpKind.{CompareOpKind}
-use Rattle.template_tree.specs.declared.operators.CompareOpKind.TheVariants as comparisons
-use Rattle.template_tree.specs.Tree.{Expression, Optional, Expressions, Links, Arguments, Argument, no_expressions, expressions_more, no_links, links_more, no_arguments, arguments_more, positional, keyword, positional_spread, keyword_spread, Statement, Statements, no_statements, statements_more, Assignments, no_assignments, assignments_more, Imports, no_imports, imports_more}
-use Rattle.template_walk.specs.Statements.{stored_as}
-use Rattle.template_walk.specs.Runnable.{IsRunnable, AreRunnable, AreRunnableLinks, AreRunnableArguments, IsTarget, AreTargets, AreAssignments, AreImports, IsRunnableStatement, AreRunnableStatements}
+use Rattle.template_compiler_tree.specs.declared.operators.CompareOpKind.{CompareOpKind}
+use Rattle.template_compiler_tree.specs.declared.operators.CompareOpKind.TheVariants as comparisons
+use Rattle.template_compiler_tree.specs.Tree.{Expression, Optional, Expressions, Links, Arguments, Argument, no_expressions, expressions_more, no_links, links_more, no_arguments, arguments_more, positional, keyword, positional_spread, keyword_spread, Statement, Statements, no_statements, statements_more, Assignments, no_assignments, assignments_more, Imports, no_imports, imports_more}
+use Rattle.template_compiler_walk.specs.Statements.{stored_as}
+use Rattle.template_compiler_walk.specs.Runnable.{IsRunnable, AreRunnable, AreRunnableLinks, AreRunnableArguments, IsTarget, AreTargets, AreAssignments, AreImports, IsRunnableStatement, AreRunnableStatements}
 use Rattle.template_compiler_grammar.specs.Trees.{and_expression, and_link, and_argument, compared_once, compared, tested_as, Written, and_written, followed_by}
 use Rattle.template_compiler_grammar.specs.TemplateTrees.{and_statement, and_assignment, and_import, unpacked, together, Branches, no_branches, branches_more, and_branch, branched}
 

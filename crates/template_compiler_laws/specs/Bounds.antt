@@ -2,8 +2,8 @@
 -- stand in 150 macros, each of which encloses it.
 use Rattle.std.specs.Prelude.{ℕ, ◌+◌, ◌*◌, ◌^◌, ◌<◌, ◌≤◌, List, [], length}
 use Rattle.std.specs.List.{All}
-use Rattle.template_tree.specs.Tree.{Expression, Statements}
-use Rattle.template_walk.specs.Blocks.{Block, blocks_in}
+use Rattle.template_compiler_tree.specs.Tree.{Expression, Statements}
+use Rattle.template_compiler_walk.specs.Blocks.{Block, blocks_in}
 use Rattle.template_compiler_tokens.specs.Token.{Token}
 use Rattle.template_compiler_syntax.specs.Syntax.{Syntax, IsUsable}
 use Rattle.template_compiler_syntax.specs.Flat.{IsTokens}

@@ -1,10 +1,10 @@
 -- What a source is read to has a walk.
 use Rattle.std.proofs.Common.{ℕ, List, Result, Ok, Err, IfOk}
-use Rattle.template_tree.specs.View.{expression_of}
-use Rattle.template_tree.specs.declared.expressions.Expr.{Expr}
-use Rattle.template_walk.specs.Runnable.{IsRunnable}
-use Rattle.template_tree_statements.specs.View.{statement_of}
-use Rattle.template_tree_statements.specs.declared.statements.Stmt.{Stmt}
+use Rattle.template_compiler_tree.specs.View.{expression_of}
+use Rattle.template_compiler_tree.specs.declared.expressions.Expr.{Expr}
+use Rattle.template_compiler_walk.specs.Runnable.{IsRunnable}
+use Rattle.template_compiler_tree_statements.specs.View.{statement_of}
+use Rattle.template_compiler_tree_statements.specs.declared.statements.Stmt.{Stmt}
 use Rattle.template_compiler_generator.specs.Alone.{CanStand}
 use Rattle.template_compiler_generator.proofs.Accepted.{tree_can_stand}
 use Rattle.template_compiler_sources.specs.Source.{IsExpressionSource, IsSource}

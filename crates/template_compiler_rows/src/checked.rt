@@ -1,19 +1,19 @@
 //! The code of trees, as it is generated and checked in one.
 ghost use Rattle.std.specs.Prelude.{IfOk};
-ghost use Rattle.template_tree.specs.View.{expression_of};
-ghost use Rattle.template_tree_statements.specs.View.{statement_of};
-ghost use Rattle.template_walk.specs.Runnable.{IsRunnable};
+ghost use Rattle.template_compiler_tree.specs.View.{expression_of};
+ghost use Rattle.template_compiler_tree_statements.specs.View.{statement_of};
+ghost use Rattle.template_compiler_walk.specs.Runnable.{IsRunnable};
 ghost use Rattle.template_compiler_generator.specs.Alone.{CanStand};
 
 use crate::NAME;
 use crate::code::write_instructions;
 use crate::report::Report;
 use std::alloc::Global;
-use template_code_shapes::Checked;
+use template_compiler_code_shapes::Checked;
 use template_compiler_generator::{verified_expression, verified_template};
 use template_compiler_sources::parse_expr;
-use template_tree::Expr;
-use template_tree_statements::Stmt;
+use template_compiler_tree::Expr;
+use template_compiler_tree_statements::Stmt;
 use template_values_errors::Error;
 
 /// What kind of stream the code of a template is, and its instructions.

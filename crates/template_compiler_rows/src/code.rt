@@ -6,11 +6,11 @@ use crate::runs::write_runs;
 use crate::syntax::parts_of_syntax;
 use std::alloc::Global;
 use std::borrow::CowStr;
-use template_code::{
+use template_compiled::{CompiledBlock, CompiledTemplate, CompiledTemplates, TemplateConfig};
+use template_compiler_code::{
     CaptureMode, Instruction, Instructions, LOOP_FLAG_WITH_LOOP_VAR, MACRO_CALLER,
     get_referenced_names,
 };
-use template_compiled::{CompiledBlock, CompiledTemplate, CompiledTemplates, TemplateConfig};
 use template_values_core::{Content, Value};
 use template_values_errors::Error;
 

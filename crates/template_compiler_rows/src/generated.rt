@@ -1,5 +1,5 @@
 //! Instructions that calls of a generator make, one behind the other.
-ghost use Rattle.template_tree_statements.specs.View.{statement_of};
+ghost use Rattle.template_compiler_tree_statements.specs.View.{statement_of};
 ghost use Rattle.template_compiler_generator.specs.Alone.{CanStand};
 
 use crate::NAME;
@@ -10,10 +10,10 @@ use crate::report::{Report, unreadable};
 use serde_json::{Map, Value as Json};
 use std::alloc::Global;
 use std::borrow::CowStr;
-use template_code::{Instruction, Instructions};
+use template_compiler_code::{Instruction, Instructions};
 use template_compiler_generator::CodeGenerator;
-use template_tree::{Expr, Span};
-use template_tree_statements::Stmt;
+use template_compiler_tree::{Expr, Span};
+use template_compiler_tree_statements::Stmt;
 use template_values_errors::{Error, ErrorKind};
 
 /// How many instructions the calls make, the hint of room for them, where those at some places come from, and all of

@@ -2,8 +2,8 @@
 use crate::report::{Report, unreadable};
 use serde_json::Value as Json;
 use std::alloc::Global;
-use template_code::{Instruction, Instructions};
-use template_tree::Span;
+use template_compiler_code::{Instruction, Instructions};
+use template_compiler_tree::Span;
 use template_values_errors::Error;
 
 /// Where the instructions at some places come from, as a copy with texts of its own has it.

@@ -1,8 +1,8 @@
 //! Trees that are made by hand, in the words for them.
 use crate::report::Report;
 use std::alloc::{AllocError, Global};
-use template_tree::{Expr, Span};
-use template_tree_parts::spine;
+use template_compiler_tree::{Expr, Span};
+use template_compiler_tree_parts::spine;
 use template_values_errors::ErrorKind;
 
 /// What a tree is, where it was made.

@@ -99,7 +99,7 @@ use serde_json::{Map, Value as Json};
 use std::alloc::Global;
 use std::io;
 use template_compiler_syntax::SyntaxConfig;
-use template_tree_parts::{difference, one_entry};
+use template_compiler_tree_parts::{difference, one_entry};
 use template_values_errors::ErrorKind;
 
 // The name of each source.

@@ -1,6 +1,6 @@
 //! The numbers of filters and tests.
 use crate::report::Report;
-use template_code::{Instruction, Instructions, LocalId};
+use template_compiler_code::{Instruction, Instructions, LocalId};
 
 /// The names of the filters and of the tests among the instructions, in order of place, each with its number.
 pub(crate) fn write_numbers(code: &Instructions<'_>, out: &mut Report) {

@@ -2,7 +2,7 @@
 use std::alloc::{AllocError, Global};
 use std::collections::BTreeSet;
 use std::fmt::Debug;
-use template_tree::Span;
+use template_compiler_tree::Span;
 use template_values_core::Value;
 use template_values_errors::{Error, ErrorKind};
 use template_values_print::{NoRecords, print_to};

@@ -1,6 +1,6 @@
 //! Where the instructions of a template come from.
 use crate::report::Report;
-use template_code::Instructions;
+use template_compiler_code::Instructions;
 
 /// The runs of instructions that come from one place: its line, how many they are, and the text at its span.
 pub(crate) fn write_runs(source: &str, code: &Instructions<'_>, out: &mut Report) {

@@ -2,8 +2,8 @@
 use crate::report::Report;
 use serde_json::Value as Json;
 use std::alloc::Global;
-use template_code::{Instructions, get_referenced_names};
-use template_code_shapes::verify;
+use template_compiler_code::{Instructions, get_referenced_names};
+use template_compiler_code_shapes::verify;
 use template_rows_streams::stream_of;
 
 /// What the steps are a stream of, or why they are refused, and how many of them come back.

@@ -6,7 +6,7 @@ use template_compiler_scanner::scan_token;
 use template_compiler_syntax::SyntaxConfig;
 use template_compiler_tokenizer::{TokenStream, Tokenizer};
 use template_compiler_tokens::{Place, Token, Tokens};
-use template_tree::Span;
+use template_compiler_tree::Span;
 use template_values_errors::ErrorKind;
 
 /// The tokens of a source, and the refusal that ends them.

@@ -1,6 +1,6 @@
 //! What is asked of trees: the names that they use, what is generated of one, and what a constant one is.
 ghost use Rattle.std.specs.Prelude.{IfOk};
-ghost use Rattle.template_tree_statements.specs.View.{statement_of};
+ghost use Rattle.template_compiler_tree_statements.specs.View.{statement_of};
 ghost use Rattle.template_compiler_generator.specs.Alone.{CanStand};
 
 use crate::NAME;
@@ -12,11 +12,11 @@ use serde_json::{Map, Value as Json};
 use std::alloc::Global;
 use std::collections::BTreeSet;
 use template_compiler_folding::as_const;
+use template_compiler_names_statements::{add_undeclared, find_undeclared};
 use template_compiler_sources::{parse, parse_expr};
 use template_compiler_syntax::SyntaxConfig;
-use template_names_statements::{add_undeclared, find_undeclared};
-use template_tree::Expr;
-use template_tree_statements::Stmt;
+use template_compiler_tree::Expr;
+use template_compiler_tree_statements::Stmt;
 use template_values_errors::{Error, ErrorKind};
 
 /// What is asked of the tree of a template: the names in it, or what a generator makes of it.

@@ -2,8 +2,8 @@
 use crate::report::Report;
 use std::alloc::{AllocError, Global};
 use std::collections::BTreeSet;
-use template_names_closures::{Unit, find_macro_closure, units, used_names};
-use template_tree_statements::{Macro, Stmt};
+use template_compiler_names_closures::{Unit, find_macro_closure, units, used_names};
+use template_compiler_tree_statements::{Macro, Stmt};
 use template_values_errors::ErrorKind;
 
 /// What the macros and the bodies of call blocks enclose that stand in the template's body, and in no other.

@@ -1,13 +1,13 @@
 -- A statement's blocks: its own name, and those of its bodies.
 use Rattle.std.proofs.Common.{◌≡◌, true, false, List, [], ◌∷◌, ◌++◌, append_assoc, append-nil, refl, sym, ap, ◌∙◌}
-use Rattle.template_tree.specs.Tree.{Statement, template, for_loop, if_condition, with_block, set_block, auto_escape, filter_block, block, macro, call_block, statements_more}
-use Rattle.template_tree_statements.specs.View.{statement_of}
-use Rattle.template_tree_statements.specs.declared.statements.Stmt.{Stmt}
-use Rattle.template_tree_parts.specs.Bodies.{body_in, other_in}
-use Rattle.template_tree_parts.specs.Kinds.{is_block}
-use Rattle.template_tree_parts.specs.Listed as parts
-use Rattle.template_tree_parts.specs.Within.{joined, picked_among}
-use Rattle.template_tree_parts.proofs.Picked.{said}
+use Rattle.template_compiler_tree.specs.Tree.{Statement, template, for_loop, if_condition, with_block, set_block, auto_escape, filter_block, block, macro, call_block, statements_more}
+use Rattle.template_compiler_tree_statements.specs.View.{statement_of}
+use Rattle.template_compiler_tree_statements.specs.declared.statements.Stmt.{Stmt}
+use Rattle.template_compiler_tree_parts.specs.Bodies.{body_in, other_in}
+use Rattle.template_compiler_tree_parts.specs.Kinds.{is_block}
+use Rattle.template_compiler_tree_parts.specs.Listed as parts
+use Rattle.template_compiler_tree_parts.specs.Within.{joined, picked_among}
+use Rattle.template_compiler_tree_parts.proofs.Picked.{said}
 use Rattle.template_compiler_statement_makers.specs.Listed.{statements_in}
 use Rattle.template_compiler_grammar.specs.TemplateTrees.{blocks_in, blocks_among}
 use Rattle.template_compiler_sources.specs.Own.{own_name}

@@ -1,6 +1,6 @@
 -- A source has one fault or none, and it has one where it has no tree.
 use Rattle.std.proofs.Common.{◌≡◌, ℕ, List, Result, Ok, Err, refl, sym, ap, ◌∙◌}
-use Rattle.template_tree.specs.Tree.{Expression, Statement, template, Statements}
+use Rattle.template_compiler_tree.specs.Tree.{Expression, Statement, template, Statements}
 use Rattle.template_compiler_tokens.specs.Token.{Token, TokenFault}
 use Rattle.template_compiler_syntax.specs.Syntax.{Syntax, IsUsable}
 use Rattle.template_compiler_syntax.specs.Flat.{IsTokens}

@@ -1,7 +1,7 @@
 -- A source's tree has its places, and one way to stand.
 use Rattle.std.proofs.Common.{◌≡◌, ℕ, List, [], Result, Ok, Err, sym, ap, subst, ◌∙◌}
-use Rattle.template_tree.specs.NodePlaces.{Places}
-use Rattle.template_tree.specs.Tree.{Expression, Statement, template}
+use Rattle.template_compiler_tree.specs.NodePlaces.{Places}
+use Rattle.template_compiler_tree.specs.Tree.{Expression, Statement, template}
 use Rattle.template_compiler_tokens.specs.Token.{Token, TokenFault}
 use Rattle.template_compiler_tokens.proofs.Readings.{ok_tree}
 use Rattle.template_compiler_syntax.proofs.Theorems.{one_tokens}

@@ -1,9 +1,9 @@
 -- Readings of a text's first tokens.
 use Rattle.std.proofs.Common.{◌≡◌, ◌≤◌, ◌+◌, ◌⊎◌, ◌↔◌, inl, inr, ℕ, suc, min, Bool, false, IsTrue, List, [], ◌∷◌, ◌++◌, map, length, take, Result, Ok, Err, refl, sym, ap, ◌∙◌, zero-add, arith}
 use Rattle.std.proofs.lemmas.List.{length-map, take_at}
-use Rattle.template_tree.specs.declared.span.Span.{Span}
-use Rattle.template_tree.specs.declared.span.Spanned.{Spanned}
-use Rattle.template_tree_statements.specs.declared.statements.Template.{Template as TemplateNode}
+use Rattle.template_compiler_tree.specs.declared.span.Span.{Span}
+use Rattle.template_compiler_tree.specs.declared.span.Spanned.{Spanned}
+use Rattle.template_compiler_tree_statements.specs.declared.statements.Template.{Template as TemplateNode}
 use Rattle.template_compiler_tokens.specs.Token.{Token, TokenFault, bad, bad_escape}
 use Rattle.template_compiler_tokens.specs.Places.{token_count}
 use Rattle.template_compiler_tokens.specs.Steps.{all, and_then, goes_on, many}

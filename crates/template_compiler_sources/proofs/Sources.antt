@@ -1,12 +1,12 @@
 -- A source's tree, by what is read of its tokens.
 use Rattle.std.proofs.Common.{◌≡◌, true, false, if◌then◌else◌, List, [], ◌∷◌, ℕ, inl, inr, Ok, Err, refl, sym, ap, subst, ◌∙◌}
 use Rattle.template_values_errors.specs.declared.ErrorKind.{ErrorKind}
-use Rattle.template_tree.specs.Tree.{Expression, Statement, template, Statements}
-use Rattle.template_tree.specs.declared.span.Span.{Span}
-use Rattle.template_tree_statements.specs.View.{statement_of}
-use Rattle.template_tree.specs.declared.span.Spanned.{Spanned}
-use Rattle.template_tree_statements.specs.declared.statements.Template.{Template as TemplateNode}
-use Rattle.template_tree_statements.specs.declared.statements.Stmt.{Template as Whole}
+use Rattle.template_compiler_tree.specs.Tree.{Expression, Statement, template, Statements}
+use Rattle.template_compiler_tree.specs.declared.span.Span.{Span}
+use Rattle.template_compiler_tree_statements.specs.View.{statement_of}
+use Rattle.template_compiler_tree.specs.declared.span.Spanned.{Spanned}
+use Rattle.template_compiler_tree_statements.specs.declared.statements.Template.{Template as TemplateNode}
+use Rattle.template_compiler_tree_statements.specs.declared.statements.Stmt.{Template as Whole}
 use Rattle.template_compiler_stream.specs.Refusals.{fault_of}
 use Rattle.template_compiler_stream.specs.declared.refusal.Refusal.{Refusal}
 use Rattle.template_compiler_stream.specs.declared.refusal.Refusal.TheVariants as refusals
@@ -14,7 +14,7 @@ use Rattle.template_compiler_sources.specs.Kinds.{refused_kind}
 use Rattle.template_compiler_tokens.specs.Token.{Token, TokenFault, bad_syntax}
 use Rattle.template_compiler_tokens.specs.Places.{next_span}
 use Rattle.template_compiler_tokens.specs.Steps.{Read}
-use Rattle.template_tree.specs.NodePlaces.{at}
+use Rattle.template_compiler_tree.specs.NodePlaces.{at}
 use Rattle.template_compiler_sources.specs.Scoped.{taken_spans, taken_words}
 use Rattle.template_compiler_sources.specs.Spans.{HoldsTokens, token_spans}
 use Rattle.template_compiler_sources.specs.Spelled.{HoldsSpelled, IsSpelled, spelled_spans}

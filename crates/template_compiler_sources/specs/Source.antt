@@ -2,7 +2,7 @@
 use Rattle.std.specs.Prelude.{◌≡◌, ◌≤◌, ◌^◌, ◌⊎◌, ℕ, List, [], ◌∷◌, length, Err}
 use Rattle.template_values_errors.specs.declared.ErrorKind.{ErrorKind}
 use Rattle.template_values_errors.specs.declared.ErrorKind.TheVariants as kinds
-use Rattle.template_tree.specs.Tree.{Expression, Statement, template, Statements}
+use Rattle.template_compiler_tree.specs.Tree.{Expression, Statement, template, Statements}
 use Rattle.template_compiler_tokens.specs.Token.{Token, TokenFault}
 use Rattle.template_compiler_tokens.specs.Left.{kind_of}
 use Rattle.template_compiler_syntax.specs.Syntax.{Syntax}

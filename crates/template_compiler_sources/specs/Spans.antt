@@ -1,6 +1,6 @@
 -- Where the tokens stand that are read at once: those before the first that is none.
 use Rattle.std.specs.Prelude.{◌≡◌, if◌then◌else◌, List, [], ◌∷◌}
-use Rattle.template_tree.specs.declared.span.Span.{Span}
+use Rattle.template_compiler_tree.specs.declared.span.Span.{Span}
 use Rattle.template_compiler_syntax.specs.Segments.{is_bad}
 use Rattle.template_compiler_tokenizer.specs.Spans.{Spanned, words_in}
 use Rattle.template_compiler_stream.specs.Spans.{PlacedTokens}

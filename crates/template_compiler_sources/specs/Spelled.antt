@@ -1,7 +1,7 @@
 -- The tokens of a text that holds nothing else.
 use Rattle.std.specs.Prelude.{◌≡◌, ℕ, ◌<◌, true, false, List, [], ◌∷◌, ◌++◌, length, take, drop, slice_index}
 use Rattle.std.specs.Char.{is_ascii_whitespace}
-use Rattle.template_tree.specs.declared.span.Span.{Span}
+use Rattle.template_compiler_tree.specs.declared.span.Span.{Span}
 use Rattle.template_compiler_tokens.specs.Token.{Token, TokenFault, bad}
 use Rattle.template_compiler_tokens.specs.Lexical.{Begins}
 use Rattle.template_compiler_tokens.specs.SourcePlaces.{span_between}

@@ -1,14 +1,14 @@
 -- What the reading of all tokens answers.
 use Rattle.std.specs.Prelude.{◌≡◌, List, [], ◌∷◌, Result, Ok, Err}
 use Rattle.std.specs.Global.{Vec}
-use Rattle.template_tree.specs.Tree.{Expression, template}
-use Rattle.template_tree.specs.View.{expression_of}
-use Rattle.template_tree.specs.declared.expressions.Expr.{Expr}
-use Rattle.template_tree.specs.NodePlaces.{at}
-use Rattle.template_tree.specs.declared.span.Span.{Span}
-use Rattle.template_tree.specs.declared.span.Spanned.{Spanned}
-use Rattle.template_tree_statements.specs.declared.statements.Template.{Template as TemplateNode}
-use Rattle.template_tree_statements.specs.declared.statements.Stmt.{Stmt, Template as Whole}
+use Rattle.template_compiler_tree.specs.Tree.{Expression, template}
+use Rattle.template_compiler_tree.specs.View.{expression_of}
+use Rattle.template_compiler_tree.specs.declared.expressions.Expr.{Expr}
+use Rattle.template_compiler_tree.specs.NodePlaces.{at}
+use Rattle.template_compiler_tree.specs.declared.span.Span.{Span}
+use Rattle.template_compiler_tree.specs.declared.span.Spanned.{Spanned}
+use Rattle.template_compiler_tree_statements.specs.declared.statements.Template.{Template as TemplateNode}
+use Rattle.template_compiler_tree_statements.specs.declared.statements.Stmt.{Stmt, Template as Whole}
 use Rattle.template_compiler_tokens.specs.Token.{Token, TokenFault}
 use Rattle.template_compiler_tokens.specs.Steps.{Read, fault}
 use Rattle.template_compiler_grammar.specs.TreeReader.{expression_at}

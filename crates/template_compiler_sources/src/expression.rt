@@ -4,7 +4,7 @@ ghost use Rattle.template_compiler_sources.specs.Source.{IsAlone, IsExpressionSo
 ghost use Rattle.template_compiler_sources.specs.Wholes.{ParsedExpression, expression_alone};
 ghost use Rattle.template_compiler_grammar.specs.Reader.{expression_at};
 ghost use Rattle.template_compiler_grammar.specs.Views.{node_of};
-ghost use Rattle.template_tree.specs.View.{expression_of};
+ghost use Rattle.template_compiler_tree.specs.View.{expression_of};
 ghost use Rattle.template_values_errors.specs.declared.ErrorKind.TheVariants.{TooLarge};
 
 use crate::prefixes::Text;
@@ -14,7 +14,7 @@ use crate::{error_of, read_expression_tokens};
 use std::alloc::Global;
 use template_compiler_expression_parser::read_expression;
 use template_compiler_stream::{Refusal, TokenStream};
-use template_tree::Expr;
+use template_compiler_tree::Expr;
 use template_values_errors::{Error, ErrorKind};
 
 /// The tree of an expression that is all of its source, in linear time; each node has the span of its tokens. Texts and

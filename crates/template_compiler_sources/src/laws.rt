@@ -5,8 +5,8 @@ ghost use Rattle.template_compiler_grammar.specs.TemplateNodes.{PlacedStatement}
 ghost use Rattle.template_compiler_sources.specs.Source.{IsExpressionSource, IsFaulty, IsFaultyExpression, IsPlacedExpressionSource, IsPlacedSource, IsSource};
 ghost use Rattle.template_compiler_syntax.specs.Syntax.{Syntax, IsUsable};
 ghost use Rattle.template_compiler_tokens.specs.Token.{TokenFault};
-ghost use Rattle.template_tree.specs.NodePlaces.{Places};
-ghost use Rattle.template_tree.specs.Tree.{Expression, Statement};
+ghost use Rattle.template_compiler_tree.specs.NodePlaces.{Places};
+ghost use Rattle.template_compiler_tree.specs.Tree.{Expression, Statement};
 
 /// A law, as the contract of a function that does nothing: a template's source has one tree with its places or none; that is
 /// its tree, and each tree of a source has its places.

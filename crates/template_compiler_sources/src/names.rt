@@ -4,12 +4,12 @@ ghost use Rattle.template_compiler_sources.specs.Own.{own_name};
 ghost use Rattle.template_compiler_sources.specs.Waiting.{texts_in};
 ghost use Rattle.template_compiler_statement_makers.specs.Listed.{statements_in};
 ghost use Rattle.template_compiler_grammar.specs.TemplateTrees.{blocks_among};
-ghost use Rattle.template_tree_parts.specs.Kinds.{is_block};
-ghost use Rattle.template_tree_statements.specs.View.{statement_of};
+ghost use Rattle.template_compiler_tree_parts.specs.Kinds.{is_block};
+ghost use Rattle.template_compiler_tree_statements.specs.View.{statement_of};
 
 use std::alloc::{AllocError, Global};
-use template_tree_parts::{Picks, pick_among};
-use template_tree_statements::Stmt;
+use template_compiler_tree_parts::{Picks, pick_among};
+use template_compiler_tree_statements::Stmt;
 
 // The blocks, wherever they stand.
 struct Blocks;

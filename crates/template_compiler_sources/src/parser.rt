@@ -3,8 +3,8 @@ use crate::expression::parse_expr;
 use crate::source::parse;
 use std::alloc::Global;
 use template_compiler_syntax::SyntaxConfig;
-use template_tree::Expr;
-use template_tree_statements::Stmt;
+use template_compiler_tree::Expr;
+use template_compiler_tree_statements::Stmt;
 use template_values_errors::{Error, ErrorKind};
 
 /// A parser of a source, which is read as a template or as an expression that stands alone. From a refusal on it
@@ -21,8 +21,8 @@ pub struct Parser<'source> {
 impl<'source> Parser<'source> {
     ghost use Rattle.std.specs.Prelude.{◌≡◌, ◌∷◌, [], None, IfOk, IfErr, IsOk, MatchOption, Err};
     ghost use Rattle.template_compiler_grammar.specs.Views.{node_of, statement_node_of};
-    ghost use Rattle.template_tree.specs.View.{expression_of};
-    ghost use Rattle.template_tree_statements.specs.View.{statement_of};
+    ghost use Rattle.template_compiler_tree.specs.View.{expression_of};
+    ghost use Rattle.template_compiler_tree_statements.specs.View.{statement_of};
     ghost use Rattle.template_compiler_sources.specs.Source.{IsExpressionSource, IsPlacedExpressionSource, IsPlacedSource, IsSource, RefusesExpression, RefusesSource};
     ghost use Rattle.template_compiler_sources.specs.Parsers.{IsSameText, filename_of, refused_of, source_of, syntax_of};
 

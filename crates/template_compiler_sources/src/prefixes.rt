@@ -19,7 +19,7 @@ use template_compiler_stream::{Fault, First, Refusal, TokenStream};
 use template_compiler_syntax::SyntaxConfig;
 use template_compiler_tokenizer::Tokenizer;
 use template_compiler_tokens::Token as Scanned;
-use template_tree::Span;
+use template_compiler_tree::Span;
 
 /// A source, and what it is read as.
 #[derive(Drop)]

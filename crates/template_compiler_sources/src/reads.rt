@@ -4,7 +4,7 @@ use std::alloc::Global;
 use template_compiler_expression_parser as parser;
 use template_compiler_statement_parts::ReadsExpressions;
 use template_compiler_stream::{Refusal, TokenStream};
-use template_tree::Expr;
+use template_compiler_tree::Expr;
 
 // The parser of expressions.
 pub(crate) struct ExpressionParser;

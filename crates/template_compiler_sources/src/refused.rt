@@ -8,7 +8,7 @@ use crate::prefixes::{Text, take_first};
 use std::alloc::{AllocError, Global};
 use template_compiler_stream::Refusal;
 use template_compiler_tokens::{Place as Position, Token};
-use template_tree::Span;
+use template_compiler_tree::Span;
 use template_values_errors::{Error, Place};
 
 // The name of each expression that stands alone.

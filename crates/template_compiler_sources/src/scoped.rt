@@ -7,7 +7,7 @@ ghost use Rattle.template_compiler_tokenizer.specs.Spans.{Spanned};
 ghost use Rattle.template_compiler_tokens.specs.View.{token_of};
 
 use template_compiler_tokens::Token;
-use template_tree::Span;
+use template_compiler_tree::Span;
 
 /// Where a reader of tokens stands.
 #[derive(Clone, Copy)]

@@ -5,7 +5,7 @@ ghost use Rattle.template_values_errors.specs.declared.ErrorKind.TheVariants.{To
 ghost use Rattle.template_compiler_sources.specs.Wholes.{ParsedTemplate};
 ghost use Rattle.template_compiler_grammar.specs.TemplateReader.{template_of};
 ghost use Rattle.template_compiler_grammar.specs.Views.{statement_node_of};
-ghost use Rattle.template_tree_statements.specs.View.{statement_of};
+ghost use Rattle.template_compiler_tree_statements.specs.View.{statement_of};
 
 use crate::prefixes::Text;
 use crate::refused::refused_at;
@@ -15,8 +15,8 @@ use std::alloc::Global;
 use template_compiler_stream::{Refusal, TokenStream};
 use template_compiler_syntax::SyntaxConfig;
 use template_compiler_tokenizer::Tokenizer;
-use template_tree::Spanned;
-use template_tree_statements::{Stmt, Template};
+use template_compiler_tree::Spanned;
+use template_compiler_tree_statements::{Stmt, Template};
 use template_values_errors::{Error, ErrorKind};
 
 /// The tree of a template's source under a syntax, in linear time; each node has the span of its tokens. Texts and names

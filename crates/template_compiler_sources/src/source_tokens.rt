@@ -13,7 +13,7 @@ use std::alloc::Global;
 use template_compiler_stream::{Fault, Refusal, TokenStream};
 use template_compiler_tokenizer::Tokenizer;
 use template_compiler_tokens::Token;
-use template_tree::Span;
+use template_compiler_tree::Span;
 
 /// Reads the tokens that are left of a template, and what stands behind them where that is none. Where blocks may be
 /// `scoped`, it leaves out each such word behind the name of one. Linear.

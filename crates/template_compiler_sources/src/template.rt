@@ -11,7 +11,7 @@ use std::alloc::Global;
 use template_compiler_statement_makers::Around;
 use template_compiler_statement_parser::read_statements;
 use template_compiler_stream::{Fault, Refusal, TokenStream};
-use template_tree_statements::Stmt;
+use template_compiler_tree_statements::Stmt;
 
 // How deep statements and expressions may nest.
 pub(crate) const MAX_DEPTH: u32 = 150;

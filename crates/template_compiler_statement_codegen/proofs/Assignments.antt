@@ -1,13 +1,13 @@
 -- Assignments, one behind the other.
 use Rattle.std.proofs.Common.{◌≡◌, ℕ, ◌+◌, ◌<◌, ◌≤◌, zero, suc, List, [], ◌∷◌, ◌++◌, length, take, get_or, sym, ap, subst, ◌∙◌, append-nil, arith}
 use Rattle.std.proofs.lemmas.List.{take_more, take_all}
-use Rattle.template_tree_statements.specs.View.{assignments_in}
-use Rattle.template_tree.specs.View.{expression_of}
-use Rattle.template_tree.specs.declared.expressions.Expr.{Expr}
-use Rattle.template_walk.specs.Runnable.{IsRunnable, IsTarget, AreAssignments}
-use Rattle.template_code.specs.Code.{Code}
-use Rattle.template_code.specs.Listing.{code_in}
-use Rattle.template_code.specs.declared.listing.Instructions.{Instructions}
+use Rattle.template_compiler_tree_statements.specs.View.{assignments_in}
+use Rattle.template_compiler_tree.specs.View.{expression_of}
+use Rattle.template_compiler_tree.specs.declared.expressions.Expr.{Expr}
+use Rattle.template_compiler_walk.specs.Runnable.{IsRunnable, IsTarget, AreAssignments}
+use Rattle.template_compiler_code.specs.Code.{Code}
+use Rattle.template_compiler_code.specs.Listing.{code_in}
+use Rattle.template_compiler_code.specs.declared.listing.Instructions.{Instructions}
 use Rattle.template_compiler_codegen.specs.Expressions.{Coded, expression_code, then_code}
 use Rattle.template_compiler_codegen.specs.Statements.{assignments_code, target_code}
 use Rattle.template_compiler_emission.specs.Puts.{Puts}

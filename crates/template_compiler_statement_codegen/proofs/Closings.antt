@@ -1,10 +1,10 @@
 -- What is open is closed from the innermost on.
 use Rattle.std.proofs.Common.{◌≡◌, ℕ, ◌+◌, ◌<◌, List, [], ◌∷◌, ◌++◌, length, get_or, take, refl, sym, ap, subst, ◌∙◌, append-nil, append_assoc}
 use Rattle.std.proofs.lemmas.List.{take_at, take_more}
-use Rattle.template_tree.specs.Tree.{Statements}
-use Rattle.template_code.specs.Code.{Code, end_capture}
-use Rattle.template_code.specs.Listing.{code_in}
-use Rattle.template_code.specs.declared.listing.Instructions.{Instructions}
+use Rattle.template_compiler_tree.specs.Tree.{Statements}
+use Rattle.template_compiler_code.specs.Code.{Code, end_capture}
+use Rattle.template_compiler_code.specs.Listing.{code_in}
+use Rattle.template_compiler_code.specs.declared.listing.Instructions.{Instructions}
 use Rattle.template_compiler_codegen.specs.Expressions.{one}
 use Rattle.template_compiler_codegen.specs.Statements.{Ways, closing_with, statements_code}
 use Rattle.template_compiler_emission.specs.Puts.{Puts}

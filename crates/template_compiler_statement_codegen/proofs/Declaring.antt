@@ -3,24 +3,24 @@ use Rattle.std.proofs.Common.{◌≡◌, ℕ, zero, suc, ◌+◌, ◌-◌, ◌<�
 use Rattle.std.proofs.Math.ListN.{set}
 use Rattle.std.proofs.lemmas.List.{take_more}
 use Rattle.template_values_model.specs.Val.{text}
-use Rattle.template_tree.specs.CallView.{called}
-use Rattle.template_tree.specs.Kinds.{calls_block}
-use Rattle.template_tree.specs.Tree.{Expression, Expressions, Optional, absent, given, no_expressions, expressions_more}
-use Rattle.template_tree.specs.View.{expression_of, expressions_in}
-use Rattle.template_tree.specs.declared.calls.CallType.{CallType}
-use Rattle.template_tree.specs.declared.calls.CallType.TheVariants.{Function, Method, Block, Object}
-use Rattle.template_tree.specs.declared.expressions.Compare.{Compare' as compared}
-use Rattle.template_tree.specs.declared.expressions.Expr.{Expr, Var, Compare'}
-use Rattle.template_tree.specs.declared.expressions.Var.{Var as Name}
-use Rattle.template_tree.specs.declared.span.Spanned.{Spanned}
-use Rattle.template_tree_statements.specs.declared.statements.Macro.{Macro}
-use Rattle.template_tree_parts.specs.Listed.{statements_in}
-use Rattle.template_names.specs.Names.{reversed}
-use Rattle.template_walk.specs.Runnable.{IsRunnable, AreRunnable, IsTarget, AreTargets}
-use Rattle.template_walk.specs.Statements.{caller_name, first_of, name_text, rest_of}
-use Rattle.template_code.specs.Code.{Code, dup_top, is_undefined, discard_top, jump_if_false, return, enclose}
-use Rattle.template_code.specs.Listing.{code_in}
-use Rattle.template_code.specs.declared.listing.Instructions.{Instructions}
+use Rattle.template_compiler_tree.specs.CallView.{called}
+use Rattle.template_compiler_tree.specs.Kinds.{calls_block}
+use Rattle.template_compiler_tree.specs.Tree.{Expression, Expressions, Optional, absent, given, no_expressions, expressions_more}
+use Rattle.template_compiler_tree.specs.View.{expression_of, expressions_in}
+use Rattle.template_compiler_tree.specs.declared.calls.CallType.{CallType}
+use Rattle.template_compiler_tree.specs.declared.calls.CallType.TheVariants.{Function, Method, Block, Object}
+use Rattle.template_compiler_tree.specs.declared.expressions.Compare.{Compare' as compared}
+use Rattle.template_compiler_tree.specs.declared.expressions.Expr.{Expr, Var, Compare'}
+use Rattle.template_compiler_tree.specs.declared.expressions.Var.{Var as Name}
+use Rattle.template_compiler_tree.specs.declared.span.Spanned.{Spanned}
+use Rattle.template_compiler_tree_statements.specs.declared.statements.Macro.{Macro}
+use Rattle.template_compiler_tree_parts.specs.Listed.{statements_in}
+use Rattle.template_compiler_names.specs.Names.{reversed}
+use Rattle.template_compiler_walk.specs.Runnable.{IsRunnable, AreRunnable, IsTarget, AreTargets}
+use Rattle.template_compiler_walk.specs.Statements.{caller_name, first_of, name_text, rest_of}
+use Rattle.template_compiler_code.specs.Code.{Code, dup_top, is_undefined, discard_top, jump_if_false, return, enclose}
+use Rattle.template_compiler_code.specs.Listing.{code_in}
+use Rattle.template_compiler_code.specs.declared.listing.Instructions.{Instructions}
 use Rattle.template_compiler_codegen.specs.Core.{Core, no_ways, flat}
 use Rattle.template_compiler_codegen.specs.Expressions.{one, then_code, skipped, expression_code}
 use Rattle.template_compiler_codegen.specs.Statements.{parameter_core, declared_core, statements_core, statements_code, target_code}

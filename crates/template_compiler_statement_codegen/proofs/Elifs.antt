@@ -1,19 +1,19 @@
 -- Along a chain of `elif`: each branch leaves its else part, and the jumps at the end of branches lead to the end of all.
 use Rattle.std.proofs.Common.{◌≡◌, ℕ, true, List, [], ◌∷◌, ◌++◌, length, refl, sym, ap, subst}
 use Rattle.std.proofs.Math.ListN.{set}
-use Rattle.template_tree.specs.Tree.{Statements, no_statements, statements_more}
-use Rattle.template_tree_statements.specs.declared.statements.IfCond.{IfCond}
-use Rattle.template_tree_statements.specs.declared.statements.Stmt.{Stmt}
-use Rattle.template_walk.specs.Runnable.{AreRunnableStatements, IsRunnableStatement}
-use Rattle.template_code.specs.Listing.{code_in}
-use Rattle.template_code.specs.declared.listing.Instructions.{Instructions}
+use Rattle.template_compiler_tree.specs.Tree.{Statements, no_statements, statements_more}
+use Rattle.template_compiler_tree_statements.specs.declared.statements.IfCond.{IfCond}
+use Rattle.template_compiler_tree_statements.specs.declared.statements.Stmt.{Stmt}
+use Rattle.template_compiler_walk.specs.Runnable.{AreRunnableStatements, IsRunnableStatement}
+use Rattle.template_compiler_code.specs.Listing.{code_in}
+use Rattle.template_compiler_code.specs.declared.listing.Instructions.{Instructions}
 use Rattle.template_compiler_codegen.specs.Expressions.{Coded, one, nothing, then_code}
 use Rattle.template_compiler_codegen.specs.Statements.{Ways, branches_code, statement_code, statements_code}
 use Rattle.template_compiler_emission.specs.declared.leaps.Leap.TheVariants.{Always, IfFalse}
 use Rattle.template_compiler_emission.specs.Leaps.{leap_code}
 use Rattle.template_compiler_emission.specs.Puts.{Keeps, Puts}
 use Rattle.template_compiler_statement_codegen.specs.Breaks.{Places, no_places, then_places, branches_places, breaks_of, breaks_in}
-use Rattle.template_tree_parts.specs.Listed.{statements_in}
+use Rattle.template_compiler_tree_parts.specs.Listed.{statements_in}
 use Rattle.template_compiler_statement_codegen.specs.Listed.{condition_of}
 use Rattle.template_compiler_statement_codegen.specs.Rounds.{Lowers, LowersBody, LowersBranch, LowersChain, Remains, ways_of}
 use Rattle.template_compiler_statement_codegen.specs.declared.rounds.Round.{Round}

@@ -1,7 +1,7 @@
 -- A body whose text is captured, and what is done with the text: it is stored or printed, behind filters.
-use Rattle.template_tree.specs.Tree.{Expression, Optional, Statements, absent, given, set_block, filter_block}
-use Rattle.template_code.specs.Code.{begin_capture, emit, end_capture}
-use Rattle.template_code.specs.declared.listing.Instructions.{Instructions}
+use Rattle.template_compiler_tree.specs.Tree.{Expression, Optional, Statements, absent, given, set_block, filter_block}
+use Rattle.template_compiler_code.specs.Code.{begin_capture, emit, end_capture}
+use Rattle.template_compiler_code.specs.declared.listing.Instructions.{Instructions}
 use Rattle.std.proofs.Common.{true}
 use Rattle.template_compiler_codegen.specs.Expressions.{one, then_code, filters_code}
 use Rattle.template_compiler_codegen.specs.Statements.{statements_code}

@@ -1,15 +1,15 @@
 -- Imported names, one behind the other: they are looked up from the first to the last, and stored from the last to the first.
 use Rattle.std.proofs.Common.{◌≡◌, ℕ, ◌+◌, ◌<◌, ◌≤◌, zero, suc, Option, List, [], ◌∷◌, ◌++◌, length, take, drop, get_or, sym, ap, subst, ◌∙◌, append-nil, arith}
 use Rattle.std.proofs.lemmas.List.{take_more, take_all, drop_more, drop_all}
-use Rattle.template_tree_statements.specs.View.{imports_in}
-use Rattle.template_tree.specs.View.{expression_of, optional_in}
-use Rattle.template_tree.specs.Tree.{Imports, imports_more}
-use Rattle.template_tree.specs.declared.expressions.Expr.{Expr}
-use Rattle.template_walk.specs.Runnable.{IsRunnable, IsTarget, AreImports}
-use Rattle.template_walk.specs.Statements.{imported_names, stored_as}
-use Rattle.template_code.specs.Code.{Code}
-use Rattle.template_code.specs.Listing.{code_in}
-use Rattle.template_code.specs.declared.listing.Instructions.{Instructions}
+use Rattle.template_compiler_tree_statements.specs.View.{imports_in}
+use Rattle.template_compiler_tree.specs.View.{expression_of, optional_in}
+use Rattle.template_compiler_tree.specs.Tree.{Imports, imports_more}
+use Rattle.template_compiler_tree.specs.declared.expressions.Expr.{Expr}
+use Rattle.template_compiler_walk.specs.Runnable.{IsRunnable, IsTarget, AreImports}
+use Rattle.template_compiler_walk.specs.Statements.{imported_names, stored_as}
+use Rattle.template_compiler_code.specs.Code.{Code}
+use Rattle.template_compiler_code.specs.Listing.{code_in}
+use Rattle.template_compiler_code.specs.declared.listing.Instructions.{Instructions}
 use Rattle.template_compiler_codegen.specs.Expressions.{expression_code, expressions_code, then_code}
 use Rattle.template_compiler_codegen.specs.Statements.{target_code}
 use Rattle.template_compiler_emission.specs.Puts.{Puts}

@@ -1,9 +1,9 @@
 -- The rounds of a loop that are told their end alone.
 use Rattle.std.proofs.Common.{◌≡◌, ℕ, ◌+◌, suc, [], ◌∷◌, ◌++◌, List, length, ap, ap₂, ◌∙◌, append_assoc, length-append, arith}
 use Rattle.std.proofs.Math.ListN.{set}
-use Rattle.template_code.specs.Code.{Code, iterate, jump}
-use Rattle.template_code.specs.Listing.{code_in}
-use Rattle.template_code.specs.declared.listing.Instructions.{Instructions}
+use Rattle.template_compiler_code.specs.Code.{Code, iterate, jump}
+use Rattle.template_compiler_code.specs.Listing.{code_in}
+use Rattle.template_compiler_code.specs.declared.listing.Instructions.{Instructions}
 use Rattle.template_compiler_codegen.specs.Expressions.{Coded, one, skipped, then_code}
 use Rattle.template_compiler_codegen.specs.Statements.{rounds_code}
 use Rattle.template_compiler_emission.specs.declared.leaps.Leap.TheVariants.{Iterate}

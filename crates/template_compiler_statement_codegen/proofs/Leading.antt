@@ -2,8 +2,8 @@
 use Rattle.std.proofs.Common.{◌≡◌, ℕ, ◌+◌, suc, Bool, true, false, List, [], ◌∷◌, ◌++◌, length, refl, sym, ap, ◌∙◌, append_assoc, length-append, arith}
 use Rattle.std.proofs.Math.ListN.{set}
 use Rattle.std.proofs.lemmas.List.{set_at}
-use Rattle.template_tree.specs.Tree.{Statements}
-use Rattle.template_code.specs.Code.{Code, jump, jump_if_false}
+use Rattle.template_compiler_tree.specs.Tree.{Statements}
+use Rattle.template_compiler_code.specs.Code.{Code, jump, jump_if_false}
 use Rattle.template_compiler_codegen.specs.Core.{Coded, then_code, skipped, either_code, left_by, choose, Ways, closing_with, Core, both, leaping, either, within, leave, chosen, flat}
 use Rattle.template_compiler_codegen.specs.Statements.{statements_core, statements_code}
 use Rattle.template_compiler_codegen.proofs.Lengths.{AsLong, long_core}

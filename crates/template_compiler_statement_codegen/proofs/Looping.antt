@@ -1,11 +1,11 @@
 -- The rounds of a loop, and what stands behind them.
 use Rattle.std.proofs.Common.{◌≡◌, ℕ, List, [], ◌∷◌, ◌++◌, length, refl, ap, ◌∙◌}
 use Rattle.std.proofs.Math.ListN.{set}
-use Rattle.template_tree.specs.Tree.{Statements}
-use Rattle.template_tree_statements.specs.declared.statements.Stmt.{Stmt}
-use Rattle.template_code.specs.Code.{jump, iterate, pop_loop_frame, push_did_not_iterate}
-use Rattle.template_code.specs.Listing.{code_in}
-use Rattle.template_code.specs.declared.listing.Instructions.{Instructions}
+use Rattle.template_compiler_tree.specs.Tree.{Statements}
+use Rattle.template_compiler_tree_statements.specs.declared.statements.Stmt.{Stmt}
+use Rattle.template_compiler_code.specs.Code.{jump, iterate, pop_loop_frame, push_did_not_iterate}
+use Rattle.template_compiler_code.specs.Listing.{code_in}
+use Rattle.template_compiler_code.specs.declared.listing.Instructions.{Instructions}
 use Rattle.template_compiler_codegen.specs.Expressions.{Coded, one}
 use Rattle.template_compiler_codegen.specs.Statements.{Ways, loop_end_code, own_ways, rounds_code, statements_code}
 use Rattle.template_compiler_emission.specs.declared.leaps.Leap.TheVariants.{IfFalse, Iterate}
@@ -14,7 +14,7 @@ use Rattle.template_compiler_emission.specs.Puts.{Keeps, Puts}
 use Rattle.template_compiler_emission.proofs.Putting.{same_then}
 use Rattle.template_compiler_statement_codegen.specs.Breaks.{Places, breaks_in, led, loop_end_places}
 use Rattle.template_compiler_statement_codegen.proofs.TellingRounds.{rounds_told}
-use Rattle.template_tree_parts.specs.Listed.{statements_in}
+use Rattle.template_compiler_tree_parts.specs.Listed.{statements_in}
 use Rattle.template_compiler_statement_codegen.specs.Rounds.{Lowers, LowersBody, ways_of}
 use Rattle.template_compiler_statement_codegen.specs.declared.rounds.Closing.{Closing}
 use Rattle.template_compiler_statement_codegen.specs.declared.rounds.Round.{Round}

@@ -1,24 +1,24 @@
 -- The trees of nodes, from the parts that a node holds, and how deep those are.
 use Rattle.std.proofs.Common.{◌≡◌, ℕ, ◌<◌, true, Option, List, length, get_or, Box, Global, rules, refl, sym, ap, ◌∙◌, arith, [], ◌∷◌}
-use Rattle.template_tree.specs.Tree.{Expression, Optional, Statement, Statements, absent, given, for_loop, with_block, set_block, auto_escape, filter_block, no_statements, statements_more}
-use Rattle.template_tree_statements.specs.View.{assignments_in, statement_of}
-use Rattle.template_tree.specs.View.{expression_of, optional_in}
-use Rattle.template_tree.specs.declared.calls.Call.{Call as CallNode}
-use Rattle.template_tree.specs.declared.expressions.Expr.{Expr}
-use Rattle.template_tree.specs.declared.span.Spanned.{Spanned}
-use Rattle.template_tree_statements.specs.declared.statements.AutoEscape.{AutoEscape as AutoEscapeNode}
-use Rattle.template_tree_statements.specs.declared.statements.CallBlock.{CallBlock as CallBlockNode, CallBlock' as called, out-CallBlock}
-use Rattle.template_tree_statements.specs.declared.statements.Macro.{Macro as MacroNode}
-use Rattle.template_tree_statements.specs.declared.statements.FilterBlock.{FilterBlock as FilterBlockNode}
-use Rattle.template_tree_statements.specs.declared.statements.ForLoop.{ForLoop as ForLoopNode}
-use Rattle.template_tree_statements.specs.declared.statements.IfCond.{IfCond as IfCondNode}
-use Rattle.template_tree_statements.specs.declared.statements.SetBlock.{SetBlock as SetBlockNode}
-use Rattle.template_tree_statements.specs.declared.statements.WithBlock.{WithBlock as WithBlockNode}
-use Rattle.template_tree_statements.specs.declared.statements.Stmt.{Stmt, AutoEscape, CallBlock, FilterBlock, ForLoop, IfCond, Macro, SetBlock, WithBlock, size-Stmt, the_lemmas}
-use Rattle.template_tree_parts.proofs.Rows.{statements_row}
-use Rattle.template_tree_parts.proofs.Trees.{escape_tree, for_tree, if_tree, with_tree}
-use Rattle.template_walk.specs.Runnable.{IsTarget, IsRunnableStatement, AreRunnableStatements}
-use Rattle.template_tree_parts.specs.Listed.{statements_in}
+use Rattle.template_compiler_tree.specs.Tree.{Expression, Optional, Statement, Statements, absent, given, for_loop, with_block, set_block, auto_escape, filter_block, no_statements, statements_more}
+use Rattle.template_compiler_tree_statements.specs.View.{assignments_in, statement_of}
+use Rattle.template_compiler_tree.specs.View.{expression_of, optional_in}
+use Rattle.template_compiler_tree.specs.declared.calls.Call.{Call as CallNode}
+use Rattle.template_compiler_tree.specs.declared.expressions.Expr.{Expr}
+use Rattle.template_compiler_tree.specs.declared.span.Spanned.{Spanned}
+use Rattle.template_compiler_tree_statements.specs.declared.statements.AutoEscape.{AutoEscape as AutoEscapeNode}
+use Rattle.template_compiler_tree_statements.specs.declared.statements.CallBlock.{CallBlock as CallBlockNode, CallBlock' as called, out-CallBlock}
+use Rattle.template_compiler_tree_statements.specs.declared.statements.Macro.{Macro as MacroNode}
+use Rattle.template_compiler_tree_statements.specs.declared.statements.FilterBlock.{FilterBlock as FilterBlockNode}
+use Rattle.template_compiler_tree_statements.specs.declared.statements.ForLoop.{ForLoop as ForLoopNode}
+use Rattle.template_compiler_tree_statements.specs.declared.statements.IfCond.{IfCond as IfCondNode}
+use Rattle.template_compiler_tree_statements.specs.declared.statements.SetBlock.{SetBlock as SetBlockNode}
+use Rattle.template_compiler_tree_statements.specs.declared.statements.WithBlock.{WithBlock as WithBlockNode}
+use Rattle.template_compiler_tree_statements.specs.declared.statements.Stmt.{Stmt, AutoEscape, CallBlock, FilterBlock, ForLoop, IfCond, Macro, SetBlock, WithBlock, size-Stmt, the_lemmas}
+use Rattle.template_compiler_tree_parts.proofs.Rows.{statements_row}
+use Rattle.template_compiler_tree_parts.proofs.Trees.{escape_tree, for_tree, if_tree, with_tree}
+use Rattle.template_compiler_walk.specs.Runnable.{IsTarget, IsRunnableStatement, AreRunnableStatements}
+use Rattle.template_compiler_tree_parts.specs.Listed.{statements_in}
 use Rattle.template_compiler_statement_codegen.specs.Macros.{call_block_of, macro_of}
 use Rattle.template_compiler_statement_codegen.specs.Filtered.{AreFiltersIfGiven}
 use Rattle.template_compiler_statement_codegen.specs.Listed.{IsRunnableTree, body_deep, condition_deep, condition_of}

@@ -3,8 +3,8 @@ use Rattle.std.proofs.Common.{◌≡◌, ℕ, ◌+◌, suc, List, [], ◌∷◌,
 use Rattle.std.proofs.Math.ListN.{set}
 use Rattle.std.proofs.Math.Seq.{set-append_seam}
 use Rattle.std.proofs.lemmas.List.{length-set}
-use Rattle.template_tree.specs.Tree.{Statements}
-use Rattle.template_code.specs.Code.{Code, jump, iterate}
+use Rattle.template_compiler_tree.specs.Tree.{Statements}
+use Rattle.template_compiler_code.specs.Code.{Code, jump, iterate}
 use Rattle.template_compiler_codegen.specs.Expressions.{Coded}
 use Rattle.template_compiler_codegen.specs.Statements.{own_ways, rounds_code, statements_code}
 use Rattle.template_compiler_codegen.proofs.Lengths.{long_statements}

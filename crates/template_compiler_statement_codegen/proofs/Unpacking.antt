@@ -1,14 +1,14 @@
 -- The targets of a list, one behind the other.
 use Rattle.std.proofs.Common.{◌≡◌, ℕ, ◌+◌, ◌<◌, ◌≤◌, zero, suc, List, [], ◌∷◌, ◌++◌, length, take, get_or, sym, ap, subst, ◌∙◌, append-nil, arith, Box, Global}
 use Rattle.std.proofs.lemmas.List.{take_more, take_all}
-use Rattle.template_tree.specs.declared.span.Spanned.{Spanned}
-use Rattle.template_tree.specs.declared.expressions.Compare.{Compare, Compare' as compared}
-use Rattle.template_tree.specs.View.{chain_of, expression_of, expressions_in}
-use Rattle.template_tree.specs.declared.expressions.Expr.{Expr, Compare as CompareNode}
-use Rattle.template_walk.specs.Runnable.{IsTarget, AreTargets}
-use Rattle.template_code.specs.Code.{Code}
-use Rattle.template_code.specs.Listing.{code_in}
-use Rattle.template_code.specs.declared.listing.Instructions.{Instructions}
+use Rattle.template_compiler_tree.specs.declared.span.Spanned.{Spanned}
+use Rattle.template_compiler_tree.specs.declared.expressions.Compare.{Compare, Compare' as compared}
+use Rattle.template_compiler_tree.specs.View.{chain_of, expression_of, expressions_in}
+use Rattle.template_compiler_tree.specs.declared.expressions.Expr.{Expr, Compare as CompareNode}
+use Rattle.template_compiler_walk.specs.Runnable.{IsTarget, AreTargets}
+use Rattle.template_compiler_code.specs.Code.{Code}
+use Rattle.template_compiler_code.specs.Listing.{code_in}
+use Rattle.template_compiler_code.specs.declared.listing.Instructions.{Instructions}
 use Rattle.template_compiler_codegen.specs.Expressions.{Coded, then_code}
 use Rattle.template_compiler_codegen.specs.Statements.{target_code, targets_code}
 use Rattle.template_compiler_emission.specs.Puts.{Puts}

@@ -1,8 +1,8 @@
 -- A whole stream: what runs outside of loops runs inside of them too, and nothing is open at first.
 use Rattle.std.proofs.Common.{◌≡◌, ℕ, Bool, true, false, List, [], ap, subst, ◌∙◌, refl}
-use Rattle.template_tree.specs.Tree.{Statement, Statements, absent, given, template, raw, print, for_loop, if_condition, with_block, set, set_block, auto_escape, filter_block, block, import, from_import, extends, include, macro, call_block, continue_loop, break_loop, do_call, no_statements, statements_more}
-use Rattle.template_walk.specs.Runnable.{IsRunnableStatement, AreRunnableStatements}
-use Rattle.template_code.specs.declared.listing.Instructions.{Instructions}
+use Rattle.template_compiler_tree.specs.Tree.{Statement, Statements, absent, given, template, raw, print, for_loop, if_condition, with_block, set, set_block, auto_escape, filter_block, block, import, from_import, extends, include, macro, call_block, continue_loop, break_loop, do_call, no_statements, statements_more}
+use Rattle.template_compiler_walk.specs.Runnable.{IsRunnableStatement, AreRunnableStatements}
+use Rattle.template_compiler_code.specs.declared.listing.Instructions.{Instructions}
 use Rattle.template_compiler_codegen.specs.Statements.{Ways, no_ways, statements_code}
 use Rattle.template_compiler_emission.specs.Puts.{Puts}
 use Rattle.template_compiler_statement_codegen.specs.Listed.{IsRunnableTree, body_in}

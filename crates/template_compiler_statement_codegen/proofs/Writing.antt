@@ -1,15 +1,15 @@
 -- What a print writes, and its code.
 use Rattle.std.proofs.Common.{◌≡◌, ℕ, Bool, true, false, ◌&&◌, if◌then◌else◌, List, [], ◌∷◌, ◌++◌, length, get_or, refl, sym, ap, subst, ◌∙◌, append-nil, arith}
-use Rattle.template_tree.specs.Tree.{Expression, Arguments, variable, attribute, call, no_arguments, arguments_more, positional, keyword, positional_spread, keyword_spread, print}
-use Rattle.template_tree.specs.Kinds.{Called, calls_function, calls_method, calls_block, calls_value, is_self_name, is_empty, called_by}
-use Rattle.template_tree.specs.View.{arguments_in, chain_of}
-use Rattle.template_tree.specs.declared.calls.CallArg.{CallArg, Pos, Kwarg, PosSplat, KwargSplat}
-use Rattle.template_walk.specs.Runnable.{IsRunnable, AreRunnableArguments}
-use Rattle.template_tree.specs.declared.expressions.Compare.{Compare, Compare' as compared}
-use Rattle.template_walk.specs.Expressions.{attribute_called}
-use Rattle.template_walk.specs.Statements.{Printed, prints_value, prints_block, prints_super, prints_rounds, printed_by, printed_of, printed_rounds, is_super_name, is_loop_name}
-use Rattle.template_code.specs.Listing.{code_in}
-use Rattle.template_code.specs.declared.listing.Instructions.{Instructions}
+use Rattle.template_compiler_tree.specs.Tree.{Expression, Arguments, variable, attribute, call, no_arguments, arguments_more, positional, keyword, positional_spread, keyword_spread, print}
+use Rattle.template_compiler_tree.specs.Kinds.{Called, calls_function, calls_method, calls_block, calls_value, is_self_name, is_empty, called_by}
+use Rattle.template_compiler_tree.specs.View.{arguments_in, chain_of}
+use Rattle.template_compiler_tree.specs.declared.calls.CallArg.{CallArg, Pos, Kwarg, PosSplat, KwargSplat}
+use Rattle.template_compiler_walk.specs.Runnable.{IsRunnable, AreRunnableArguments}
+use Rattle.template_compiler_tree.specs.declared.expressions.Compare.{Compare, Compare' as compared}
+use Rattle.template_compiler_walk.specs.Expressions.{attribute_called}
+use Rattle.template_compiler_walk.specs.Statements.{Printed, prints_value, prints_block, prints_super, prints_rounds, printed_by, printed_of, printed_rounds, is_super_name, is_loop_name}
+use Rattle.template_compiler_code.specs.Listing.{code_in}
+use Rattle.template_compiler_code.specs.declared.listing.Instructions.{Instructions}
 use Rattle.template_compiler_codegen.specs.Core.{Core, no_ways, flat}
 use Rattle.template_compiler_codegen.specs.Expressions.{expression_core}
 use Rattle.template_compiler_codegen.specs.Statements.{Ways, printed_core, statement_code}

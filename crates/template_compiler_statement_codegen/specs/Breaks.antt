@@ -1,8 +1,8 @@
 -- The places of the jumps of a loop's breaks, which are told their target at the end of the loop.
 use Rattle.std.specs.Prelude.{ℕ, ◌+◌, suc, Bool, true, false, List, [], ◌∷◌, ◌++◌, length}
 use Rattle.std.proofs.Math.ListN.{set}
-use Rattle.template_tree.specs.Tree.{Statement, Statements}
-use Rattle.template_code.specs.Code.{Code, push_did_not_iterate, pop_loop_frame, jump}
+use Rattle.template_compiler_tree.specs.Tree.{Statement, Statements}
+use Rattle.template_compiler_code.specs.Code.{Code, push_did_not_iterate, pop_loop_frame, jump}
 use Rattle.template_compiler_codegen.specs.Core.{Coded, one, Ways, closing_with, Core, both, leaping, either, within, leave, chosen, flat}
 use Rattle.template_compiler_codegen.specs.Statements.{are_some, statement_core, statements_core}
 

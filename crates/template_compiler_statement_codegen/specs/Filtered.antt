@@ -1,6 +1,6 @@
 -- The text of a capture: it goes through the filters, if there are any, and is stored.
-use Rattle.template_tree.specs.Tree.{Expression, Optional, absent, given}
-use Rattle.template_walk.specs.Runnable.{AreFilters}
+use Rattle.template_compiler_tree.specs.Tree.{Expression, Optional, absent, given}
+use Rattle.template_compiler_walk.specs.Runnable.{AreFilters}
 use Rattle.template_compiler_codegen.specs.Expressions.{Coded, then_code, filters_code}
 use Rattle.template_compiler_codegen.specs.Statements.{target_code}
 

@@ -1,8 +1,8 @@
 -- Templates that are imported: their code, as it is put.
 use Rattle.std.specs.Prelude.{true, false}
-use Rattle.template_tree.specs.Tree.{Expression, Imports}
-use Rattle.template_walk.specs.Statements.{imported_names}
-use Rattle.template_code.specs.Code.{begin_capture, discard_top, end_capture, export_locals, include, pop_frame, push_with}
+use Rattle.template_compiler_tree.specs.Tree.{Expression, Imports}
+use Rattle.template_compiler_walk.specs.Statements.{imported_names}
+use Rattle.template_compiler_code.specs.Code.{begin_capture, discard_top, end_capture, export_locals, include, pop_frame, push_with}
 use Rattle.template_compiler_codegen.specs.Core.{no_ways, flat}
 use Rattle.template_compiler_codegen.specs.Expressions.{Coded, one, then_code, expression_code, expressions_code}
 use Rattle.template_compiler_codegen.specs.Statements.{imports_core, target_code}

@@ -1,7 +1,7 @@
 -- The law of breaks.
 use Rattle.std.specs.Prelude.{◌≡◌, ℕ, List, ◌++◌, length}
-use Rattle.template_tree.specs.Tree.{Statements}
-use Rattle.template_code.specs.Code.{Code}
+use Rattle.template_compiler_tree.specs.Tree.{Statements}
+use Rattle.template_compiler_code.specs.Code.{Code}
 use Rattle.template_compiler_codegen.specs.Statements.{Ways, statements_code}
 use Rattle.template_compiler_statement_codegen.specs.Breaks.{breaks_in, led}
 

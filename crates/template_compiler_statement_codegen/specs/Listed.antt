@@ -1,11 +1,11 @@
 -- The trees in the nodes of conditions and of whole templates, and how deep bodies are.
 use Rattle.std.specs.Prelude.{ℕ, max, List, [], ◌∷◌}
-use Rattle.template_tree.specs.Tree.{Statement, Statements, no_statements, template, if_condition}
-use Rattle.template_tree.specs.View.{expression_of}
-use Rattle.template_tree_statements.specs.declared.statements.IfCond.{IfCond}
-use Rattle.template_tree_statements.specs.declared.statements.Stmt.{Stmt, size-Stmt}
-use Rattle.template_tree_parts.specs.Listed.{statements_in}
-use Rattle.template_walk.specs.Runnable.{IsRunnableTemplate}
+use Rattle.template_compiler_tree.specs.Tree.{Statement, Statements, no_statements, template, if_condition}
+use Rattle.template_compiler_tree.specs.View.{expression_of}
+use Rattle.template_compiler_tree_statements.specs.declared.statements.IfCond.{IfCond}
+use Rattle.template_compiler_tree_statements.specs.declared.statements.Stmt.{Stmt, size-Stmt}
+use Rattle.template_compiler_tree_parts.specs.Listed.{statements_in}
+use Rattle.template_compiler_walk.specs.Runnable.{IsRunnableTemplate}
 
 -- a condition with what belongs to it
 abbrev pub condition_of : IfCond → Statement

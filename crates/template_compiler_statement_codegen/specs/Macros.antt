@@ -1,16 +1,16 @@
 -- Macros and call blocks: their trees, from the parts that nodes hold, and their code, as it is put.
 use Rattle.std.specs.Prelude.{ℕ, List}
 use Rattle.template_values_model.specs.Val.{Val, list, vals_of}
-use Rattle.template_tree.specs.Tree.{Expression, Expressions, Optional, absent, given, Statement, macro, call_block, no_expressions}
-use Rattle.template_tree.specs.View.{expression_of, expressions_in, arguments_in}
-use Rattle.template_tree.specs.declared.calls.Call.{Call}
-use Rattle.template_tree.specs.declared.expressions.Expr.{Expr}
-use Rattle.template_tree_statements.specs.declared.statements.Macro.{Macro}
-use Rattle.template_tree_parts.specs.Listed.{statements_in}
-use Rattle.template_names.specs.Names.{reversed}
-use Rattle.template_names.specs.Enclosed.{enclosed_names, uses_caller}
-use Rattle.template_walk.specs.Statements.{name_texts, caller_name}
-use Rattle.template_code.specs.Code.{dup_top, is_undefined, discard_top, jump_if_false, build_macro}
+use Rattle.template_compiler_tree.specs.Tree.{Expression, Expressions, Optional, absent, given, Statement, macro, call_block, no_expressions}
+use Rattle.template_compiler_tree.specs.View.{expression_of, expressions_in, arguments_in}
+use Rattle.template_compiler_tree.specs.declared.calls.Call.{Call}
+use Rattle.template_compiler_tree.specs.declared.expressions.Expr.{Expr}
+use Rattle.template_compiler_tree_statements.specs.declared.statements.Macro.{Macro}
+use Rattle.template_compiler_tree_parts.specs.Listed.{statements_in}
+use Rattle.template_compiler_names.specs.Names.{reversed}
+use Rattle.template_compiler_names.specs.Enclosed.{enclosed_names, uses_caller}
+use Rattle.template_compiler_walk.specs.Statements.{name_texts, caller_name}
+use Rattle.template_compiler_code.specs.Code.{dup_top, is_undefined, discard_top, jump_if_false, build_macro}
 use Rattle.template_compiler_codegen.specs.Core.{no_ways, flat}
 use Rattle.template_compiler_codegen.specs.Expressions.{Coded, one, nothing, then_code, skipped, expression_code}
 use Rattle.template_compiler_codegen.specs.Statements.{parameters_core, enclosed_core, macro_flags, made_of_core, declared_core, calling_core, statements_core}

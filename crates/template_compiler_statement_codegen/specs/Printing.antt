@@ -1,9 +1,9 @@
 -- What a print writes, as contracts see it.
 use Rattle.std.specs.Prelude.{ℕ, ◌&&◌, if◌then◌else◌, List}
-use Rattle.template_tree.specs.Kinds.{is_empty}
-use Rattle.template_tree.specs.Tree.{Arguments}
-use Rattle.template_tree.specs.View.{expression_of}
-use Rattle.template_walk.specs.Statements.{Printed, prints_value, prints_block, prints_super, prints_rounds, is_super_name, is_loop_name, printed_rounds}
+use Rattle.template_compiler_tree.specs.Kinds.{is_empty}
+use Rattle.template_compiler_tree.specs.Tree.{Arguments}
+use Rattle.template_compiler_tree.specs.View.{expression_of}
+use Rattle.template_compiler_walk.specs.Statements.{Printed, prints_value, prints_block, prints_super, prints_rounds, is_super_name, is_loop_name, printed_rounds}
 use Rattle.template_compiler_statement_codegen.specs.declared.prints.Printing.{Printing}
 use Rattle.template_compiler_statement_codegen.specs.declared.prints.Printing.TheVariants.{Value, Block, Super, Rounds}
 

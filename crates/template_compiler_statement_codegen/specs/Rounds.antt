@@ -1,15 +1,15 @@
 -- The loop around statements, and what is put for them.
 use Rattle.std.specs.Prelude.{◌≡◌, ℕ, List, [], ◌∷◌, ◌++◌, length, Option, Some, None}
-use Rattle.template_tree.specs.Tree.{Statement, Statements}
-use Rattle.template_tree_statements.specs.declared.statements.IfCond.{IfCond}
-use Rattle.template_code.specs.Code.{Code, pop_frame, pop_auto_escape, end_capture, discard_top}
-use Rattle.template_code.specs.Listing.{code_in}
-use Rattle.template_code.specs.declared.listing.Instructions.{Instructions}
+use Rattle.template_compiler_tree.specs.Tree.{Statement, Statements}
+use Rattle.template_compiler_tree_statements.specs.declared.statements.IfCond.{IfCond}
+use Rattle.template_compiler_code.specs.Code.{Code, pop_frame, pop_auto_escape, end_capture, discard_top}
+use Rattle.template_compiler_code.specs.Listing.{code_in}
+use Rattle.template_compiler_code.specs.declared.listing.Instructions.{Instructions}
 use Rattle.template_compiler_codegen.specs.Expressions.{Coded, one, nothing, then_code}
 use Rattle.template_compiler_codegen.specs.Statements.{Ways, closing_with, statement_code, statements_code}
 use Rattle.template_compiler_emission.specs.Puts.{Keeps, Puts}
 use Rattle.template_compiler_statement_codegen.specs.Breaks.{Places, no_places, then_places, breaks_of, breaks_in, led}
-use Rattle.template_tree_parts.specs.Listed.{statements_in}
+use Rattle.template_compiler_tree_parts.specs.Listed.{statements_in}
 use Rattle.template_compiler_statement_codegen.specs.Listed.{condition_of}
 use Rattle.template_compiler_statement_codegen.specs.declared.rounds.Closing.{Closing}
 use Rattle.template_compiler_statement_codegen.specs.declared.rounds.Closing.TheVariants.{Frame, AutoEscape, Capture, Text}

@@ -1,12 +1,12 @@
 //! The breaks of a loop, which are told their target once the loop's end is known.
 
 ghost use Rattle.std.specs.Prelude.{◌≡◌, length};
-ghost use Rattle.template_code.specs.Listing.{code_in};
+ghost use Rattle.template_compiler_code.specs.Listing.{code_in};
 ghost use Rattle.template_compiler_emission.specs.Puts.{Keeps};
 ghost use Rattle.template_compiler_statement_codegen.specs.Breaks.{led};
 ghost use Rattle.template_compiler_statement_codegen.specs.Laws.{BreaksLead};
 
-use template_code::Instructions;
+use template_compiler_code::Instructions;
 use template_compiler_emission::{Leap, land};
 
 /// Tells the jumps at the places where they lead: behind the last instruction. Linear in their number.

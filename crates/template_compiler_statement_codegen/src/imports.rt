@@ -1,10 +1,10 @@
 //! Templates that are imported: as a module, or some of their names.
 ghost use Rattle.std.specs.Prelude.{◌≡◌, OnOk, IfErr};
-ghost use Rattle.template_tree.specs.View.{expression_of, optional_in};
-ghost use Rattle.template_tree_statements.specs.View.{imports_in};
-ghost use Rattle.template_walk.specs.Runnable.{IsRunnable, IsTarget, AreImports};
-ghost use Rattle.template_walk.specs.Statements.{imported_names, stored_as};
-ghost use Rattle.template_code.specs.Listing.{code_in};
+ghost use Rattle.template_compiler_tree.specs.View.{expression_of, optional_in};
+ghost use Rattle.template_compiler_tree_statements.specs.View.{imports_in};
+ghost use Rattle.template_compiler_walk.specs.Runnable.{IsRunnable, IsTarget, AreImports};
+ghost use Rattle.template_compiler_walk.specs.Statements.{imported_names, stored_as};
+ghost use Rattle.template_compiler_code.specs.Listing.{code_in};
 ghost use Rattle.template_compiler_codegen.specs.Expressions.{expressions_code};
 ghost use Rattle.template_compiler_emission.specs.Puts.{Puts};
 ghost use Rattle.template_compiler_statement_codegen.specs.Imports.{apart_code, import_code, from_import_code, stores_code};
@@ -13,9 +13,9 @@ ghost use Rattle.template_compiler_statement_codegen.specs.Refusals.{Refuses};
 use crate::puts::{compile_expr, put};
 use crate::targets::store;
 use std::alloc::Global;
-use template_code::{CaptureMode, Instruction, Instructions};
-use template_tree::{Expr, Span};
-use template_tree_statements::FromImport;
+use template_compiler_code::{CaptureMode, Instruction, Instructions};
+use template_compiler_tree::{Expr, Span};
+use template_compiler_tree_statements::FromImport;
 use template_values_errors::ErrorKind;
 
 // A template whose module is stored in a target. Its text is part of the module.

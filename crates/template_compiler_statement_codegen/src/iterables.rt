@@ -1,10 +1,10 @@
 //! What loops go over: with a condition, the list of the items that it holds for.
 ghost use Rattle.std.specs.Prelude.{OnOk, IfErr};
-ghost use Rattle.template_tree.specs.Tree.{given};
-ghost use Rattle.template_tree.specs.View.{expression_of, optional_in};
-ghost use Rattle.template_walk.specs.Runnable.{IsRunnable, IsRunnableIfGiven, IsTarget};
-ghost use Rattle.template_code.specs.Code.{discard_top};
-ghost use Rattle.template_code.specs.Listing.{code_in};
+ghost use Rattle.template_compiler_tree.specs.Tree.{given};
+ghost use Rattle.template_compiler_tree.specs.View.{expression_of, optional_in};
+ghost use Rattle.template_compiler_walk.specs.Runnable.{IsRunnable, IsRunnableIfGiven, IsTarget};
+ghost use Rattle.template_compiler_code.specs.Code.{discard_top};
+ghost use Rattle.template_compiler_code.specs.Listing.{code_in};
 ghost use Rattle.template_compiler_codegen.specs.Expressions.{either_code, one};
 ghost use Rattle.template_compiler_codegen.specs.Statements.{iterable_code, keep_code, kept_code};
 ghost use Rattle.template_compiler_emission.specs.Puts.{Puts};
@@ -13,9 +13,9 @@ ghost use Rattle.template_compiler_statement_codegen.specs.Refusals.{Refuses};
 use crate::puts::{compile_expr, put, reserve};
 use crate::targets::store;
 use std::alloc::Global;
-use template_code::{Instruction, Instructions};
+use template_compiler_code::{Instruction, Instructions};
 use template_compiler_emission::{Leap, land};
-use template_tree::{Expr, Span};
+use template_compiler_tree::{Expr, Span};
 use template_values_core::Value;
 use template_values_errors::ErrorKind;
 

@@ -1,11 +1,11 @@
 //! What a print writes: a value; or what a block, `super()`, or the rounds of a loop over a value write by themselves.
 ghost use Rattle.std.specs.Prelude.{◌≡◌, OnOk, IfErr};
-ghost use Rattle.template_tree.specs.Tree.{print};
-ghost use Rattle.template_tree.specs.View.{arguments_in, expression_of};
-ghost use Rattle.template_walk.specs.Runnable.{IsRunnable};
-ghost use Rattle.template_walk.specs.Statements.{is_loop_name, is_super_name, printed_of, printed_rounds};
-ghost use Rattle.template_code.specs.Code.{emit, fast_recurse};
-ghost use Rattle.template_code.specs.Listing.{code_in};
+ghost use Rattle.template_compiler_tree.specs.Tree.{print};
+ghost use Rattle.template_compiler_tree.specs.View.{arguments_in, expression_of};
+ghost use Rattle.template_compiler_walk.specs.Runnable.{IsRunnable};
+ghost use Rattle.template_compiler_walk.specs.Statements.{is_loop_name, is_super_name, printed_of, printed_rounds};
+ghost use Rattle.template_compiler_code.specs.Code.{emit, fast_recurse};
+ghost use Rattle.template_compiler_code.specs.Listing.{code_in};
 ghost use Rattle.template_compiler_codegen.specs.Expressions.{then_code, one, expression_code};
 ghost use Rattle.template_compiler_codegen.specs.Statements.{no_ways, statement_code};
 ghost use Rattle.template_compiler_emission.specs.Puts.{Puts};
@@ -16,9 +16,9 @@ ghost use Rattle.template_compiler_statement_codegen.specs.Refusals.{Refuses};
 use crate::puts::{compile_expr, put};
 use std::alloc::Global;
 use std::borrow::CowStr;
-use template_code::{Instruction, Instructions};
+use template_compiler_code::{Instruction, Instructions};
 use template_compiler_expression_codegen::has_no_arguments;
-use template_tree::{Call, CallArg, CallType, Expr, Span};
+use template_compiler_tree::{Call, CallArg, CallType, Expr, Span};
 use template_values_errors::ErrorKind;
 
 // What a print writes.

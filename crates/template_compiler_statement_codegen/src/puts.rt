@@ -1,9 +1,9 @@
 //! What is put behind the instructions. A refusal is told by its kind alone, which is small.
 ghost use Rattle.std.specs.Prelude.{◌≡◌, ◌++◌, ◌∷◌, [], OnOk, IfOk, IfErr, length};
-ghost use Rattle.template_tree.specs.View.{expression_of};
-ghost use Rattle.template_walk.specs.Runnable.{IsRunnable, AreFilters};
-ghost use Rattle.template_code.specs.View.{code_of};
-ghost use Rattle.template_code.specs.Listing.{code_in};
+ghost use Rattle.template_compiler_tree.specs.View.{expression_of};
+ghost use Rattle.template_compiler_walk.specs.Runnable.{IsRunnable, AreFilters};
+ghost use Rattle.template_compiler_code.specs.View.{code_of};
+ghost use Rattle.template_compiler_code.specs.Listing.{code_in};
 ghost use Rattle.template_compiler_codegen.specs.Expressions.{one, expression_code, filters_code};
 ghost use Rattle.template_compiler_emission.specs.Leaps.{leap_code};
 ghost use Rattle.template_compiler_emission.specs.Puts.{Puts};
@@ -12,9 +12,9 @@ ghost use Rattle.template_values_errors.specs.Causes.{IsHead};
 ghost use Rattle.template_compiler_statement_codegen.specs.Refusals.{Refuses};
 
 use std::alloc::Global;
-use template_code::{Instruction, Instructions};
+use template_compiler_code::{Instruction, Instructions};
 use template_compiler_emission::{Leap, push, push_leap};
-use template_tree::{Call, Expr, Span, Spanned};
+use template_compiler_tree::{Call, Expr, Span, Spanned};
 use template_values_errors::{Error, ErrorKind};
 
 // Puts one instruction.

@@ -1,8 +1,8 @@
 //! The loop around statements, whose ways out are told while their code is put.
 ghost use Rattle.std.specs.Prelude.{◌≡◌, [], ◌∷◌, OnOk, IfErr};
-ghost use Rattle.template_tree.specs.Tree.{break_loop, continue_loop};
-ghost use Rattle.template_code.specs.View.{code_of};
-ghost use Rattle.template_code.specs.Listing.{code_in};
+ghost use Rattle.template_compiler_tree.specs.Tree.{break_loop, continue_loop};
+ghost use Rattle.template_compiler_code.specs.View.{code_of};
+ghost use Rattle.template_compiler_code.specs.Listing.{code_in};
 ghost use Rattle.template_compiler_codegen.specs.Statements.{statement_code};
 ghost use Rattle.template_compiler_emission.specs.Puts.{Puts};
 ghost use Rattle.template_compiler_statement_codegen.specs.Breaks.{breaks_of};
@@ -11,9 +11,9 @@ ghost use Rattle.template_compiler_statement_codegen.specs.Rounds.{Lowers, close
 
 use crate::puts::{append, put, reserve};
 use std::alloc::Global;
-use template_code::{Instruction, Instructions};
+use template_compiler_code::{Instruction, Instructions};
 use template_compiler_emission::Leap;
-use template_tree::Span;
+use template_compiler_tree::Span;
 use template_values_errors::ErrorKind;
 
 // What stands open around statements inside a loop; or the text that a capture ends with.

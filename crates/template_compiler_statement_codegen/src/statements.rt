@@ -1,20 +1,20 @@
 //! Statements. Bodies nest at most 150 deep; a chain of `elif`, which may be as long as the source, is gone
 //! along in a loop.
 ghost use Rattle.std.specs.Prelude.{◌≡◌, ◌++◌, [], true, false, length, OnOk, IfOk, IfErr};
-ghost use Rattle.template_tree.specs.Tree.{auto_escape, filter_block, for_loop, set_block, with_block};
-ghost use Rattle.template_tree_statements.specs.View.{statement_of, assignments_in};
-ghost use Rattle.template_tree.specs.View.{arguments_in, expression_of, optional_in};
-ghost use Rattle.template_walk.specs.Runnable.{IsRunnable, IsRunnableIfGiven, AreFilters, IsTarget, AreAssignments, IsRunnableStatement, AreRunnableStatements};
-ghost use Rattle.template_walk.specs.Statements.{caller_name};
-ghost use Rattle.template_code.specs.Code.{call_block, discard_top, emit, emit_raw, include, load_blocks};
-ghost use Rattle.template_code.specs.Listing.{code_in, TakesNoMore};
+ghost use Rattle.template_compiler_tree.specs.Tree.{auto_escape, filter_block, for_loop, set_block, with_block};
+ghost use Rattle.template_compiler_tree_statements.specs.View.{statement_of, assignments_in};
+ghost use Rattle.template_compiler_tree.specs.View.{arguments_in, expression_of, optional_in};
+ghost use Rattle.template_compiler_walk.specs.Runnable.{IsRunnable, IsRunnableIfGiven, AreFilters, IsTarget, AreAssignments, IsRunnableStatement, AreRunnableStatements};
+ghost use Rattle.template_compiler_walk.specs.Statements.{caller_name};
+ghost use Rattle.template_compiler_code.specs.Code.{call_block, discard_top, emit, emit_raw, include, load_blocks};
+ghost use Rattle.template_compiler_code.specs.Listing.{code_in, TakesNoMore};
 ghost use Rattle.template_compiler_codegen.specs.Expressions.{then_code, one, expression_code, filters_code};
 ghost use Rattle.template_compiler_codegen.specs.Statements.{loop_end_code, loop_flags, no_ways, own_ways, rounds_code, statement_code, statements_code, target_code};
 ghost use Rattle.template_compiler_emission.specs.Puts.{Keeps, Puts};
 ghost use Rattle.template_compiler_expression_codegen.specs.Begun.{begun_code, ended_code};
 ghost use Rattle.template_compiler_expression_codegen.specs.Calls.{call_of};
 ghost use Rattle.template_compiler_statement_codegen.specs.Breaks.{breaks_in, led, loop_end_places};
-ghost use Rattle.template_tree_parts.specs.Listed.{statements_in};
+ghost use Rattle.template_compiler_tree_parts.specs.Listed.{statements_in};
 ghost use Rattle.template_compiler_statement_codegen.specs.Macros.{call_block_of, calling_code, declared_code, macro_of};
 ghost use Rattle.template_compiler_statement_codegen.specs.Filtered.{AreFiltersIfGiven, filtered_store};
 ghost use Rattle.template_compiler_statement_codegen.specs.Listed.{IsRunnableTree, body_in, condition_of};
@@ -31,13 +31,13 @@ use crate::targets::{store, store_all};
 use crate::tell_breaks;
 use std::alloc::Global;
 use std::borrow::CowStr;
-use template_code::{
+use template_compiler_code::{
     CaptureMode, Instruction, Instructions, LOOP_FLAG_RECURSIVE, LOOP_FLAG_WITH_LOOP_VAR,
 };
 use template_compiler_emission::{Leap, land};
 use template_compiler_expression_codegen::{begin_call, end_call};
-use template_tree::{Call, CallType, Expr, Span, Spanned};
-use template_tree_statements::{ForLoop, IfCond, Macro, Stmt};
+use template_compiler_tree::{Call, CallType, Expr, Span, Spanned};
+use template_compiler_tree_statements::{ForLoop, IfCond, Macro, Stmt};
 use template_values_errors::{Error, ErrorKind};
 
 /// Puts the code of a whole template behind the instructions. Linear in the template, besides what the

@@ -1,12 +1,12 @@
 //! Targets: names that a value is stored under, attributes that it is set as, and lists of targets that it is unpacked
 //! into.
 ghost use Rattle.std.specs.Prelude.{OnOk, IfErr};
-ghost use Rattle.template_tree.specs.Tree.{list_literal};
-ghost use Rattle.template_tree_statements.specs.View.{assignments_in};
-ghost use Rattle.template_tree.specs.View.{expression_of, expressions_in};
-ghost use Rattle.template_walk.specs.Runnable.{IsRunnable, IsTarget, AreTargets, AreAssignments};
-ghost use Rattle.template_code.specs.Code.{set_attr};
-ghost use Rattle.template_code.specs.Listing.{code_in, TakesNoMore};
+ghost use Rattle.template_compiler_tree.specs.Tree.{list_literal};
+ghost use Rattle.template_compiler_tree_statements.specs.View.{assignments_in};
+ghost use Rattle.template_compiler_tree.specs.View.{expression_of, expressions_in};
+ghost use Rattle.template_compiler_walk.specs.Runnable.{IsRunnable, IsTarget, AreTargets, AreAssignments};
+ghost use Rattle.template_compiler_code.specs.Code.{set_attr};
+ghost use Rattle.template_compiler_code.specs.Listing.{code_in, TakesNoMore};
 ghost use Rattle.template_compiler_codegen.specs.Expressions.{then_code, one, expression_code};
 ghost use Rattle.template_compiler_codegen.specs.Statements.{assignments_code, target_code};
 ghost use Rattle.template_compiler_emission.specs.Puts.{Puts};
@@ -15,8 +15,8 @@ ghost use Rattle.template_compiler_statement_codegen.specs.Refusals.{Refuses};
 use crate::puts::{compile_expr, put};
 use std::alloc::Global;
 use std::borrow::CowStr;
-use template_code::{Instruction, Instructions};
-use template_tree::{Expr, Span};
+use template_compiler_code::{Instruction, Instructions};
+use template_compiler_tree::{Expr, Span};
 use template_values_errors::{Error, ErrorKind};
 
 /// Puts the code that stores the value on top in a target behind the instructions: under a name, as an attribute of

@@ -1,9 +1,9 @@
 -- A chain of filters behind a filter is never empty.
 use Rattle.std.proofs.Common.{◌≡◌, ℕ, List, Ok, None, Some, refl}
-use Rattle.template_tree.specs.Tree.{Expression, Optional, absent, given}
-use Rattle.template_tree.specs.View.{expression_of}
-use Rattle.template_tree.specs.declared.expressions.Expr.{Expr}
-use Rattle.template_tree.specs.declared.span.Span.{Span}
+use Rattle.template_compiler_tree.specs.Tree.{Expression, Optional, absent, given}
+use Rattle.template_compiler_tree.specs.View.{expression_of}
+use Rattle.template_compiler_tree.specs.declared.expressions.Expr.{Expr}
+use Rattle.template_compiler_tree.specs.declared.span.Span.{Span}
 use Rattle.template_compiler_tokens.specs.Token.{Token}
 use Rattle.template_compiler_grammar.specs.Grammar.{IsFilterChain, chain_end, chain_more}
 use Rattle.template_compiler_grammar.specs.Reader.{filter_chain_at}

@@ -1,13 +1,13 @@
 -- The heads of blocks, of macros and call blocks, and of `set`, up to the ends of their tags: what the reader with places reads of
 -- them before the body.
 use Rattle.std.specs.Prelude.{ℕ, Bool, true, if◌then◌else◌, codes, List, ◌∷◌, Err, Ok}
-use Rattle.template_tree.specs.CallView.{call_places}
-use Rattle.template_tree.specs.Tree.{Expression, Arguments}
-use Rattle.template_tree.specs.Kinds.{call_parts}
-use Rattle.template_tree.specs.NodePlaces.{Places}
-use Rattle.template_tree.specs.View.{expression_of, arguments_in}
-use Rattle.template_tree.specs.declared.span.Span.{Span}
-use Rattle.template_tree_statements.specs.declared.statements.Stmt.TheVariants as statements
+use Rattle.template_compiler_tree.specs.CallView.{call_places}
+use Rattle.template_compiler_tree.specs.Tree.{Expression, Arguments}
+use Rattle.template_compiler_tree.specs.Kinds.{call_parts}
+use Rattle.template_compiler_tree.specs.NodePlaces.{Places}
+use Rattle.template_compiler_tree.specs.View.{expression_of, arguments_in}
+use Rattle.template_compiler_tree.specs.declared.span.Span.{Span}
+use Rattle.template_compiler_tree_statements.specs.declared.statements.Stmt.TheVariants as statements
 use Rattle.template_compiler_tokens.specs.Places.{next_span}
 use Rattle.template_compiler_tokens.specs.Token.{Token, bad_syntax, identifier, symbol, paren_open}
 use Rattle.template_compiler_tokens.specs.Steps.{Read, fault, and_then}

@@ -1,7 +1,7 @@
 -- The heads of loops and of conditions, of `with`, `autoescape` and filter blocks, up to the ends of their tags: what the reader
 -- with places reads of them before the body.
 use Rattle.std.specs.Prelude.{Bool, false, codes, List, Ok}
-use Rattle.template_tree.specs.declared.span.Span.{Span}
+use Rattle.template_compiler_tree.specs.declared.span.Span.{Span}
 use Rattle.template_compiler_tokens.specs.Token.{Token}
 use Rattle.template_compiler_tokens.specs.Steps.{Read, and_then}
 use Rattle.template_compiler_grammar.specs.TemplateGrammar.{Around, loop_around}

@@ -1,8 +1,8 @@
 -- The ends of loops.
 use Rattle.std.specs.Prelude.{Bool, if◌then◌else◌, List, Ok, Err}
-use Rattle.template_tree.specs.NodePlaces.{no_parts}
-use Rattle.template_tree.specs.Tree.{Statement}
-use Rattle.template_tree.specs.declared.span.Span.{Span}
+use Rattle.template_compiler_tree.specs.NodePlaces.{no_parts}
+use Rattle.template_compiler_tree.specs.Tree.{Statement}
+use Rattle.template_compiler_tree.specs.declared.span.Span.{Span}
 use Rattle.template_compiler_tokens.specs.Steps.{Read, and_then}
 use Rattle.template_compiler_tokens.specs.Token.{Token, bad_syntax}
 use Rattle.template_compiler_grammar.specs.TemplateReaderParts.{tag_end}

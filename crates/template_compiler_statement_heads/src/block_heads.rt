@@ -5,14 +5,14 @@ ghost use Rattle.template_compiler_statement_makers.specs.Listed.{statement_node
 ghost use Rattle.template_compiler_statement_parts.specs.Parsed.{ParsedAs};
 ghost use Rattle.template_compiler_grammar.specs.TemplateTrees.{is_block_body};
 ghost use Rattle.template_compiler_grammar.specs.Views.{statement_node_of};
-ghost use Rattle.template_tree_statements.specs.declared.statements.Stmt.TheVariants as statements;
+ghost use Rattle.template_compiler_tree_statements.specs.declared.statements.Stmt.TheVariants as statements;
 
 use std::alloc::Global;
 use template_compiler_statement_makers::{is_blank, makers};
 use template_compiler_statement_parts::{expect_block_end, expect_tag_end, read_flag};
 use template_compiler_stream::{Fault, Refusal, TokenStream};
-use template_tree::{Span, Spanned};
-use template_tree_statements::{Block, Stmt};
+use template_compiler_tree::{Span, Spanned};
+use template_compiler_tree_statements::{Block, Stmt};
 
 /// The head of a block.
 #[derive(Clone, Copy)]

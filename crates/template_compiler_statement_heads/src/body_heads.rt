@@ -10,8 +10,8 @@ ghost use Rattle.template_compiler_grammar.specs.Views.{node_of, placed_assignme
 use std::alloc::Global;
 use template_compiler_statement_parts::{ReadsExpressions, expect_tag_end, read_assignments};
 use template_compiler_stream::{Fault, Refusal, TokenStream};
-use template_tree::{Expr, Span, Spanned};
-use template_tree_statements::{AutoEscape, FilterBlock, IfCond};
+use template_compiler_tree::{Expr, Span, Spanned};
+use template_compiler_tree_statements::{AutoEscape, FilterBlock, IfCond};
 
 // An expression, and the end of its tag.
 #[inline(always)]

@@ -11,8 +11,8 @@ use template_compiler_statement_parts::{
     ReadsExpressions, expect_tag_end, expect_word, read_flag, read_loop_filter, read_targets,
 };
 use template_compiler_stream::{Refusal, TokenStream};
-use template_tree::{Expr, Span, Spanned};
-use template_tree_statements::ForLoop;
+use template_compiler_tree::{Expr, Span, Spanned};
+use template_compiler_tree_statements::ForLoop;
 
 /// Reads the head of a loop.
 ///

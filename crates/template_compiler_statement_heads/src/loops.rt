@@ -3,13 +3,13 @@ ghost use Rattle.std.specs.Prelude.{◌≡◌};
 ghost use Rattle.template_compiler_grammar.specs.Views.{statement_node_of};
 ghost use Rattle.template_compiler_statement_heads.specs.Loops.{loop_end_by};
 ghost use Rattle.template_compiler_statement_parts.specs.Parsed.{ParsedAs};
-ghost use Rattle.template_tree.specs.Tree.{break_loop, continue_loop};
-ghost use Rattle.template_tree_statements.specs.declared.statements.Stmt.TheVariants as statements;
+ghost use Rattle.template_compiler_tree.specs.Tree.{break_loop, continue_loop};
+ghost use Rattle.template_compiler_tree_statements.specs.declared.statements.Stmt.TheVariants as statements;
 
 use template_compiler_statement_parts::expect_tag_end;
 use template_compiler_stream::{Fault, Refusal, TokenStream};
-use template_tree::{Span, Spanned};
-use template_tree_statements::{Break, Continue};
+use template_compiler_tree::{Span, Spanned};
+use template_compiler_tree_statements::{Break, Continue};
 
 /// Reads the end of a `break`, which stands inside a loop alone.
 ///

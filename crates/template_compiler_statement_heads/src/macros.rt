@@ -6,7 +6,7 @@ ghost use Rattle.template_compiler_statement_parts.specs.Parsed.{ParsedAs};
 ghost use Rattle.template_compiler_grammar.specs.TemplateNodes.{call_block_node, macro_node};
 ghost use Rattle.template_compiler_grammar.specs.TemplateReader.{here};
 ghost use Rattle.template_compiler_grammar.specs.Views.{statement_node_of};
-ghost use Rattle.template_tree_statements.specs.declared.statements.Stmt.TheVariants as statements;
+ghost use Rattle.template_compiler_tree_statements.specs.declared.statements.Stmt.TheVariants as statements;
 
 use std::alloc::{AllocError, Global};
 use template_compiler_statement_makers::makers;
@@ -15,8 +15,8 @@ use template_compiler_statement_parts::{
     read_optional_parameters,
 };
 use template_compiler_stream::{Fault, Refusal, Sign, TokenStream};
-use template_tree::{Call, Span, Spanned};
-use template_tree_statements::{CallBlock, Macro, Stmt};
+use template_compiler_tree::{Call, Span, Spanned};
+use template_compiler_tree_statements::{CallBlock, Macro, Stmt};
 
 /// The head of a macro.
 #[derive(Drop)]

@@ -5,7 +5,7 @@ ghost use Rattle.template_compiler_statement_makers.specs.Begun.{set_block_of};
 ghost use Rattle.template_compiler_statement_parts.specs.Parsed.{ParsedAs};
 ghost use Rattle.template_compiler_grammar.specs.TemplateReader.{here, set_values};
 ghost use Rattle.template_compiler_grammar.specs.Views.{node_of, statement_node_of};
-ghost use Rattle.template_tree_statements.specs.declared.statements.Stmt.TheVariants as statements;
+ghost use Rattle.template_compiler_tree_statements.specs.declared.statements.Stmt.TheVariants as statements;
 
 use std::alloc::Global;
 use template_compiler_statement_parts::{
@@ -13,8 +13,8 @@ use template_compiler_statement_parts::{
     read_values,
 };
 use template_compiler_stream::{Refusal, TokenStream};
-use template_tree::{Expr, Span, Spanned};
-use template_tree_statements::{Set, SetBlock};
+use template_compiler_tree::{Expr, Span, Spanned};
+use template_compiler_tree_statements::{Set, SetBlock};
 
 /// A `set` with its values, or the head of a set block.
 #[derive(Drop)]

@@ -3,7 +3,7 @@ ghost use Rattle.std.specs.Prelude.{◌≡◌};
 ghost use Rattle.template_compiler_statement_parts.specs.Parsed.{ParsedAs};
 ghost use Rattle.template_compiler_grammar.specs.TemplateReader.{extends_by, from_by, here, import_statement_by, include_by};
 ghost use Rattle.template_compiler_grammar.specs.Views.{statement_node_of};
-ghost use Rattle.template_tree_statements.specs.declared.statements.Stmt.TheVariants as statements;
+ghost use Rattle.template_compiler_tree_statements.specs.declared.statements.Stmt.TheVariants as statements;
 
 use std::alloc::Global;
 use template_compiler_statement_parts::{
@@ -11,8 +11,8 @@ use template_compiler_statement_parts::{
     read_stored,
 };
 use template_compiler_stream::{Refusal, TokenStream};
-use template_tree::{Span, Spanned};
-use template_tree_statements::{Extends, FromImport, Import, Include};
+use template_compiler_tree::{Span, Spanned};
+use template_compiler_tree_statements::{Extends, FromImport, Import, Include};
 
 /// Reads an `import`.
 ///

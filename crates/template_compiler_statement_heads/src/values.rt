@@ -3,13 +3,13 @@ ghost use Rattle.std.specs.Prelude.{◌≡◌};
 ghost use Rattle.template_compiler_statement_parts.specs.Parsed.{ParsedAs};
 ghost use Rattle.template_compiler_grammar.specs.TemplateReader.{do_by, here, print_by};
 ghost use Rattle.template_compiler_grammar.specs.Views.{statement_node_of};
-ghost use Rattle.template_tree_statements.specs.declared.statements.Stmt.TheVariants as statements;
+ghost use Rattle.template_compiler_tree_statements.specs.declared.statements.Stmt.TheVariants as statements;
 
 use std::alloc::Global;
 use template_compiler_statement_parts::{ReadsExpressions, expect_print_end, expect_tag_end};
 use template_compiler_stream::{Fault, Refusal, TokenStream};
-use template_tree::{Span, Spanned};
-use template_tree_statements::{Do, EmitExpr};
+use template_compiler_tree::{Span, Spanned};
+use template_compiler_tree_statements::{Do, EmitExpr};
 
 /// Reads a print, behind its start.
 ///

@@ -1,12 +1,12 @@
 -- Bodies with one statement more.
 use Rattle.std.proofs.Common.{◌≡◌, false, ◌&&◌, List, [], ◌∷◌, ◌++◌, refl, ap}
-use Rattle.template_tree.specs.NodePlaces.{parts_more}
-use Rattle.template_tree.specs.Tree.{Statement, raw, Statements, statements_more}
-use Rattle.template_tree_statements.specs.View.{statement_of}
-use Rattle.template_tree.specs.declared.span.Spanned.{Spanned}
-use Rattle.template_tree_statements.specs.declared.statements.EmitRaw.{EmitRaw as Text}
-use Rattle.template_tree_statements.specs.declared.statements.CallBlock.{CallBlock' as called}
-use Rattle.template_tree_statements.specs.declared.statements.Stmt.{Stmt, EmitRaw, CallBlock'}
+use Rattle.template_compiler_tree.specs.NodePlaces.{parts_more}
+use Rattle.template_compiler_tree.specs.Tree.{Statement, raw, Statements, statements_more}
+use Rattle.template_compiler_tree_statements.specs.View.{statement_of}
+use Rattle.template_compiler_tree.specs.declared.span.Spanned.{Spanned}
+use Rattle.template_compiler_tree_statements.specs.declared.statements.EmitRaw.{EmitRaw as Text}
+use Rattle.template_compiler_tree_statements.specs.declared.statements.CallBlock.{CallBlock' as called}
+use Rattle.template_compiler_tree_statements.specs.declared.statements.Stmt.{Stmt, EmitRaw, CallBlock'}
 use Rattle.template_compiler_grammar.specs.TemplateTrees.{is_blank}
 use Rattle.template_compiler_grammar.specs.Nodes.{placed}
 use Rattle.template_compiler_grammar.specs.TemplateNodes.{and_placed_statement}

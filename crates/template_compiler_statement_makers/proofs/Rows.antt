@@ -1,9 +1,9 @@
 -- The statements of a body are seen alike in its row and in its list.
 use Rattle.std.proofs.Common.{◌≡◌, refl, ap}
-use Rattle.template_tree.specs.NodePlaces.{Parts, no_parts, parts_more, and_parts}
-use Rattle.template_tree.specs.Tree.{statements_more}
-use Rattle.template_tree_statements.specs.View.{statement_of, statements_of}
-use Rattle.template_tree_statements.specs.declared.statements.Stmt.{Row_of-Stmt, end_of-Stmt, more_of-Stmt, items-the_row-Stmt}
+use Rattle.template_compiler_tree.specs.NodePlaces.{Parts, no_parts, parts_more, and_parts}
+use Rattle.template_compiler_tree.specs.Tree.{statements_more}
+use Rattle.template_compiler_tree_statements.specs.View.{statement_of, statements_of}
+use Rattle.template_compiler_tree_statements.specs.declared.statements.Stmt.{Row_of-Stmt, end_of-Stmt, more_of-Stmt, items-the_row-Stmt}
 use Rattle.template_compiler_grammar.specs.TreeStatements.{places_of_statements, statement_places, statements_places}
 use Rattle.template_compiler_statement_makers.specs.Listed.{statements_in}
 

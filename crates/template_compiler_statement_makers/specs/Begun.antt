@@ -1,12 +1,12 @@
 -- Nodes that have no body yet, and what macros declare, as contracts see them.
 use Rattle.std.specs.Prelude.{Bool}
 use Rattle.std.specs.Global.{Box}
-use Rattle.template_tree.specs.ExpressionPlaces.{places_in}
-use Rattle.template_tree.specs.View.{expressions_in}
-use Rattle.template_tree.specs.declared.span.Spanned.{Spanned}
-use Rattle.template_tree_statements.specs.declared.statements.ForLoop.{ForLoop}
-use Rattle.template_tree_statements.specs.declared.statements.Macro.{Macro}
-use Rattle.template_tree_statements.specs.declared.statements.SetBlock.{SetBlock}
+use Rattle.template_compiler_tree.specs.ExpressionPlaces.{places_in}
+use Rattle.template_compiler_tree.specs.View.{expressions_in}
+use Rattle.template_compiler_tree.specs.declared.span.Spanned.{Spanned}
+use Rattle.template_compiler_tree_statements.specs.declared.statements.ForLoop.{ForLoop}
+use Rattle.template_compiler_tree_statements.specs.declared.statements.Macro.{Macro}
+use Rattle.template_compiler_tree_statements.specs.declared.statements.SetBlock.{SetBlock}
 use Rattle.template_compiler_grammar.specs.Nodes.{Node, OptionalNode, placed}
 use Rattle.template_compiler_grammar.specs.TemplateNodes.{PlacedParameters}
 use Rattle.template_compiler_grammar.specs.Views.{node_of, optional_node_in}

@@ -1,6 +1,6 @@
 -- Texts of white space alone.
 use Rattle.std.specs.Prelude.{Bool, false}
-use Rattle.template_tree.specs.Tree.{Statement, raw}
+use Rattle.template_compiler_tree.specs.Tree.{Statement, raw}
 use Rattle.template_compiler_grammar.specs.TemplateTrees.{is_blank_text}
 
 abbrev pub is_blank_statement : Statement → Bool

@@ -1,12 +1,12 @@
 -- Conditions with their bodies, as contracts see them.
 use Rattle.std.specs.Prelude.{List, [], ◌∷◌}
 use Rattle.std.specs.Global.{Box}
-use Rattle.template_tree.specs.View.{expression_of}
-use Rattle.template_tree.specs.ExpressionPlaces.{places_of}
-use Rattle.template_tree.specs.NodePlaces.{Parts, parts_more}
-use Rattle.template_tree.specs.declared.span.Span.{Span}
-use Rattle.template_tree.specs.declared.span.Spanned.{Spanned}
-use Rattle.template_tree_statements.specs.declared.statements.IfCond.{IfCond}
+use Rattle.template_compiler_tree.specs.View.{expression_of}
+use Rattle.template_compiler_tree.specs.ExpressionPlaces.{places_of}
+use Rattle.template_compiler_tree.specs.NodePlaces.{Parts, parts_more}
+use Rattle.template_compiler_tree.specs.declared.span.Span.{Span}
+use Rattle.template_compiler_tree.specs.declared.span.Spanned.{Spanned}
+use Rattle.template_compiler_tree_statements.specs.declared.statements.IfCond.{IfCond}
 use Rattle.template_compiler_grammar.specs.TemplateTrees.{Branches, no_branches, branches_more}
 use Rattle.template_compiler_grammar.specs.Nodes.{placed}
 use Rattle.template_compiler_grammar.specs.TemplateNodes.{PlacedBranch, PlacedBranches}

@@ -1,8 +1,8 @@
 -- The trees in a list of statements, and those with their places.
 use Rattle.std.specs.Prelude.{List, [], ◌∷◌}
-use Rattle.template_tree.specs.Tree.{Statements, no_statements, statements_more}
-use Rattle.template_tree_statements.specs.View.{statement_of}
-use Rattle.template_tree_statements.specs.declared.statements.Stmt.{Stmt}
+use Rattle.template_compiler_tree.specs.Tree.{Statements, no_statements, statements_more}
+use Rattle.template_compiler_tree_statements.specs.View.{statement_of}
+use Rattle.template_compiler_tree_statements.specs.declared.statements.Stmt.{Stmt}
 use Rattle.template_compiler_grammar.specs.Nodes.{placed}
 use Rattle.template_compiler_grammar.specs.TemplateNodes.{PlacedStatements}
 use Rattle.template_compiler_grammar.specs.TreeStatements.{places_of_statements}

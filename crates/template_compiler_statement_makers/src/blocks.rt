@@ -2,10 +2,10 @@
 ghost use Rattle.std.specs.Prelude.{◌≡◌};
 ghost use Rattle.template_compiler_statement_makers.specs.Blank.{is_blank_statement};
 ghost use Rattle.template_compiler_grammar.specs.TemplateTrees.{is_blank};
-ghost use Rattle.template_tree_statements.specs.View.{statement_of};
+ghost use Rattle.template_compiler_tree_statements.specs.View.{statement_of};
 ghost use Rattle.template_compiler_statement_makers.specs.Listed.{statements_in};
 
-use template_tree_statements::Stmt;
+use template_compiler_tree_statements::Stmt;
 
 /// Whether statements are texts of white space alone. Linear.
 #[tactic(auto, using(crate::proofs::Lists::blank_more))]

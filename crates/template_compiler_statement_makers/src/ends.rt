@@ -6,13 +6,13 @@ ghost use Rattle.template_compiler_grammar.specs.Views.{node_of, statement_node_
 ghost use Rattle.template_compiler_statement_makers.specs.Begun.{loop_head, set_block_of};
 ghost use Rattle.template_compiler_statement_makers.specs.Branches.{branch_in, branches_in};
 ghost use Rattle.template_compiler_statement_makers.specs.Listed.{statement_nodes_in};
-ghost use Rattle.template_tree_statements.specs.declared.statements.Stmt.TheVariants as statements;
+ghost use Rattle.template_compiler_tree_statements.specs.declared.statements.Stmt.TheVariants as statements;
 
 use crate::makers;
 use std::alloc::{AllocError, Global};
 use template_compiler_stream::until;
-use template_tree::{Span, Spanned};
-use template_tree_statements::{AutoEscape, FilterBlock, ForLoop, IfCond, SetBlock, Stmt};
+use template_compiler_tree::{Span, Spanned};
+use template_compiler_tree_statements::{AutoEscape, FilterBlock, ForLoop, IfCond, SetBlock, Stmt};
 
 /// A loop that has its bodies, up to where it ends.
 #[inline(always)]

@@ -6,14 +6,14 @@ ghost use Rattle.template_compiler_grammar.specs.Views.{placed_assignments_in, s
 ghost use Rattle.template_compiler_statement_makers.specs.Begun.{declared_in};
 ghost use Rattle.template_compiler_statement_makers.specs.Branches.{branch_in};
 ghost use Rattle.template_compiler_statement_makers.specs.Listed.{statement_nodes_in};
-ghost use Rattle.template_tree.specs.CallView.{call_places};
-ghost use Rattle.template_tree.specs.View.{arguments_in, expression_of};
-ghost use Rattle.template_tree_statements.specs.declared.statements.Stmt.TheVariants as statements;
+ghost use Rattle.template_compiler_tree.specs.CallView.{call_places};
+ghost use Rattle.template_compiler_tree.specs.View.{arguments_in, expression_of};
+ghost use Rattle.template_compiler_tree_statements.specs.declared.statements.Stmt.TheVariants as statements;
 
 use crate::ends::put;
 use std::alloc::{AllocError, Global};
-use template_tree::{Call, Expr, Span, Spanned};
-use template_tree_statements::{Block, CallBlock, IfCond, Macro, Stmt, WithBlock};
+use template_compiler_tree::{Call, Expr, Span, Spanned};
+use template_compiler_tree_statements::{Block, CallBlock, IfCond, Macro, Stmt, WithBlock};
 
 /// `{% if expr %}true_body{% else %}false_body{% endif %}`: a condition with its body gets what stands for the other case.
 #[tactic(auto, using(crate::proofs::Rows::nodes_row))]

@@ -1,6 +1,6 @@
 -- What is one level deeper is read with one level less.
 use Rattle.std.proofs.Common.{◌≡◌, ℕ, suc, List, ap}
-use Rattle.template_tree.specs.declared.span.Span.{Span}
+use Rattle.template_compiler_tree.specs.declared.span.Span.{Span}
 use Rattle.template_compiler_tokens.specs.Token.{Token}
 use Rattle.template_compiler_grammar.specs.TemplateGrammar.{Around}
 use Rattle.template_compiler_grammar.specs.TemplateReader.{here, deeper_body, statements_at}

@@ -1,7 +1,7 @@
 -- What is made of a head and of what is read behind it, and when that is refused.
 use Rattle.std.proofs.Common.{◌≡◌, ℕ, Bool, true, false, codes, List, [], Result, Ok, Err, refl, sym, ap, ◌∙◌}
-use Rattle.template_tree.specs.NodePlaces.{parts_more}
-use Rattle.template_tree.specs.declared.span.Span.{Span}
+use Rattle.template_compiler_tree.specs.NodePlaces.{parts_more}
+use Rattle.template_compiler_tree.specs.declared.span.Span.{Span}
 use Rattle.template_compiler_tokens.specs.Token.{Token}
 use Rattle.template_compiler_tokens.specs.Steps.{Read, and_then, all}
 use Rattle.template_compiler_tokens.proofs.Loops.{all_stops, then_goes, then_fails}
@@ -16,7 +16,7 @@ use Rattle.template_compiler_grammar.specs.TemplateNodes.{PlacedBranch, PlacedBr
 use Rattle.template_compiler_grammar.specs.TemplateReader.{Here, body_by, branch_by, branch_step, else_by, for_by, if_by, set_by}
 use Rattle.template_compiler_statement_heads.specs.DeclarationHeads.{set_head, set_over, set_rest, set_whole}
 use Rattle.template_compiler_statement_heads.specs.Heads.{expression_head, for_head, for_rest}
-use Rattle.template_tree_statements.specs.declared.statements.Stmt.{Stmt}
+use Rattle.template_compiler_tree_statements.specs.declared.statements.Stmt.{Stmt}
 use Rattle.template_compiler_stream.specs.Left.{passed}
 use Rattle.template_compiler_statement_makers.specs.Listed.{statement_nodes_in}
 use Rattle.template_compiler_statement_parts.specs.Parsed.{ParsedAs, ParsedInto, passing}

@@ -1,8 +1,8 @@
 -- What is read by what stands next.
 use Rattle.std.proofs.Common.{◌≡◌, ℕ, ◌≤◌, true, false, if◌then◌else◌, List, [], ◌∷◌, length, None, Some, Ok, Err, codes, refl, sym, ap, ◌∙◌, arith}
-use Rattle.template_tree.specs.Tree.{raw}
-use Rattle.template_tree.specs.NodePlaces.{no_parts}
-use Rattle.template_tree.specs.declared.span.Span.{Span}
+use Rattle.template_compiler_tree.specs.Tree.{raw}
+use Rattle.template_compiler_tree.specs.NodePlaces.{no_parts}
+use Rattle.template_compiler_tree.specs.declared.span.Span.{Span}
 use Rattle.template_compiler_tokens.specs.Places.{next_span, token_count}
 use Rattle.template_compiler_tokens.specs.Token.{Token, template_data, variable_start, block_start, identifier}
 use Rattle.template_compiler_tokens.specs.Steps.{and_then, fault, goes, stops, under}

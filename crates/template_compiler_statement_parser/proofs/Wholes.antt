@@ -1,9 +1,9 @@
 -- A statement is its head, and what is read behind it.
 use Rattle.std.proofs.Common.{◌≡◌, ℕ, Bool, true, false, if◌then◌else◌, codes, List, ◌∷◌, Option, None, Some, Ok, Err, refl, ◌∙◌}
-use Rattle.template_tree.specs.Tree.{Expression, Arguments}
-use Rattle.template_tree.specs.Kinds.{call_parts}
-use Rattle.template_tree.specs.NodePlaces.{Places, parts_more}
-use Rattle.template_tree.specs.declared.span.Span.{Span}
+use Rattle.template_compiler_tree.specs.Tree.{Expression, Arguments}
+use Rattle.template_compiler_tree.specs.Kinds.{call_parts}
+use Rattle.template_compiler_tree.specs.NodePlaces.{Places, parts_more}
+use Rattle.template_compiler_tree.specs.declared.span.Span.{Span}
 use Rattle.template_compiler_tokens.specs.Places.{next_span}
 use Rattle.template_compiler_tokens.specs.Token.{Token, bad_syntax, block_end, identifier, symbol, paren_open}
 use Rattle.template_compiler_tokens.specs.Steps.{Read, and_then}

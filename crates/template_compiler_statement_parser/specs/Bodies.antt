@@ -1,10 +1,10 @@
 -- Bodies and statements, as contracts see them.
 use Rattle.std.specs.Prelude.{◌≡◌, codes, List, Result, Ok, Err}
 use Rattle.std.specs.Global.{Vec}
-use Rattle.template_tree_statements.specs.declared.statements.Stmt.{Stmt}
+use Rattle.template_compiler_tree_statements.specs.declared.statements.Stmt.{Stmt}
 use Rattle.template_compiler_tokens.specs.Token.{Token}
 use Rattle.template_compiler_tokens.specs.Steps.{Read, Step, goes, under, and_then, all}
-use Rattle.template_tree.specs.declared.span.Span.{Span}
+use Rattle.template_compiler_tree.specs.declared.span.Span.{Span}
 use Rattle.template_compiler_grammar.specs.TemplateGrammar.{Around}
 use Rattle.template_compiler_grammar.specs.TemplateNodes.{PlacedBranch, PlacedStatement, PlacedStatements, and_placed_statement, if_node, no_placed_branches}
 use Rattle.template_compiler_grammar.specs.Reader.{up_to}

@@ -8,9 +8,9 @@ ghost use Rattle.template_compiler_statement_makers.specs.Surroundings.{around_o
 ghost use Rattle.template_compiler_statement_parser.specs.Bodies.{PutBehind};
 ghost use Rattle.template_compiler_statement_parser.specs.Kinds.{leaf_opening};
 ghost use Rattle.template_compiler_stream.specs.declared.refusal.Refusal.TheVariants as refusals;
-ghost use Rattle.template_tree.specs.NodePlaces.{no_parts};
-ghost use Rattle.template_tree.specs.Tree.{raw};
-ghost use Rattle.template_tree_statements.specs.declared.statements.Stmt.TheVariants as variants;
+ghost use Rattle.template_compiler_tree.specs.NodePlaces.{no_parts};
+ghost use Rattle.template_compiler_tree.specs.Tree.{raw};
+ghost use Rattle.template_compiler_tree_statements.specs.declared.statements.Stmt.TheVariants as variants;
 
 use crate::kinds::{Leaf, read_leaf};
 use std::alloc::Global;
@@ -18,8 +18,8 @@ use template_compiler_statement_heads::read_print;
 use template_compiler_statement_makers::Around;
 use template_compiler_statement_parts::{ReadsExpressions, put};
 use template_compiler_stream::{Refusal, TokenStream};
-use template_tree::{Span, Spanned};
-use template_tree_statements::{EmitRaw, ForLoop, IfCond, Stmt};
+use template_compiler_tree::{Span, Spanned};
+use template_compiler_tree_statements::{EmitRaw, ForLoop, IfCond, Stmt};
 
 /// A text.
 #[inline(always)]

@@ -10,8 +10,8 @@ use template_compiler_statement_heads as leaves;
 use template_compiler_statement_makers::{Around, Opening};
 use template_compiler_statement_parts::ReadsExpressions;
 use template_compiler_stream::{Refusal, TokenStream};
-use template_tree::Span;
-use template_tree_statements::Stmt;
+use template_compiler_tree::Span;
+use template_compiler_tree_statements::Stmt;
 
 /// A statement without a body, by the word that begins it.
 #[derive(Clone, Copy)]

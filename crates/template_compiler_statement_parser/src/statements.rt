@@ -14,7 +14,7 @@ ghost use Rattle.template_compiler_grammar.specs.TemplateReaderParts.{expect_tag
 ghost use Rattle.template_compiler_grammar.specs.TemplateNodes.{no_placed_branches};
 ghost use Rattle.template_compiler_grammar.specs.TemplateReader.{autoescape_by, block_by, branch_by, branch_step, call_by, deeper_body, else_by, filter_block_by, for_by, here, if_by, macro_by, opened_by, opened_step, set_by, statement_step, statements_at, with_by};
 ghost use Rattle.template_compiler_grammar.specs.Views.{statement_node_of};
-ghost use Rattle.template_tree_statements.specs.declared.statements.Stmt.TheVariants as statements;
+ghost use Rattle.template_compiler_tree_statements.specs.declared.statements.Stmt.TheVariants as statements;
 ghost use Rattle.template_compiler_statement_makers.specs.Listed.{statement_nodes_in};
 
 use crate::behind::{put_condition, put_leaf, put_loop, put_print, put_text};
@@ -27,8 +27,8 @@ use template_compiler_statement_makers::{Around, Opening, ends, makers, opening_
 use template_compiler_statement_parts as parts;
 use template_compiler_statement_parts::ReadsExpressions;
 use template_compiler_stream::{Fault, Refusal, TokenStream};
-use template_tree::{Span, Spanned};
-use template_tree_statements::{
+use template_compiler_tree::{Span, Spanned};
+use template_compiler_tree_statements::{
     AutoEscape, Block, CallBlock, FilterBlock, ForLoop, IfCond, Macro, SetBlock, Stmt, WithBlock,
 };
 

@@ -1,6 +1,6 @@
 -- A target, a sign and a value are an assignment.
 use Rattle.std.proofs.Common.{◌≡◌, ◌∙◌, sym, subst, ℕ, false, List, Result, Ok, Err, OnOk, IfErr, ap}
-use Rattle.template_tree.specs.declared.span.Span.{Span}
+use Rattle.template_compiler_tree.specs.declared.span.Span.{Span}
 use Rattle.template_compiler_tokens.specs.Token.{Token}
 use Rattle.template_compiler_tokens.specs.Steps.{Read, and_then}
 use Rattle.template_compiler_stream.specs.Refusals.{Refused}

@@ -1,11 +1,11 @@
 -- What is read behind an expression that is a call, and behind another one.
 use Rattle.std.proofs.Common.{◌≡◌, List, Option, None, Some, Err, sym, ap}
 use Rattle.std.specs.Global.{Box}
-use Rattle.template_tree.specs.Tree.{Expression, Arguments}
-use Rattle.template_tree.specs.View.{expression_of, arguments_in}
-use Rattle.template_tree.specs.CallView.{call_in}
-use Rattle.template_tree.specs.declared.calls.Call.{Call}
-use Rattle.template_tree.specs.declared.span.Spanned.{Spanned}
+use Rattle.template_compiler_tree.specs.Tree.{Expression, Arguments}
+use Rattle.template_compiler_tree.specs.View.{expression_of, arguments_in}
+use Rattle.template_compiler_tree.specs.CallView.{call_in}
+use Rattle.template_compiler_tree.specs.declared.calls.Call.{Call}
+use Rattle.template_compiler_tree.specs.declared.span.Spanned.{Spanned}
 use Rattle.template_compiler_tokens.specs.Token.{Token, bad_syntax}
 use Rattle.template_compiler_tokens.specs.Steps.{Read}
 use Rattle.template_compiler_grammar.specs.TemplateReaderParts.{only_call}

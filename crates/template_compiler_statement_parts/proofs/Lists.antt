@@ -1,15 +1,15 @@
 -- Lists with one more at the end.
 use Rattle.std.proofs.Common.{◌≡◌, List, [], ◌∷◌, Ok, Err, refl, sym, ap, ◌∙◌, length}
 use Rattle.std.specs.Prelude.{Result, IfOk}
-use Rattle.template_tree.specs.ExpressionPlaces.{places_of, places_in}
-use Rattle.template_tree.specs.NodePlaces.{at}
-use Rattle.template_tree.specs.declared.span.Span.{Span}
+use Rattle.template_compiler_tree.specs.ExpressionPlaces.{places_of, places_in}
+use Rattle.template_compiler_tree.specs.NodePlaces.{at}
+use Rattle.template_compiler_tree.specs.declared.span.Span.{Span}
 use Rattle.template_compiler_grammar.specs.Nodes.{placed}
 use Rattle.template_compiler_grammar.specs.TemplateNodes.{unpacked_node}
 use Rattle.template_compiler_grammar.specs.Views.{node_of, nodes_in}
-use Rattle.template_tree.specs.Tree.{list_literal}
-use Rattle.template_tree.specs.View.{expression_of, expressions_in}
-use Rattle.template_tree.specs.declared.expressions.Expr.{Expr}
+use Rattle.template_compiler_tree.specs.Tree.{list_literal}
+use Rattle.template_compiler_tree.specs.View.{expression_of, expressions_in}
+use Rattle.template_compiler_tree.specs.declared.expressions.Expr.{Expr}
 
 -- several are put together, one is itself
 pub several_unpacked : (xs : List Expr) (span : Span) → (length xs ≡ 1 → ⊥) →

@@ -1,11 +1,11 @@
 -- Names, targets and imported names with their places, by what stands next.
 use Rattle.std.proofs.Common.{◌≡◌, ℕ, suc, Bool, true, false, if◌then◌else◌, List, [], ◌∷◌, None, Some, Ok, Err, codes, refl, sym, ap, ◌∙◌}
-use Rattle.template_tree.specs.Tree.{variable, attribute}
-use Rattle.template_tree.specs.View.{expression_of}
-use Rattle.template_tree.specs.ExpressionPlaces.{places_of}
-use Rattle.template_tree.specs.NodePlaces.{at, no_parts, one}
-use Rattle.template_tree.specs.declared.expressions.Expr.{Expr}
-use Rattle.template_tree.specs.declared.span.Span.{Span}
+use Rattle.template_compiler_tree.specs.Tree.{variable, attribute}
+use Rattle.template_compiler_tree.specs.View.{expression_of}
+use Rattle.template_compiler_tree.specs.ExpressionPlaces.{places_of}
+use Rattle.template_compiler_tree.specs.NodePlaces.{at, no_parts, one}
+use Rattle.template_compiler_tree.specs.declared.expressions.Expr.{Expr}
+use Rattle.template_compiler_tree.specs.declared.span.Span.{Span}
 use Rattle.template_compiler_tokens.specs.Places.{next_span}
 use Rattle.template_compiler_tokens.specs.Token.{Token, bad_syntax, comma, dot, paren_open, identifier, symbol}
 use Rattle.template_compiler_tokens.specs.Steps.{Read, fault, and_then, goes, stops, all}

@@ -1,16 +1,16 @@
 -- Lists that hold nothing, and those that hold several.
 use Rattle.std.proofs.Common.{◌≡◌, List, [], ◌∷◌, length, ◌==◌, Ok, Err, refl, sym, ap, ◌∙◌, arith}
 use Rattle.std.specs.Prelude.{Result, IfOk}
-use Rattle.template_tree.specs.Tree.{tuple_literal}
-use Rattle.template_tree.specs.ExpressionPlaces.{places_of, places_in}
-use Rattle.template_tree.specs.NodePlaces.{at}
-use Rattle.template_tree.specs.declared.span.Span.{Span}
+use Rattle.template_compiler_tree.specs.Tree.{tuple_literal}
+use Rattle.template_compiler_tree.specs.ExpressionPlaces.{places_of, places_in}
+use Rattle.template_compiler_tree.specs.NodePlaces.{at}
+use Rattle.template_compiler_tree.specs.declared.span.Span.{Span}
 use Rattle.template_compiler_grammar.specs.Nodes.{placed}
 use Rattle.template_compiler_grammar.specs.TemplateNodes.{together_node}
 use Rattle.template_compiler_grammar.specs.Views.{node_of, nodes_in}
 use Rattle.std.proofs.lemmas.Bool.Decides.{nat_tests}
-use Rattle.template_tree.specs.View.{expression_of, expressions_in}
-use Rattle.template_tree.specs.declared.expressions.Expr.{Expr}
+use Rattle.template_compiler_tree.specs.View.{expression_of, expressions_in}
+use Rattle.template_compiler_tree.specs.declared.expressions.Expr.{Expr}
 use Rattle.template_compiler_grammar.specs.TemplateReaderParts.{is_nothing}
 
 pub nothing_in : (es : List Expr) → is_nothing (expressions_in es) ≡ (length es == 0)

@@ -1,6 +1,6 @@
 -- Values, assignments and parameters with their places, by what stands next.
 use Rattle.std.proofs.Common.{◌≡◌, ℕ, suc, false, true, if◌then◌else◌, List, [], ◌∷◌, Ok, Err, codes, refl, ap}
-use Rattle.template_tree.specs.declared.span.Span.{Span}
+use Rattle.template_compiler_tree.specs.declared.span.Span.{Span}
 use Rattle.template_compiler_tokens.specs.Token.{Token, bad_syntax, assign, block_end, paren_close, paren_open, symbol}
 use Rattle.template_compiler_tokens.specs.Steps.{Read, and_then, all}
 use Rattle.template_compiler_grammar.specs.TemplateReaderParts.{is_nothing, more_step}

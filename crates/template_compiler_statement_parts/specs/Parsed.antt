@@ -1,13 +1,13 @@
 -- What a function of the parser answers, against what the reader reads.
 use Rattle.std.specs.Prelude.{◌≡◌, ℕ, Bool, true, false, List, ◌∷◌, Option, None, Some, Result, Ok, Err}
 use Rattle.std.specs.Borrow.{Bor}
-use Rattle.template_tree.specs.declared.expressions.Expr.{Expr}
+use Rattle.template_compiler_tree.specs.declared.expressions.Expr.{Expr}
 use Rattle.template_compiler_tokens.specs.Token.{Token, symbol, dot, identifier}
 use Rattle.template_compiler_tokens.specs.Steps.{Read, Step, goes, stops, fails}
 use Rattle.template_compiler_stream.specs.Refusals.{Refused, fault_of}
 use Rattle.template_compiler_stream.specs.declared.refusal.Refusal.{Refusal}
 use Rattle.template_compiler_stream.specs.declared.refusal.Refusal.TheVariants as refusals
-use Rattle.template_tree.specs.declared.span.Span.{Span}
+use Rattle.template_compiler_tree.specs.declared.span.Span.{Span}
 use Rattle.template_compiler_grammar.specs.Nodes.{Node}
 use Rattle.template_compiler_grammar.specs.TemplateReader.{path_step}
 use Rattle.template_compiler_grammar.specs.Views.{node_of}

@@ -1,6 +1,6 @@
 -- The arguments of a macro, as contracts see them.
-use Rattle.template_tree.specs.View.{expressions_in}
-use Rattle.template_tree.specs.ExpressionPlaces.{places_in}
+use Rattle.template_compiler_tree.specs.View.{expressions_in}
+use Rattle.template_compiler_tree.specs.ExpressionPlaces.{places_in}
 use Rattle.template_compiler_grammar.specs.TemplateTrees.{Parameters as Declared}
 use Rattle.template_compiler_grammar.specs.Nodes.{placed}
 use Rattle.template_compiler_grammar.specs.TemplateNodes.{PlacedParameters}

@@ -6,7 +6,7 @@ ghost use Rattle.template_compiler_statement_parts.specs.Parsed.{ParsedAs};
 
 use std::alloc::Global;
 use template_compiler_stream::{Refusal, TokenStream};
-use template_tree::Expr;
+use template_compiler_tree::Expr;
 
 /// A parser of expressions, as far as that of statements knows it, so that each stands without the other. Each function takes
 /// the nesting levels that are left, and takes the tokens of what it reads off the stream. It refuses with the fault of the

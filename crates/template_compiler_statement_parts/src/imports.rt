@@ -11,7 +11,7 @@ use crate::growth::put;
 use crate::names::read_stored;
 use std::alloc::Global;
 use template_compiler_stream::{Refusal, Sign, TokenStream};
-use template_tree::Expr;
+use template_compiler_tree::Expr;
 
 /// Reads the names that are imported, each perhaps with an alias.
 ///

@@ -5,7 +5,7 @@ ghost use Rattle.template_compiler_grammar.specs.TemplateReader.{stored_by};
 ghost use Rattle.template_compiler_grammar.specs.TemplateWords.{is_reserved};
 
 use template_compiler_stream::{Fault, Refusal, TokenStream};
-use template_tree::Expr;
+use template_compiler_tree::Expr;
 
 /// Whether the word is no name of a target, a macro, an argument or an alias.
 pub fn is_reserved(name: &str) -> bool

@@ -12,7 +12,7 @@ use crate::expressions::ReadsExpressions;
 use crate::{expect_paren_end, put, read_stored};
 use std::alloc::Global;
 use template_compiler_stream::{Fault, Refusal, Sign, TokenStream};
-use template_tree::Expr;
+use template_compiler_tree::Expr;
 
 /// Arguments, and the defaults of the last of them.
 #[derive(Drop)]

@@ -15,7 +15,7 @@ use crate::growth::put;
 use crate::names::read_stored;
 use std::alloc::{AllocError, Global};
 use template_compiler_stream::{Fault, Refusal, Sign, TokenStream};
-use template_tree::{Expr, Span};
+use template_compiler_tree::{Expr, Span};
 
 /// Reads a target; one of `set` may have dots, as an attribute of a namespace.
 ///

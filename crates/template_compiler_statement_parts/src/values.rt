@@ -12,7 +12,7 @@ use crate::expressions::ReadsExpressions;
 use crate::{expect_assign, put, read_target};
 use std::alloc::{AllocError, Global};
 use template_compiler_stream::{Refusal, Sign, TokenStream};
-use template_tree::{Expr, Span};
+use template_compiler_tree::{Expr, Span};
 
 /// Reads an expression, or several with commas between them, which are a tuple.
 ///

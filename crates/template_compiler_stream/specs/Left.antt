@@ -1,7 +1,7 @@
 -- The tokens that are left in a stream, which holds them all.
 use Rattle.std.specs.Prelude.{◌≡◌, ℕ, List, [], ◌∷◌, ◌++◌, map, drop, Option, None, Some}
 use Rattle.std.specs.Borrow.{Bor}
-use Rattle.template_tree.specs.declared.span.Span.{Span}
+use Rattle.template_compiler_tree.specs.declared.span.Span.{Span}
 use Rattle.template_compiler_tokens.specs.Token as token
 use Rattle.template_compiler_tokens.specs.Token.{bad}
 use Rattle.template_compiler_tokens.specs.View.{token_of}

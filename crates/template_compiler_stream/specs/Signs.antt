@@ -2,8 +2,8 @@
 use Rattle.std.specs.Prelude.{ℕ, ◌^◌, Bool, true, false, ◌==◌, ◌&&◌, not, nat_lt, if◌then◌else◌, codes, bytes_eq, List, [], ◌∷◌, Option, None, Some}
 use Rattle.template_compiler_tokens.specs.Token as token
 use Rattle.template_compiler_tokens.specs.Token.{Symbol, symbol, identifier, number, variable_end, block_end}
-use Rattle.template_tree.specs.declared.operators.BinOpKind.{BinOpKind}
-use Rattle.template_tree.specs.declared.operators.CompareOpKind.{CompareOpKind}
+use Rattle.template_compiler_tree.specs.declared.operators.BinOpKind.{BinOpKind}
+use Rattle.template_compiler_tree.specs.declared.operators.CompareOpKind.{CompareOpKind}
 use Rattle.template_compiler_grammar.specs.Words as words
 use Rattle.template_compiler_stream.specs.declared.sign.Level.{Level}
 use Rattle.template_compiler_stream.specs.declared.sign.Level.TheVariants.{Factors, Texts, Terms, Conjunction, Disjunction}

@@ -1,6 +1,6 @@
 -- Where the tokens of a stream stand.
 use Rattle.std.specs.Prelude.{◌≡◌, ℕ, List, map, Option}
-use Rattle.template_tree.specs.declared.span.Span.{Span}
+use Rattle.template_compiler_tree.specs.declared.span.Span.{Span}
 use Rattle.template_compiler_tokens.specs.Token as token
 use Rattle.template_compiler_tokens.specs.declared.token.Token as scanned
 use Rattle.template_compiler_stream.specs.Left.{left_in}

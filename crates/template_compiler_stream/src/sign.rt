@@ -7,7 +7,7 @@ ghost use Rattle.template_compiler_grammar.specs.ReaderParts.{is_closing, is_bou
 ghost use Rattle.template_compiler_tokens.specs.View.{token_of};
 
 use template_compiler_tokens::Token;
-use template_tree::{BinOpKind, CompareOpKind};
+use template_compiler_tree::{BinOpKind, CompareOpKind};
 
 /// A sign or a bracket.
 #[derive(Clone, Copy)]

@@ -23,7 +23,7 @@ use std::alloc::AllocError;
 use std::marker::Model;
 use std::mem;
 use template_compiler_tokens::Token;
-use template_tree::{BinOpKind, CompareOpKind, Span};
+use template_compiler_tree::{BinOpKind, CompareOpKind, Span};
 
 /// The next token, as it was taken.
 #[derive(Drop)]

@@ -2,7 +2,7 @@
 use Rattle.std.proofs.Common.{◌≡◌, ℕ, ◌≤◌, inl, List, [], ◌∷◌, ◌++◌, length, take, Result, Ok, Err, sym, ◌∙◌, ap, arith, append_assoc}
 use Rattle.template_values_errors.specs.declared.ErrorKind.{ErrorKind}
 use Rattle.template_values_errors.specs.declared.ErrorKind.TheVariants.{OutOfMemory}
-use Rattle.template_tree.specs.declared.span.Span.{Span}
+use Rattle.template_compiler_tree.specs.declared.span.Span.{Span}
 use Rattle.template_compiler_tokens.specs.SourcePlaces.{span_between}
 use Rattle.template_compiler_tokens.specs.Stretches.{BeginsBy}
 use Rattle.template_compiler_tokens.specs.declared.stretch.Stretch.{Stretch}

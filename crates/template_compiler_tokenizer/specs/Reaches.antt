@@ -5,7 +5,7 @@ use Rattle.std.specs.Prelude.{false, slice_index}
 use Rattle.std.specs.Str.{IsCharBoundary}
 use Rattle.template_values_errors.specs.declared.ErrorKind.{ErrorKind}
 use Rattle.template_values_errors.specs.declared.ErrorKind.TheVariants.{OutOfMemory}
-use Rattle.template_tree.specs.declared.span.Span.{Span}
+use Rattle.template_compiler_tree.specs.declared.span.Span.{Span}
 use Rattle.template_compiler_tokens.specs.Stretches.{BeginsBy}
 use Rattle.template_compiler_tokens.specs.declared.stretch.Stretch.{Stretch}
 use Rattle.template_compiler_syntax.specs.Syntax.{Syntax}

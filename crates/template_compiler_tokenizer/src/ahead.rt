@@ -1,7 +1,7 @@
 //! What a stream of tokens has ahead.
 use crate::tokenizer::Tokenizer;
 use template_compiler_tokens::Token;
-use template_tree::Span;
+use template_compiler_tree::Span;
 use template_values_errors::ErrorKind;
 
 /// What stands ahead of a stream's place.

@@ -11,7 +11,7 @@ use std::alloc::Global;
 use template_compiler_placed_tokens::{Piece, SegmentEnd, Stage, next_piece};
 use template_compiler_syntax::{Edge, StartFinder, SyntaxConfig};
 use template_compiler_tokens::{Stretch, Token, next_span};
-use template_tree::Span;
+use template_compiler_tree::Span;
 use template_values_errors::ErrorKind;
 
 /// Where a reader stands in a source.

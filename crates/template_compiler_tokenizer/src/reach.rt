@@ -20,7 +20,7 @@ use template_compiler_syntax::{
     find_text,
 };
 use template_compiler_tokens::{Stretch, Token, next_span};
-use template_tree::Span;
+use template_compiler_tree::Span;
 use template_values_errors::ErrorKind;
 
 /// What a reader reached from a place in data on.

@@ -16,7 +16,7 @@ use template_compiler_placed_tokens::{
 use template_compiler_scanner::{scan_digit, scan_mark, scan_name, scan_token};
 use template_compiler_syntax::{Sign, StartMarker};
 use template_compiler_tokens::{Stretch, Token, next_span};
-use template_tree::Span;
+use template_compiler_tree::Span;
 use template_values_errors::ErrorKind;
 
 /// Where a reader stands inside a segment, with so many open brackets.

@@ -4,7 +4,7 @@ use crate::tokenizer::Tokenizer;
 use std::marker::Model;
 use std::mem;
 use template_compiler_tokens::{Token, Tokens};
-use template_tree::Span;
+use template_compiler_tree::Span;
 use template_values_errors::Error;
 
 /// The tokens of a template's source, with one token of look-ahead. From a refusal on it answers that kind.

@@ -7,7 +7,7 @@ use std::marker::Model;
 use template_compiler_placed_tokens::{Piece, Stage, next_piece};
 use template_compiler_syntax::{Edge, StartFinder, SyntaxConfig};
 use template_compiler_tokens::{Stretch, Token, span_in};
-use template_tree::Span;
+use template_compiler_tree::Span;
 use template_values_errors::{Error, ErrorKind};
 
 /// Whether a tokenizer reads on.

@@ -1,6 +1,6 @@
 -- The one span between two texts.
 use Rattle.std.proofs.Common.{◌≡◌, ℕ, List}
-use Rattle.template_tree.specs.declared.span.Span.{Span}
+use Rattle.template_compiler_tree.specs.declared.span.Span.{Span}
 use Rattle.template_compiler_tokens.specs.SourcePlaces.{IsBetween, span_between}
 
 abbrev span_of : ℕ → ℕ → ℕ → ℕ → ℕ → ℕ → Span

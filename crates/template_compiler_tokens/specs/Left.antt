@@ -3,7 +3,7 @@ use Rattle.std.specs.Prelude.{◌≡◌, ◌⊎◌, List, [], ◌∷◌, Option,
 use Rattle.std.specs.Borrow.{Bor}
 use Rattle.template_values_errors.specs.declared.ErrorKind.{ErrorKind}
 use Rattle.template_values_errors.specs.declared.ErrorKind.TheVariants.{SyntaxError, BadEscape, NoFloats, OutOfMemory}
-use Rattle.template_tree.specs.declared.span.Span.{Span}
+use Rattle.template_compiler_tree.specs.declared.span.Span.{Span}
 use Rattle.template_compiler_tokens.specs.Token as token
 use Rattle.template_compiler_tokens.specs.Token.{TokenFault, bad_syntax, bad_escape, float_literal, bad}
 use Rattle.template_compiler_tokens.specs.declared.token.Token.{Token}

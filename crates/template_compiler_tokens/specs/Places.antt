@@ -1,6 +1,6 @@
 -- Where tokens stand, by the spans of all of them: how many are left tells which one is next.
 use Rattle.std.specs.Prelude.{ℕ, zero, suc, ◌-◌, List, [], ◌∷◌, length, get_or}
-use Rattle.template_tree.specs.declared.span.Span.{Span}
+use Rattle.template_compiler_tree.specs.declared.span.Span.{Span}
 use Rattle.template_compiler_tokens.specs.Token.{Token, bad}
 
 -- how many tokens are left; what is none is not counted, and nothing follows it

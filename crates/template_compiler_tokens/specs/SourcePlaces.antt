@@ -1,7 +1,7 @@
 -- Where a place stands in a source. Lines and columns stop at 65535, offsets at 2^32 - 1.
 use Rattle.std.specs.Prelude.{◌≡◌, ℕ, ◌+◌, ◌-◌, ◌*◌, ◌/◌, ◌%◌, ◌^◌, min, List, length, fold, count_by}
 use Rattle.template_compiler_tokens.specs.Bytes.{is_newline, next_column}
-use Rattle.template_tree.specs.declared.span.Span.{Span}
+use Rattle.template_compiler_tree.specs.declared.span.Span.{Span}
 use Rattle.template_compiler_tokens.specs.declared.place.Place.{Place}
 
 -- a line is one more than the newlines before the place

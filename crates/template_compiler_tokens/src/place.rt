@@ -3,7 +3,7 @@ ghost use Rattle.std.specs.Prelude.{◌≡◌, ℕ, ◌+◌, ◌-◌, ◌^◌, �
 ghost use Rattle.template_compiler_tokens.specs.Bytes.{is_newline, begins_character, ArePlain};
 
 use crate::counts::{Counts, count};
-use template_tree::Span;
+use template_compiler_tree::Span;
 
 // What a column, an offset and a character of one byte count for in a place that is one number.
 const COLUMN: u64 = 1 << 16;

@@ -6,7 +6,7 @@ ghost use Rattle.template_compiler_tokens.specs.Stretches.{BeginsBy};
 
 use crate::place::{Place, is_plain};
 use memchr::memchr;
-use template_tree::Span;
+use template_compiler_tree::Span;
 
 // How many bytes a stretch has at most, so that few are searched again where it ends before them.
 const REACH: usize = 256;

@@ -4,7 +4,7 @@ ghost use Rattle.template_compiler_tokens.specs.Token as token;
 ghost use Rattle.template_compiler_tokens.specs.Left.{Shows, Takes};
 
 use crate::token::Token;
-use template_tree::Span;
+use template_compiler_tree::Span;
 use template_values_errors::Error;
 
 /// The tokens of a text from a place on, read one after another with one token of look-ahead.

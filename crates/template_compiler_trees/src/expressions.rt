@@ -2,7 +2,7 @@
 use crate::forms::{
     ABSENT, Form, UNKNOWN, binary_word, comparison_word, open, quoted, unary_word, word,
 };
-use template_tree::{
+use template_compiler_tree::{
     Call, CallArg, Compare, CompareOp, Expr, Filter, GetAttr, IfExpr, Map, Slice, Test,
 };
 use template_values_core::{Content, Value};

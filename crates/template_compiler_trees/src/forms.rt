@@ -1,6 +1,6 @@
 //! What all forms are made of: a head with its parts in parentheses, a list in brackets, words and texts.
 use std::alloc::{AllocError, Global};
-use template_tree::{BinOpKind, CompareOpKind, Span, UnaryOpKind};
+use template_compiler_tree::{BinOpKind, CompareOpKind, Span, UnaryOpKind};
 use template_values_errors::{Error, ErrorKind};
 
 /// A form as far as it is written. What is refused on the way is kept, so that what writes need not ask.

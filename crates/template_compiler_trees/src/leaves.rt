@@ -1,8 +1,8 @@
 //! The forms of statements without a body, and of what stands in the heads of the others.
 use crate::expressions::{call, entry, expression, optional, pair, part, single};
 use crate::forms::{Form, UNKNOWN, open, quoted, word_if};
-use template_tree::{Call, Expr, Spanned};
-use template_tree_statements::{Do, FromImport, Include, Stmt};
+use template_compiler_tree::{Call, Expr, Spanned};
+use template_compiler_tree_statements::{Do, FromImport, Include, Stmt};
 
 /// A statement without a body.
 pub(crate) fn leaf(stmt: &Stmt, out: &mut Form, left: u32) {

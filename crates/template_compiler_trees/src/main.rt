@@ -46,8 +46,8 @@ use std::alloc::Global;
 use std::io;
 use template_compiler_sources::Parser;
 use template_compiler_syntax::SyntaxConfig;
-use template_tree::Expr;
-use template_tree_statements::Stmt;
+use template_compiler_tree::Expr;
+use template_compiler_tree_statements::Stmt;
 use template_values_errors::{Error, ErrorKind};
 
 // How many levels of a tree are printed; a deeper one is told as `TooLarge`.

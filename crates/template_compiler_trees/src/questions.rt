@@ -1,7 +1,7 @@
 //! What is asked of trees besides their forms.
 use crate::forms::{ABSENT, Form, word};
-use template_tree::{CallType, Expr};
-use template_tree_statements::Stmt;
+use template_compiler_tree::{CallType, Expr};
+use template_compiler_tree_statements::Stmt;
 
 /// How many statements a template has.
 pub(crate) fn statement_count(tree: &Stmt<'_>, out: &mut Form) {

@@ -2,7 +2,7 @@
 use crate::expressions::{optional, part};
 use crate::forms::{Form, open, word, word_if};
 use crate::leaves::{assignments, leaf, open_call, parts};
-use template_tree_statements::{
+use template_compiler_tree_statements::{
     AutoEscape, Block, CallBlock, FilterBlock, ForLoop, IfCond, Macro, SetBlock, Stmt, WithBlock,
 };
 use template_values_errors::ErrorKind;

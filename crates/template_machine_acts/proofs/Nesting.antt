@@ -4,10 +4,10 @@ use Rattle.std.proofs.lemmas.List.{map-append}
 use Rattle.std.specs.Io.KnownBytes.{Appends}
 use Rattle.template_values_errors.specs.declared.ErrorKind.{ErrorKind}
 use Rattle.template_values_errors.specs.declared.ErrorKind.TheVariants.{OutOfFuel}
-use Rattle.template_process.specs.Process.{Counts, Ask, Answer, fails, breaks_off, Process}
-use Rattle.template_process.specs.Drive.{End, ends, faults, breaks, waits, mistaken, cuts, sticks}
-use Rattle.template_process.specs.Trace.{Item, paid, written, Run, run, replied, go_on, behind, ended, text_of, price_of}
-use Rattle.template_code.specs.Code.{Code}
+use Rattle.template_compiler_process.specs.Process.{Counts, Ask, Answer, fails, breaks_off, Process}
+use Rattle.template_compiler_process.specs.Drive.{End, ends, faults, breaks, waits, mistaken, cuts, sticks}
+use Rattle.template_compiler_process.specs.Trace.{Item, paid, written, Run, run, replied, go_on, behind, ended, text_of, price_of}
+use Rattle.template_compiler_code.specs.Code.{Code}
 use Rattle.template_machine_surroundings.specs.Writes.{AppendsBeginning}
 use Rattle.template_machine_meaning.specs.World.{World}
 use Rattle.template_machine_meaning.specs.Turnings.{Turning, turned}

@@ -1,10 +1,10 @@
 -- Blocks by what is planned for them.
 use Rattle.std.proofs.Common.{suc, [], ◌∷◌, if◌then◌else◌, refl, ap}
 use Rattle.std.proofs.KnownBytes.{Appends-nil}
-use Rattle.template_process.specs.Process as events
-use Rattle.template_process.specs.Process.{done, value}
-use Rattle.template_code.specs.Code.{single, fast_recurse, load_blocks, include}
-use Rattle.template_code.specs.Steps.{deed, giving, on_taken}
+use Rattle.template_compiler_process.specs.Process as events
+use Rattle.template_compiler_process.specs.Process.{done, value}
+use Rattle.template_compiler_code.specs.Code.{single, fast_recurse, load_blocks, include}
+use Rattle.template_compiler_code.specs.Steps.{deed, giving, on_taken}
 use Rattle.template_machine_meaning.specs.World.{World, looked_up}
 use Rattle.template_machine_meaning.specs.Calls.{call_plan}
 use Rattle.template_machine_meaning.specs.Functions.{name_called}

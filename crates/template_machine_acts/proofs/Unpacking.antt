@@ -3,10 +3,10 @@ use Rattle.std.proofs.Common.{◌≡◌, ℕ, suc, Bool, true, false, List, ◌�
 use Rattle.template_values_errors.specs.declared.ErrorKind.{ErrorKind}
 use Rattle.template_values_errors.specs.declared.ErrorKind.TheVariants.{CannotUnpack}
 use Rattle.template_values_model.specs.Val.{Val}
-use Rattle.template_process.specs.Process as events
-use Rattle.template_process.specs.Process.{Counts, Process, items, on_items, amiss}
-use Rattle.template_code.specs.Code.{Operand, single, unpack_list}
-use Rattle.template_code.specs.Steps.{deed}
+use Rattle.template_compiler_process.specs.Process as events
+use Rattle.template_compiler_process.specs.Process.{Counts, Process, items, on_items, amiss}
+use Rattle.template_compiler_code.specs.Code.{Operand, single, unpack_list}
+use Rattle.template_compiler_code.specs.Steps.{deed}
 use Rattle.template_machine_meaning.specs.World.{World}
 use Rattle.template_machine_meaning.specs.Replies.{replied_with}
 use Rattle.template_machine_meaning.specs.Surroundings.{Programs, unpacked_into, unpacked}

@@ -3,13 +3,13 @@ use Rattle.std.specs.Prelude.{◌≡◌, Bool, true, ℕ, suc, ◌≤◌, List, 
 use Rattle.std.specs.Io.KnownBytes.{Appends}
 use Rattle.template_values_errors.specs.declared.ErrorKind.{ErrorKind}
 use Rattle.template_values_model.specs.Val.{Val}
-use Rattle.template_walk.specs.Statements.{is_super_name}
-use Rattle.template_process.specs.Process as events
-use Rattle.template_process.specs.Process.{Counts, Ask, Answer, Process, done, value, tells, fails, on_done, on_value}
-use Rattle.template_process.specs.Drive.{ends}
-use Rattle.template_process.specs.Trace.{Item, Run, behind, ended, text_of, price_of}
-use Rattle.template_code.specs.Code.{Operand, single, Code, call_function, call_block, fast_super, fast_recurse, load_blocks, include}
-use Rattle.template_code.specs.Steps.{handed}
+use Rattle.template_compiler_walk.specs.Statements.{is_super_name}
+use Rattle.template_compiler_process.specs.Process as events
+use Rattle.template_compiler_process.specs.Process.{Counts, Ask, Answer, Process, done, value, tells, fails, on_done, on_value}
+use Rattle.template_compiler_process.specs.Drive.{ends}
+use Rattle.template_compiler_process.specs.Trace.{Item, Run, behind, ended, text_of, price_of}
+use Rattle.template_compiler_code.specs.Code.{Operand, single, Code, call_function, call_block, fast_super, fast_recurse, load_blocks, include}
+use Rattle.template_compiler_code.specs.Steps.{handed}
 use Rattle.template_machine_meaning.specs.World.{World}
 use Rattle.template_machine_meaning.specs.Replies.{told, changed}
 use Rattle.template_machine_meaning.specs.Plans.{Within, replies, caller_of, after_by}

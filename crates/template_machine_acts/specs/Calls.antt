@@ -1,10 +1,10 @@
 -- What comes of keyword arguments that are built and merged.
 use Rattle.std.specs.Prelude.{◌≡◌, ℕ, ◌*◌, List, [], Some}
 use Rattle.template_values_model.specs.Val.{Val}
-use Rattle.template_walk.specs.Containers.{kwargs_made}
-use Rattle.template_process.specs.Process.{Counts}
-use Rattle.template_code.specs.Code.{Operand, build_kwargs, merge_kwargs}
-use Rattle.template_code.specs.Steps.{taken, paired}
+use Rattle.template_compiler_walk.specs.Containers.{kwargs_made}
+use Rattle.template_compiler_process.specs.Process.{Counts}
+use Rattle.template_compiler_code.specs.Code.{Operand, build_kwargs, merge_kwargs}
+use Rattle.template_compiler_code.specs.Steps.{taken, paired}
 use Rattle.template_machine_meaning.specs.Records.{known_of}
 use Rattle.template_machine_meaning.specs.Replies.{kinded}
 use Rattle.template_machine_meaning.specs.Spreads.{merged_keywords}

@@ -3,10 +3,10 @@ use Rattle.std.specs.Prelude.{◌≡◌, ℕ, ◌≤◌, ◌++◌, List, Option,
 use Rattle.std.specs.Io.KnownBytes.{Appends}
 use Rattle.template_values_errors.specs.declared.ErrorKind.{ErrorKind}
 use Rattle.template_values_model.specs.Val.{Val}
-use Rattle.template_process.specs.Process.{Counts, Ask, Answer, Told, tells, fails, Process}
-use Rattle.template_process.specs.Drive.{ends}
-use Rattle.template_process.specs.Trace.{Item, Run, behind, ended, text_of, price_of}
-use Rattle.template_code.specs.Code.{Code}
+use Rattle.template_compiler_process.specs.Process.{Counts, Ask, Answer, Told, tells, fails, Process}
+use Rattle.template_compiler_process.specs.Drive.{ends}
+use Rattle.template_compiler_process.specs.Trace.{Item, Run, behind, ended, text_of, price_of}
+use Rattle.template_compiler_code.specs.Code.{Code}
 use Rattle.template_machine_meaning.specs.World.{World}
 use Rattle.template_machine_meaning.specs.Turnings.{turned}
 use Rattle.template_machine_meaning.specs.Plans.{Within, enters, caller_of, after_by, given}

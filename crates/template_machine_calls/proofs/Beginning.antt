@@ -7,7 +7,7 @@ use Rattle.template_values_forms.specs.Known.{Known}
 use Rattle.template_callables.specs.Callables.{View, Says}
 use Rattle.template_callables.specs.Callbacks.{AnswersUnder}
 use Rattle.template_callables.specs.declared.answer.Answer.{Answer}
-use Rattle.template_process.specs.Process.{fails}
+use Rattle.template_compiler_process.specs.Process.{fails}
 use Rattle.template_machine_meaning.specs.Calls.{called_plan}
 use Rattle.template_machine_meaning.specs.Functions as functions
 use Rattle.template_machine_meaning.specs.Functions.{gives, makes, compares, invokes, calls, runs_again, method_of, found_called, name_called, value_called, method_called}

@@ -5,8 +5,8 @@ use Rattle.template_values_errors.specs.declared.ErrorKind.TheVariants.{InvalidO
 use Rattle.template_values_errors.specs.Memory.{NoMemory}
 use Rattle.template_values_model.specs.Val.{Val}
 use Rattle.template_callables.specs.Callables.{Asked, call, filter, test, lookup, call_macro, block, Says}
-use Rattle.template_process.specs.Process.{fails}
-use Rattle.template_process.specs.Trace.{Reply}
+use Rattle.template_compiler_process.specs.Process.{fails}
+use Rattle.template_compiler_process.specs.Trace.{Reply}
 use Rattle.template_machine_meaning.specs.Turnings.{Turning, to_truth}
 use Rattle.template_machine_meaning.specs.Plans.{Plan, replies, with_turning}
 use Rattle.template_machine_meaning.specs.Calls.{view_of, said, unknown, tested, answered_by, further_plan, beyond}

@@ -16,8 +16,8 @@ use Rattle.template_callables.specs.Callbacks.{FormatsUnder}
 use Rattle.template_callables.specs.Formats.{Formats}
 use Rattle.template_callables.specs.declared.format.FormatAnswer.{FormatAnswer}
 use Rattle.template_callables.specs.declared.format.FormatAnswer.TheVariants as answers
-use Rattle.template_process.specs.Process.{fails}
-use Rattle.template_process.specs.Trace.{Reply}
+use Rattle.template_compiler_process.specs.Process.{fails}
+use Rattle.template_compiler_process.specs.Trace.{Reply}
 use Rattle.template_machine_meaning.specs.Calls.{view_of}
 use Rattle.template_machine_meaning.specs.Keys.{Around}
 use Rattle.template_machine_meaning.specs.Records.{known_of}

@@ -6,11 +6,11 @@ use Rattle.template_values_errors.specs.declared.ErrorKind.{ErrorKind}
 use Rattle.template_values_errors.specs.declared.ErrorKind.TheVariants.{OutOfMemory}
 use Rattle.template_values_errors.specs.Memory.{NoMemory}
 use Rattle.template_values_model.specs.Val.{Val}
-use Rattle.template_process.specs.Process.{Counts, Ask, Told, tells, fails, breaks_off, leaves, call_function, value, on_value, asks, over}
-use Rattle.template_process.specs.Trace.{Reply, run, replied}
-use Rattle.template_code.specs.Code.{Operand, single, Code}
-use Rattle.template_code.specs.Steps.{deed, giving, handed}
-use Rattle.template_walk.specs.Statements.{is_super_name}
+use Rattle.template_compiler_process.specs.Process.{Counts, Ask, Told, tells, fails, breaks_off, leaves, call_function, value, on_value, asks, over}
+use Rattle.template_compiler_process.specs.Trace.{Reply, run, replied}
+use Rattle.template_compiler_code.specs.Code.{Operand, single, Code}
+use Rattle.template_compiler_code.specs.Steps.{deed, giving, handed}
+use Rattle.template_compiler_walk.specs.Statements.{is_super_name}
 use Rattle.template_machine_meaning.specs.Blocks.{super_called}
 use Rattle.template_machine_meaning.specs.Calls.{call_plan}
 use Rattle.template_machine_meaning.specs.Functions.{name_called}

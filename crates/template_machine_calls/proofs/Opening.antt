@@ -3,7 +3,7 @@ use Rattle.std.proofs.Common.{◌≡◌, ℕ, Bool, true, false, List, if◌then
 use Rattle.template_values_model.specs.Val as values
 use Rattle.template_values_model.specs.Val.{Val}
 use Rattle.template_callables.specs.Callables.{Asked}
-use Rattle.template_process.specs.Process.{tells, breaks_off, value}
+use Rattle.template_compiler_process.specs.Process.{tells, breaks_off, value}
 use Rattle.template_machine_meaning.specs.Calls.{are_as_before, called_plan}
 use Rattle.template_machine_meaning.specs.Functions.{compares}
 use Rattle.template_machine_meaning.specs.Keys.{Around}

@@ -7,10 +7,10 @@ use Rattle.template_values_errors.specs.declared.modes.UndefinedBehavior.TheVari
 use Rattle.template_values_model.specs.Val.{Val}
 use Rattle.template_callables.specs.Callables.{no_callables}
 use Rattle.template_callables.specs.Joins.{keeps_name}
-use Rattle.template_process.specs.Process as events
-use Rattle.template_process.specs.Process.{Counts, Answer, done, fails, on_done}
-use Rattle.template_process.specs.Trace.{written, run, replied}
-use Rattle.template_code.specs.Code.{Operand, single, emit}
+use Rattle.template_compiler_process.specs.Process as events
+use Rattle.template_compiler_process.specs.Process.{Counts, Answer, done, fails, on_done}
+use Rattle.template_compiler_process.specs.Trace.{written, run, replied}
+use Rattle.template_compiler_code.specs.Code.{Operand, single, emit}
 use Rattle.template_machine_surroundings.specs.Writes.{AppendsBeginning}
 use Rattle.template_machine_meaning.specs.Captures.{with_text}
 use Rattle.template_machine_meaning.specs.Keeps.{KeepsWorld}

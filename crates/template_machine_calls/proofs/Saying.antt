@@ -12,7 +12,7 @@ use Rattle.template_callables.specs.Callbacks.{AnswersUnder}
 use Rattle.template_callables.specs.declared.answer.Answer.{Answer}
 use Rattle.template_callables.specs.declared.answer.Answer.TheVariants.{Done, Fault, More}
 use Rattle.template_callables.specs.declared.answer.Further.{Further}
-use Rattle.template_process.specs.Process.{fails, value}
+use Rattle.template_compiler_process.specs.Process.{fails, value}
 use Rattle.template_machine_meaning.specs.Calls.{with_temps, stated_plan}
 use Rattle.template_machine_meaning.specs.Keys.{Around}
 use Rattle.template_machine_meaning.specs.Plans.{replies}

@@ -10,7 +10,7 @@ use Rattle.template_values_forms.specs.Answers.{AppendsOrRefuses}
 use Rattle.template_values_forms.specs.Printed.{printed}
 use Rattle.template_values_forms.specs.Truth.{truth_of}
 use Rattle.template_callables.specs.Callables.{Asked}
-use Rattle.template_process.specs.Process.{fails}
+use Rattle.template_compiler_process.specs.Process.{fails}
 use Rattle.template_machine_meaning.specs.Captures.{captured}
 use Rattle.template_machine_meaning.specs.Plans.{Plan, replies, with_turning}
 use Rattle.template_machine_meaning.specs.Records.{known_of}

@@ -4,8 +4,8 @@ use Rattle.template_values_errors.specs.declared.ErrorKind.{ErrorKind}
 use Rattle.template_values_model.specs.Val.{Val}
 use Rattle.template_callables.specs.Answers.{asked_by}
 use Rattle.template_callables.specs.Callables.{View, Asked, call, filter, test, lookup, call_macro, block, Says}
-use Rattle.template_process.specs.Process.{tells, fails, value}
-use Rattle.template_process.specs.Trace.{Reply}
+use Rattle.template_compiler_process.specs.Process.{tells, fails, value}
+use Rattle.template_compiler_process.specs.Trace.{Reply}
 use Rattle.template_machine_meaning.specs.Turnings as meanings
 use Rattle.template_machine_meaning.specs.Turnings.{to_truth, to_text}
 use Rattle.template_machine_meaning.specs.Plans.{Plan, replies, with_turning}

@@ -4,7 +4,7 @@ ghost use Rattle.template_values_model.specs.Val.{Val};
 ghost use Rattle.template_callables.specs.Callables.{Formatted, View};
 ghost use Rattle.template_callables.specs.Callbacks.{FormatsUnder};
 ghost use Rattle.template_callables.specs.Formats.{Formats};
-ghost use Rattle.template_code.specs.Code.{Operand, emit, single};
+ghost use Rattle.template_compiler_code.specs.Code.{Operand, emit, single};
 ghost use Rattle.template_machine_going.specs.Told.{CountsFailures};
 ghost use Rattle.template_machine_meaning.specs.Keys.{Around};
 ghost use Rattle.template_machine_meaning.specs.Surroundings.{Programs, text_reply, written_reply};

@@ -1,7 +1,7 @@
 //! The instructions that call.
 ghost use Rattle.std.specs.Prelude.{◌≡◌, ℕ, false};
-ghost use Rattle.template_code.specs.Code.{apply_filter, call_function, call_method, call_object, perform_test};
-ghost use Rattle.template_walk.specs.Statements.{is_super_name};
+ghost use Rattle.template_compiler_code.specs.Code.{apply_filter, call_function, call_method, call_object, perform_test};
+ghost use Rattle.template_compiler_walk.specs.Statements.{is_super_name};
 ghost use Rattle.template_machine_meaning.specs.Surroundings.{Programs};
 ghost use Rattle.template_machine_operands.specs.Operands.{operands_in};
 ghost use Rattle.template_machine_calls.specs.Calls.{Calls, Puts};

@@ -4,17 +4,17 @@ use Rattle.std.specs.Option.{option_and_then}
 use Rattle.std.proofs.lemmas.Bool.Decides.{nat_tests}
 use Rattle.template_values_errors.specs.declared.ErrorKind.{ErrorKind}
 use Rattle.template_values_model.specs.Val.{Val}
-use Rattle.template_tree.specs.Tree.{Statements}
-use Rattle.template_process.specs.Process.{Ask, Answer, Told, tells, fails, breaks_off, leaves, Process, over, step, asks, amiss, cut_short, stuck, Below}
-use Rattle.template_process.specs.Drive.{End, ends, faults, breaks, waits, mistaken, cuts, sticks}
-use Rattle.template_process.specs.Trace.{paid, Reply, Run, run, behind, ended, go_on, replied}
-use Rattle.template_process.specs.Approximants.{IsFinished}
-use Rattle.template_process.proofs.Below.{below-trans}
-use Rattle.template_walk.specs.Counting.{MacroBody, LoopRounds, macro_numbered, rounds_numbered}
-use Rattle.template_walk.specs.Statements.{number_of, standalone_walk, template_walk, macro_walk, rounds_walk}
-use Rattle.template_code.specs.Code.{Code, Operand, single}
-use Rattle.template_code.specs.Steps.{exec}
-use Rattle.template_code.proofs.Rising.{exec_more}
+use Rattle.template_compiler_tree.specs.Tree.{Statements}
+use Rattle.template_compiler_process.specs.Process.{Ask, Answer, Told, tells, fails, breaks_off, leaves, Process, over, step, asks, amiss, cut_short, stuck, Below}
+use Rattle.template_compiler_process.specs.Drive.{End, ends, faults, breaks, waits, mistaken, cuts, sticks}
+use Rattle.template_compiler_process.specs.Trace.{paid, Reply, Run, run, behind, ended, go_on, replied}
+use Rattle.template_compiler_process.specs.Approximants.{IsFinished}
+use Rattle.template_compiler_process.proofs.Below.{below-trans}
+use Rattle.template_compiler_walk.specs.Counting.{MacroBody, LoopRounds, macro_numbered, rounds_numbered}
+use Rattle.template_compiler_walk.specs.Statements.{number_of, standalone_walk, template_walk, macro_walk, rounds_walk}
+use Rattle.template_compiler_code.specs.Code.{Code, Operand, single}
+use Rattle.template_compiler_code.specs.Steps.{exec}
+use Rattle.template_compiler_code.proofs.Rising.{exec_more}
 use Rattle.template_compiler_codegen.specs.Statements.{standalone_code, template_code}
 use Rattle.template_compiler_codegen.proofs.Whole.{expressions_perform, templates_perform}
 use Rattle.template_compiler_codegen.proofs.Macros.{macros_perform}

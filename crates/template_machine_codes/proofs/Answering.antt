@@ -12,10 +12,10 @@ use Rattle.template_values_forms.specs.Escaped.{escaped}
 use Rattle.template_values_forms.specs.Truth as truths
 use Rattle.template_callables.specs.Callables as callables
 use Rattle.template_callables.specs.Callables.{View, Formatted, writes, forbids}
-use Rattle.template_process.specs.Process as events
-use Rattle.template_process.specs.Process.{Making, Ask, store, set_attribute, unpack, spread, truth_of, write_raw, write_value, call_function, export_locals, enclose, get_closure, build_macro, Answer, done, value, truth, items, tells, fails, Process, asks, amiss, on_done, on_value, on_truth, on_items, on_all, on_closure}
-use Rattle.template_process.specs.Trace.{written, Reply, run, replied}
-use Rattle.template_walk.specs.Statements.{is_super_name}
+use Rattle.template_compiler_process.specs.Process as events
+use Rattle.template_compiler_process.specs.Process.{Making, Ask, store, set_attribute, unpack, spread, truth_of, write_raw, write_value, call_function, export_locals, enclose, get_closure, build_macro, Answer, done, value, truth, items, tells, fails, Process, asks, amiss, on_done, on_value, on_truth, on_items, on_all, on_closure}
+use Rattle.template_compiler_process.specs.Trace.{written, Reply, run, replied}
+use Rattle.template_compiler_walk.specs.Statements.{is_super_name}
 use Rattle.template_machine_meaning.specs.World.{Bindings, Frame, Capture, World, local_at, closure_of, put_local, value_named, looked_up, depth_of}
 use Rattle.template_machine_meaning.specs.Records.{known_of}
 use Rattle.template_machine_meaning.specs.Captures.{with_text}

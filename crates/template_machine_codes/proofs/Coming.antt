@@ -2,10 +2,10 @@
 use Rattle.std.proofs.Common.{◌≡◌, ℕ, zero, suc, ◌+◌, ◌≤◌, ◌⊎◌, inl, inr, List, [], ◌∷◌, ◌++◌, Option, None, Some, refl, ap, ◌∙◌, arith}
 use Rattle.template_values_errors.specs.declared.ErrorKind.{ErrorKind}
 use Rattle.template_values_model.specs.Val.{Val}
-use Rattle.template_process.specs.Process.{Process, step}
-use Rattle.template_process.specs.Drive.{ends, faults}
-use Rattle.template_process.specs.Trace.{Item, paid, run, behind, ended}
-use Rattle.template_code.specs.Prices.{steps}
+use Rattle.template_compiler_process.specs.Process.{Process, step}
+use Rattle.template_compiler_process.specs.Drive.{ends, faults}
+use Rattle.template_compiler_process.specs.Trace.{Item, paid, run, behind, ended}
+use Rattle.template_compiler_code.specs.Prices.{steps}
 use Rattle.template_machine_meaning.specs.World.{World}
 use Rattle.template_machine_meaning.specs.Surroundings.{Programs, answer}
 use Rattle.template_machine_meaning.proofs.Settling.{Walk, behind-behind}

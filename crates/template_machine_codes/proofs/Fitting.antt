@@ -3,10 +3,10 @@ use Rattle.std.proofs.Common.{◌≡◌, ℕ, ◌+◌, ◌-◌, ◌≤◌, ◌�
 use Rattle.std.proofs.lemmas.Bool.{and_parts, eqb-true}
 use Rattle.std.proofs.lemmas.List.{length-map, length-append}
 use Rattle.std.specs.Prelude.{IsSome, ◌==◌, ◌&&◌, if◌then◌else◌}
-use Rattle.template_code_shapes.specs.declared.outline.Floor.{Floor}
-use Rattle.template_code_shapes.specs.declared.outline.Opened.{Opened}
-use Rattle.template_code_shapes.specs.declared.outline.Opened.TheVariants.{With as with_frame, Loop as loop_frame, Recursive as recursive_frame}
-use Rattle.template_code_shapes.specs.Shapes.{Form, Shape, floor_of, frame_closed, loop_closed, innermost_loop}
+use Rattle.template_compiler_code_shapes.specs.declared.outline.Floor.{Floor}
+use Rattle.template_compiler_code_shapes.specs.declared.outline.Opened.{Opened}
+use Rattle.template_compiler_code_shapes.specs.declared.outline.Opened.TheVariants.{With as with_frame, Loop as loop_frame, Recursive as recursive_frame}
+use Rattle.template_compiler_code_shapes.specs.Shapes.{Form, Shape, floor_of, frame_closed, loop_closed, innermost_loop}
 use Rattle.template_machine_meaning.specs.World.{Loop, Frame, World, counted_loop, depth_of, drop_given}
 use Rattle.template_machine_meaning.specs.Leaving.{is_held, loop_left}
 use Rattle.template_machine_meaning.specs.Surroundings.{is_own, asked_once}

@@ -5,18 +5,18 @@ use Rattle.std.specs.Prelude.{IsSome, All}
 use Rattle.std.specs.Option.{option_and_then}
 use Rattle.template_values_errors.specs.declared.ErrorKind.TheVariants.{TemplateNotFound}
 use Rattle.template_values_model.specs.Val.{Val}
-use Rattle.template_process.specs.Process.{Process}
-use Rattle.template_process.specs.Drive.{End, ends, faults, breaks}
-use Rattle.template_process.specs.Trace.{Item, Run, run, behind, ended}
-use Rattle.template_process.specs.Approximants.{IsFinished}
-use Rattle.template_code.specs.Code.{Code, single}
-use Rattle.template_code.specs.Counting.{MacroPlace, macro_at, rounds_at}
-use Rattle.template_code.specs.Steps.{exec}
-use Rattle.template_code_shapes.specs.declared.outline.Opened.{Opened}
-use Rattle.template_code_shapes.specs.Shapes as shapes
-use Rattle.template_code_shapes.specs.Shapes.{single_form, form_of, Shape, start}
-use Rattle.template_code_shapes.specs.Streams.{Reached, IsGood, begins, end_of}
-use Rattle.template_code_shapes.specs.declared.StreamKind.{StreamKind}
+use Rattle.template_compiler_process.specs.Process.{Process}
+use Rattle.template_compiler_process.specs.Drive.{End, ends, faults, breaks}
+use Rattle.template_compiler_process.specs.Trace.{Item, Run, run, behind, ended}
+use Rattle.template_compiler_process.specs.Approximants.{IsFinished}
+use Rattle.template_compiler_code.specs.Code.{Code, single}
+use Rattle.template_compiler_code.specs.Counting.{MacroPlace, macro_at, rounds_at}
+use Rattle.template_compiler_code.specs.Steps.{exec}
+use Rattle.template_compiler_code_shapes.specs.declared.outline.Opened.{Opened}
+use Rattle.template_compiler_code_shapes.specs.Shapes as shapes
+use Rattle.template_compiler_code_shapes.specs.Shapes.{single_form, form_of, Shape, start}
+use Rattle.template_compiler_code_shapes.specs.Streams.{Reached, IsGood, begins, end_of}
+use Rattle.template_compiler_code_shapes.specs.declared.StreamKind.{StreamKind}
 use Rattle.template_machine_meaning.specs.World.{Loop, Frame, Capture, Globals, World, first_world, loop_frame, depth_of}
 use Rattle.template_machine_meaning.specs.Captures.{around_innermost}
 use Rattle.template_machine_meaning.specs.Keys.{rendered, standing, Stream, own, Part, whole, body_of, rounds_of, Key, whole_of, Head, Around}

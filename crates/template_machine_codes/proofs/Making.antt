@@ -5,15 +5,15 @@ use Rattle.std.specs.Prelude.{IsSome, nat_lt, option_map, unwrap_or}
 use Rattle.template_values_model.specs.Val as values
 use Rattle.template_values_model.specs.Val.{Val, items_of}
 use Rattle.template_values_core.specs.Reads.{items_in}
-use Rattle.template_process.specs.Process.{Counts}
-use Rattle.template_code.specs.Code.{Code, load_const, push_loop, build_macro}
-use Rattle.template_code.specs.Counting.{is_recursive, counts_of, counts_in, counts_before, offset_of, names_listed, MacroPlace, macro_from, macro_at, rounds_from, rounds_at}
-use Rattle.template_code_shapes.specs.declared.outline.Opened.TheVariants.{Loop as loop_frame, Recursive as recursive_frame}
-use Rattle.template_code_shapes.specs.Shapes as shapes
-use Rattle.template_code_shapes.specs.Shapes.{Shape, body_of, taken, closure_taken}
-use Rattle.template_code_shapes.specs.Effects.{Effect, falling, is_iterate, may_lead, code_before, are_texts, texts_held, texts_loaded, making, effect_of}
-use Rattle.template_code_shapes.specs.declared.StreamKind.{StreamKind}
-use Rattle.template_code_shapes.specs.Streams.{Reached, falls_to, enters_at, IsGood}
+use Rattle.template_compiler_process.specs.Process.{Counts}
+use Rattle.template_compiler_code.specs.Code.{Code, load_const, push_loop, build_macro}
+use Rattle.template_compiler_code.specs.Counting.{is_recursive, counts_of, counts_in, counts_before, offset_of, names_listed, MacroPlace, macro_from, macro_at, rounds_from, rounds_at}
+use Rattle.template_compiler_code_shapes.specs.declared.outline.Opened.TheVariants.{Loop as loop_frame, Recursive as recursive_frame}
+use Rattle.template_compiler_code_shapes.specs.Shapes as shapes
+use Rattle.template_compiler_code_shapes.specs.Shapes.{Shape, body_of, taken, closure_taken}
+use Rattle.template_compiler_code_shapes.specs.Effects.{Effect, falling, is_iterate, may_lead, code_before, are_texts, texts_held, texts_loaded, making, effect_of}
+use Rattle.template_compiler_code_shapes.specs.declared.StreamKind.{StreamKind}
+use Rattle.template_compiler_code_shapes.specs.Streams.{Reached, falls_to, enters_at, IsGood}
 use Rattle.template_machine_meaning.specs.Keys.{Stream}
 use Rattle.template_machine_codes.specs.Streams.{Codes, IsBodyReached, AreRoundsReached, floor_at, in_rounds}
 use Rattle.template_machine_codes.proofs.Taking.{some_mapped, some_tested}

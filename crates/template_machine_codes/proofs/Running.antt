@@ -8,24 +8,24 @@ use Rattle.std.specs.Prelude.{IsSome, ◌==◌, ◌&&◌, nat_lt, option_map, is
 use Rattle.std.specs.Option.{ForSome}
 use Rattle.template_values_errors.specs.declared.modes.AutoEscape.{AutoEscape}
 use Rattle.template_values_model.specs.Val.{Val}
-use Rattle.template_process.specs.Process as events
-use Rattle.template_process.specs.Process.{Looping}
-use Rattle.template_code.specs.Code.{Operand, single, counted, counting, closure, Code, build_macro, push_with, pop_frame, push_loop, iterate, push_did_not_iterate, pop_loop_frame, push_auto_escape, pop_auto_escape, begin_capture, end_capture, return}
-use Rattle.template_code.specs.Counting as counts
-use Rattle.template_code.specs.Counting.{counts_before, is_recursive}
-use Rattle.template_code.specs.Prices.{price_of, steps}
-use Rattle.template_code.specs.Steps.{values_in, deed, act, exec}
-use Rattle.template_code.specs.Loops.{is_iterate_past}
-use Rattle.template_code_shapes.specs.declared.StreamKind.{StreamKind}
-use Rattle.template_code_shapes.specs.declared.StreamKind.TheVariants.{Template, Expression}
-use Rattle.template_code_shapes.specs.declared.outline.Floor.{Floor}
-use Rattle.template_code_shapes.specs.declared.outline.Opened.{Opened}
-use Rattle.template_code_shapes.specs.declared.outline.Opened.TheVariants.{With as with_frame, Loop as loop_frame, Recursive as recursive_frame}
-use Rattle.template_code_shapes.specs.Shapes as shapes
-use Rattle.template_code_shapes.specs.Shapes.{Form, form_of, Shape, floor_of, taken, with_escape, with_capture, frame_closed, loop_closed, innermost_loop, is_none_left, is_over}
-use Rattle.template_code_shapes.specs.Effects.{Effect, falling, ending, is_iterate, is_behind, may_lead, may_jump, may_iterate, effect_of}
-use Rattle.template_code_shapes.specs.Streams.{Reached, falls_to, jumps_to, end_of, IsGood}
-use Rattle.template_code_shapes.proofs.Aiming.{within}
+use Rattle.template_compiler_process.specs.Process as events
+use Rattle.template_compiler_process.specs.Process.{Looping}
+use Rattle.template_compiler_code.specs.Code.{Operand, single, counted, counting, closure, Code, build_macro, push_with, pop_frame, push_loop, iterate, push_did_not_iterate, pop_loop_frame, push_auto_escape, pop_auto_escape, begin_capture, end_capture, return}
+use Rattle.template_compiler_code.specs.Counting as counts
+use Rattle.template_compiler_code.specs.Counting.{counts_before, is_recursive}
+use Rattle.template_compiler_code.specs.Prices.{price_of, steps}
+use Rattle.template_compiler_code.specs.Steps.{values_in, deed, act, exec}
+use Rattle.template_compiler_code.specs.Loops.{is_iterate_past}
+use Rattle.template_compiler_code_shapes.specs.declared.StreamKind.{StreamKind}
+use Rattle.template_compiler_code_shapes.specs.declared.StreamKind.TheVariants.{Template, Expression}
+use Rattle.template_compiler_code_shapes.specs.declared.outline.Floor.{Floor}
+use Rattle.template_compiler_code_shapes.specs.declared.outline.Opened.{Opened}
+use Rattle.template_compiler_code_shapes.specs.declared.outline.Opened.TheVariants.{With as with_frame, Loop as loop_frame, Recursive as recursive_frame}
+use Rattle.template_compiler_code_shapes.specs.Shapes as shapes
+use Rattle.template_compiler_code_shapes.specs.Shapes.{Form, form_of, Shape, floor_of, taken, with_escape, with_capture, frame_closed, loop_closed, innermost_loop, is_none_left, is_over}
+use Rattle.template_compiler_code_shapes.specs.Effects.{Effect, falling, ending, is_iterate, is_behind, may_lead, may_jump, may_iterate, effect_of}
+use Rattle.template_compiler_code_shapes.specs.Streams.{Reached, falls_to, jumps_to, end_of, IsGood}
+use Rattle.template_compiler_code_shapes.proofs.Aiming.{within}
 use Rattle.template_machine_meaning.specs.World.{Rounds, Loop, Capture, World, empty_frame, counted_loop, depth_of, has_room}
 use Rattle.template_machine_meaning.specs.Captures.{capture_begun}
 use Rattle.template_machine_meaning.specs.Leaving.{loop_left}

@@ -8,8 +8,8 @@ use Rattle.template_values_model.specs.Val as values
 use Rattle.template_values_model.specs.Val.{Val}
 use Rattle.template_values_core.specs.Answers.{text_in}
 use Rattle.template_values_operators.specs.Iterated.{iterated}
-use Rattle.template_process.specs.Process.{Looping, Ask, Answer, next_item, did_not_iterate, close_loop, open_frame, close_frame, open_loop, open_escape, close_escape, end_capture, begin_capture, done, value, leaves, tells, breaks_off, Process, asks, on_done, on_value, on_item}
-use Rattle.template_process.specs.Trace.{Reply, run, replied}
+use Rattle.template_compiler_process.specs.Process.{Looping, Ask, Answer, next_item, did_not_iterate, close_loop, open_frame, close_frame, open_loop, open_escape, close_escape, end_capture, begin_capture, done, value, leaves, tells, breaks_off, Process, asks, on_done, on_value, on_item}
+use Rattle.template_compiler_process.specs.Trace.{Reply, run, replied}
 use Rattle.template_machine_meaning.specs.World.{Loop, Frame, Capture, World, empty_frame, loop_frame, loop_over, counted_loop, has_room}
 use Rattle.template_machine_meaning.specs.Captures.{captured, capture_begun}
 use Rattle.template_machine_meaning.specs.Records.{known_of}

@@ -3,10 +3,10 @@ use Rattle.std.proofs.Common.{◌≡◌, ℕ, ◌+◌, ◌≤◌, ◌⊎◌, inl
 use Rattle.template_values_errors.specs.declared.ErrorKind.{ErrorKind}
 use Rattle.template_values_errors.specs.declared.ErrorKind.TheVariants.{InvalidOperation}
 use Rattle.template_values_model.specs.Val.{Val}
-use Rattle.template_process.specs.Process as events
-use Rattle.template_process.specs.Process.{Ask, Answer, Told, done, value, tells, fails, Process, asks, on_done, on_value, on_all}
-use Rattle.template_process.specs.Drive.{ends, faults}
-use Rattle.template_process.specs.Trace.{Item, Run, run, behind, ended, replied}
+use Rattle.template_compiler_process.specs.Process as events
+use Rattle.template_compiler_process.specs.Process.{Ask, Answer, Told, done, value, tells, fails, Process, asks, on_done, on_value, on_all}
+use Rattle.template_compiler_process.specs.Drive.{ends, faults}
+use Rattle.template_compiler_process.specs.Trace.{Item, Run, run, behind, ended, replied}
 use Rattle.template_machine_meaning.specs.World.{World}
 use Rattle.template_machine_meaning.specs.Replies.{told, changed, replied_with}
 use Rattle.template_machine_meaning.specs.Keys.{Key}

@@ -6,20 +6,20 @@ use Rattle.template_values_model.specs.Val.{Val}
 use Rattle.template_values_operators.specs.Kinds as kinds
 use Rattle.template_values_operators.specs.Kinds.{list_made}
 use Rattle.template_values_operators.specs.Slices.{slice_of}
-use Rattle.template_tree.specs.declared.operators.BinOpKind.{BinOpKind}
-use Rattle.template_process.specs.Process as events
-use Rattle.template_process.specs.Process.{Counts, Ask, asks, stuck, on_done, on_value, on_truth, on_items, on_all, on_closure}
-use Rattle.template_walk.specs.Containers.{tuple_made, map_made, kwargs_made}
-use Rattle.template_walk.specs.Operators.{operated, compared, inverted, negated}
-use Rattle.template_code.specs.Code.{Operand, single, counted, counting, closure, Code, emit_raw, emit, store_local, lookup, load_const, get_attr, set_attr, get_item, slice, build_map, build_kwargs, merge_kwargs, build_list, build_tuple, unpack_list, unpack_lists, operate, negate, invert, is_undefined, compare_and_preserve, apply_filter, perform_test, call_function, call_method, call_object, swap, dup_top, discard_top, jump, jump_if_false, jump_if_false_or_pop, jump_if_true_or_pop, push_with, pop_frame, push_loop, iterate, push_did_not_iterate, pop_loop_frame, push_auto_escape, pop_auto_escape, begin_capture, end_capture, return, fast_super, fast_recurse, call_block, load_blocks, include, export_locals, enclose, get_closure, build_macro}
-use Rattle.template_code.specs.Counting as counts
-use Rattle.template_code.specs.Steps as table
-use Rattle.template_code.specs.Steps.{on_taken, is_addition, paired, deed, exec}
-use Rattle.template_code_shapes.specs.declared.outline.Opened.{Opened}
-use Rattle.template_code_shapes.specs.Shapes as shapes
-use Rattle.template_code_shapes.specs.Shapes.{Form, single_form, counted_form, counting_form, closure_form, form_of, Shape, body_of, floor_of, lowered, taken, handed, closure_taken}
-use Rattle.template_code_shapes.specs.Effects.{Effect, falling, traded, made, may_lead, may_jump, jumping, code_before, loads_one, adds, ends_capture, texts_loaded, making, effect_of}
-use Rattle.template_code_shapes.specs.Streams.{Reached, falls_to, jumps_to}
+use Rattle.template_compiler_tree.specs.declared.operators.BinOpKind.{BinOpKind}
+use Rattle.template_compiler_process.specs.Process as events
+use Rattle.template_compiler_process.specs.Process.{Counts, Ask, asks, stuck, on_done, on_value, on_truth, on_items, on_all, on_closure}
+use Rattle.template_compiler_walk.specs.Containers.{tuple_made, map_made, kwargs_made}
+use Rattle.template_compiler_walk.specs.Operators.{operated, compared, inverted, negated}
+use Rattle.template_compiler_code.specs.Code.{Operand, single, counted, counting, closure, Code, emit_raw, emit, store_local, lookup, load_const, get_attr, set_attr, get_item, slice, build_map, build_kwargs, merge_kwargs, build_list, build_tuple, unpack_list, unpack_lists, operate, negate, invert, is_undefined, compare_and_preserve, apply_filter, perform_test, call_function, call_method, call_object, swap, dup_top, discard_top, jump, jump_if_false, jump_if_false_or_pop, jump_if_true_or_pop, push_with, pop_frame, push_loop, iterate, push_did_not_iterate, pop_loop_frame, push_auto_escape, pop_auto_escape, begin_capture, end_capture, return, fast_super, fast_recurse, call_block, load_blocks, include, export_locals, enclose, get_closure, build_macro}
+use Rattle.template_compiler_code.specs.Counting as counts
+use Rattle.template_compiler_code.specs.Steps as table
+use Rattle.template_compiler_code.specs.Steps.{on_taken, is_addition, paired, deed, exec}
+use Rattle.template_compiler_code_shapes.specs.declared.outline.Opened.{Opened}
+use Rattle.template_compiler_code_shapes.specs.Shapes as shapes
+use Rattle.template_compiler_code_shapes.specs.Shapes.{Form, single_form, counted_form, counting_form, closure_form, form_of, Shape, body_of, floor_of, lowered, taken, handed, closure_taken}
+use Rattle.template_compiler_code_shapes.specs.Effects.{Effect, falling, traded, made, may_lead, may_jump, jumping, code_before, loads_one, adds, ends_capture, texts_loaded, making, effect_of}
+use Rattle.template_compiler_code_shapes.specs.Streams.{Reached, falls_to, jumps_to}
 use Rattle.template_machine_meaning.specs.World.{World, value_named, depth_of}
 use Rattle.template_machine_meaning.specs.Records.{known_of}
 use Rattle.template_machine_meaning.specs.Undefined.{forbids_truth, forbids_operator, forbids_link, forbids_slicing}

@@ -3,12 +3,12 @@ use Rattle.std.proofs.Common.{◌≡◌, ℕ, zero, suc, ◌+◌, ◌<◌, ◌�
 use Rattle.std.proofs.lemmas.Bool.{lt-leb}
 use Rattle.std.specs.Prelude.{IsSome, ◌&&◌, nat_le, option_map, option_and_then, slice_get}
 use Rattle.template_values_model.specs.Val.{Val}
-use Rattle.template_code.specs.Code.{Operand, single, counted, counting, closure, Code}
-use Rattle.template_code.specs.Steps as table
-use Rattle.template_code_shapes.specs.Effects as effects
-use Rattle.template_code_shapes.specs.Effects.{falling, made}
-use Rattle.template_code_shapes.specs.Shapes as shapes
-use Rattle.template_code_shapes.specs.Shapes.{Form, single_form, counted_form, counting_form, closure_form, form_of, Shape, floor_of, below_values, lowered, taken, run_taken, handed, closure_taken}
+use Rattle.template_compiler_code.specs.Code.{Operand, single, counted, counting, closure, Code}
+use Rattle.template_compiler_code.specs.Steps as table
+use Rattle.template_compiler_code_shapes.specs.Effects as effects
+use Rattle.template_compiler_code_shapes.specs.Effects.{falling, made}
+use Rattle.template_compiler_code_shapes.specs.Shapes as shapes
+use Rattle.template_compiler_code_shapes.specs.Shapes.{Form, single_form, counted_form, counting_form, closure_form, form_of, Shape, floor_of, below_values, lowered, taken, run_taken, handed, closure_taken}
 
 -- an option that is mapped to something has something
 pub some_mapped : {A B : Type 0} (f : A → B) (o : Option A) → IsSome (option_map f o) → (x : A) × (o ≡ Some x)

@@ -8,8 +8,8 @@ use Rattle.template_values_errors.specs.declared.ErrorKind.TheVariants.{InvalidO
 use Rattle.template_values_model.specs.Val.{Val}
 use Rattle.template_values_core.specs.Answers.{text_in}
 use Rattle.template_values_operators.specs.Iterated.{iterated}
-use Rattle.template_process.specs.Process as events
-use Rattle.template_process.specs.Process.{Ask, load_blocks, Answer, done, tells, fails, Process, asks, on_done, on_value}
+use Rattle.template_compiler_process.specs.Process as events
+use Rattle.template_compiler_process.specs.Process.{Ask, load_blocks, Answer, done, tells, fails, Process, asks, on_done, on_value}
 use Rattle.template_machine_meaning.specs.World.{Rounds, Loop, Frame, Macro, Capture, drops, World, empty_frame, loop_frame, seen_frames, depth_of, has_room}
 use Rattle.template_machine_meaning.specs.Captures.{captured, innermost, is_dropping}
 use Rattle.template_machine_meaning.specs.Bodies.{Bodies, bodies_at, with_bodies}

@@ -2,12 +2,12 @@
 use Rattle.std.specs.Prelude.{ℕ, ◌==◌, [], List, length, map, Option, None, Some, option_map, if◌then◌else◌}
 use Rattle.std.specs.Option.{option_and_then}
 use Rattle.template_values_model.specs.Val.{Val}
-use Rattle.template_tree.specs.Tree.{Statements}
-use Rattle.template_process.specs.Process.{Process}
-use Rattle.template_process.specs.Trace.{Run, run}
-use Rattle.template_code.specs.Code.{Code, single}
-use Rattle.template_code.specs.Counting.{MacroPlace, macro_at, rounds_at}
-use Rattle.template_code.specs.Steps.{exec}
+use Rattle.template_compiler_tree.specs.Tree.{Statements}
+use Rattle.template_compiler_process.specs.Process.{Process}
+use Rattle.template_compiler_process.specs.Trace.{Run, run}
+use Rattle.template_compiler_code.specs.Code.{Code, single}
+use Rattle.template_compiler_code.specs.Counting.{MacroPlace, macro_at, rounds_at}
+use Rattle.template_compiler_code.specs.Steps.{exec}
 use Rattle.template_compiler_codegen.specs.Statements.{template_code}
 use Rattle.template_machine_meaning.specs.World.{World}
 use Rattle.template_machine_meaning.specs.Keys.{Part, whole, body_of, rounds_of}

@@ -1,7 +1,7 @@
 -- Code means what its tree does.
 use Rattle.std.specs.Prelude.{◌≡◌, ℕ, ◌≤◌, Option}
-use Rattle.template_tree.specs.Tree.{Expression}
-use Rattle.template_process.specs.Approximants.{IsFinished}
+use Rattle.template_compiler_tree.specs.Tree.{Expression}
+use Rattle.template_compiler_process.specs.Approximants.{IsFinished}
 use Rattle.template_compiler_codegen.specs.Statements.{standalone_code}
 use Rattle.template_machine_meaning.specs.World.{World}
 use Rattle.template_machine_meaning.specs.Keys.{Key}

@@ -1,13 +1,13 @@
 -- The law of verified streams.
 use Rattle.std.specs.Prelude.{◌≡◌, ℕ, true, List, [], length, Some, IsSome}
 use Rattle.template_values_model.specs.Val.{Val}
-use Rattle.template_process.specs.Approximants.{IsFinished}
-use Rattle.template_process.specs.Drive.{End, ends, faults}
-use Rattle.template_process.specs.Trace.{run}
-use Rattle.template_code.specs.Code.{Code}
-use Rattle.template_code.specs.Steps.{exec}
-use Rattle.template_code_shapes.specs.Streams.{IsGood, end_of}
-use Rattle.template_code_shapes.specs.declared.StreamKind.{StreamKind}
+use Rattle.template_compiler_process.specs.Approximants.{IsFinished}
+use Rattle.template_compiler_process.specs.Drive.{End, ends, faults}
+use Rattle.template_compiler_process.specs.Trace.{run}
+use Rattle.template_compiler_code.specs.Code.{Code}
+use Rattle.template_compiler_code.specs.Steps.{exec}
+use Rattle.template_compiler_code_shapes.specs.Streams.{IsGood, end_of}
+use Rattle.template_compiler_code_shapes.specs.declared.StreamKind.{StreamKind}
 use Rattle.template_machine_meaning.specs.World.{Globals, World, first_world}
 use Rattle.template_machine_meaning.specs.Keys.{rendered, standing, Stream, own, Key, whole_of, Head, Around}
 use Rattle.template_machine_meaning.specs.Plans.{ran}

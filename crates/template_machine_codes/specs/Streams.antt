@@ -3,16 +3,16 @@
 use Rattle.std.specs.Prelude.{◌≡◌, ℕ, ◌==◌, Bool, true, List, [], length, map, Option, None, Some, option_map, All, if◌then◌else◌}
 use Rattle.std.specs.Option.{ForSome, option_and_then}
 use Rattle.template_values_model.specs.Val.{Val}
-use Rattle.template_process.specs.Process.{Process}
-use Rattle.template_code.specs.Code.{Code, single}
-use Rattle.template_code.specs.Counting.{MacroPlace, macro_at, rounds_at}
-use Rattle.template_code.specs.Steps.{exec}
-use Rattle.template_code_shapes.specs.declared.StreamKind.{StreamKind}
-use Rattle.template_code_shapes.specs.declared.outline.Floor.{Floor}
-use Rattle.template_code_shapes.specs.declared.outline.Opened.TheVariants.{Recursive as recursive_frame}
-use Rattle.template_code_shapes.specs.Shapes as shapes
-use Rattle.template_code_shapes.specs.Shapes.{Shape, opened}
-use Rattle.template_code_shapes.specs.Streams.{Reached, IsGood}
+use Rattle.template_compiler_process.specs.Process.{Process}
+use Rattle.template_compiler_code.specs.Code.{Code, single}
+use Rattle.template_compiler_code.specs.Counting.{MacroPlace, macro_at, rounds_at}
+use Rattle.template_compiler_code.specs.Steps.{exec}
+use Rattle.template_compiler_code_shapes.specs.declared.StreamKind.{StreamKind}
+use Rattle.template_compiler_code_shapes.specs.declared.outline.Floor.{Floor}
+use Rattle.template_compiler_code_shapes.specs.declared.outline.Opened.TheVariants.{Recursive as recursive_frame}
+use Rattle.template_compiler_code_shapes.specs.Shapes as shapes
+use Rattle.template_compiler_code_shapes.specs.Shapes.{Shape, opened}
+use Rattle.template_compiler_code_shapes.specs.Streams.{Reached, IsGood}
 use Rattle.template_machine_meaning.specs.Keys.{Stream, Part, whole, body_of, rounds_of, Around}
 use Rattle.template_machine_meaning.specs.World.{Rounds, Loop, Macro, World}
 use Rattle.template_machine_meaning.specs.Records.{all_loops}

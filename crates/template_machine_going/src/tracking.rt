@@ -1,10 +1,10 @@
 //! A fuel that is counted down along instructions.
 ghost use Rattle.std.specs.Prelude.{◌≡◌, ◌≤◌, ◌+◌, ◌∷◌, [], Some, IfErr, OnOk, OnErr};
-ghost use Rattle.template_code.specs.Prices.{price_of};
-ghost use Rattle.template_code.specs.View.{code_of};
+ghost use Rattle.template_compiler_code.specs.Prices.{price_of};
+ghost use Rattle.template_compiler_code.specs.View.{code_of};
 ghost use Rattle.template_machine_going.specs.Paying.{IsSpent, Paid};
 
-use template_code::Instruction;
+use template_compiler_code::Instruction;
 use template_values_errors::{Error, ErrorKind};
 
 /// Counts a fuel down along the instructions that a run takes.

@@ -8,11 +8,11 @@ use Rattle.template_values_errors.specs.declared.ErrorKind.{ErrorKind}
 use Rattle.template_values_errors.specs.declared.ErrorKind.TheVariants.{InvalidOperation, UnknownBlock}
 use Rattle.template_callables.specs.Callables.{Callables}
 use Rattle.template_callables.specs.Joins.{Joins}
-use Rattle.template_process.specs.Process.{Process, tells, done}
+use Rattle.template_compiler_process.specs.Process.{Process, tells, done}
 use Rattle.template_machine_meaning.specs.Captures.{is_dropping}
-use Rattle.template_process.specs.Drive.{breaks}
-use Rattle.template_process.specs.Trace.{Reply, Run, run, ended}
-use Rattle.template_code.specs.Streams.{BlockStream, stream_among, heads_of}
+use Rattle.template_compiler_process.specs.Drive.{breaks}
+use Rattle.template_compiler_process.specs.Trace.{Reply, Run, run, ended}
+use Rattle.template_compiler_code.specs.Streams.{BlockStream, stream_among, heads_of}
 use Rattle.template_machine_meaning.specs.World.{World, has_room}
 use Rattle.template_machine_meaning.specs.Keys.{Home, block_of, Key, whole, whole_of, Head}
 use Rattle.template_machine_meaning.specs.Bodies.{Bodies, bodies_at}

@@ -5,8 +5,8 @@ use Rattle.template_values_errors.specs.declared.ErrorKind.TheVariants.{Template
 use Rattle.template_values_errors.specs.Memory.{NoMemory}
 use Rattle.template_callables.specs.Callables.{Callables}
 use Rattle.template_callables.specs.Joins.{Joins}
-use Rattle.template_code.specs.Code.{Operand, Code}
-use Rattle.template_code.specs.Steps.{values_in}
+use Rattle.template_compiler_code.specs.Code.{Operand, Code}
+use Rattle.template_compiler_code.specs.Steps.{values_in}
 use Rattle.template_machine_meaning.specs.World.{World}
 use Rattle.template_machine_meaning.specs.Keys as keys
 use Rattle.template_machine_meaning.specs.Keys.{Stream, own, Key, whole_of}

@@ -6,10 +6,10 @@ use Rattle.template_values_errors.specs.declared.ErrorKind.{ErrorKind}
 use Rattle.template_values_errors.specs.declared.ErrorKind.TheVariants.{TemplateNotFound}
 use Rattle.template_values_errors.specs.Memory.{NoMemory}
 use Rattle.template_values_model.specs.Val.{Val}
-use Rattle.template_process.specs.Drive.{End, ends, faults, breaks, waits, mistaken, cuts, sticks}
-use Rattle.template_process.specs.Trace.{Item, paid, Run, behind, ended, price_of, text_of}
-use Rattle.template_process.proofs.Cuts.{text-append}
-use Rattle.template_code.specs.Code.{Code}
+use Rattle.template_compiler_process.specs.Drive.{End, ends, faults, breaks, waits, mistaken, cuts, sticks}
+use Rattle.template_compiler_process.specs.Trace.{Item, paid, Run, behind, ended, price_of, text_of}
+use Rattle.template_compiler_process.proofs.Cuts.{text-append}
+use Rattle.template_compiler_code.specs.Code.{Code}
 use Rattle.template_machine_surroundings.specs.Writes.{AppendsBeginning}
 use Rattle.template_machine_surroundings.proofs.Beginnings.{beginning_after, beginning_whole}
 use Rattle.template_machine_meaning.specs.World.{World}

@@ -3,15 +3,15 @@ use Rattle.std.specs.Prelude.{◌≡◌, ℕ, ◌+◌, ◌^◌, ◌<◌, ◌==�
 use Rattle.std.specs.Cow.{cow_str_bytes}
 use Rattle.template_values_errors.specs.declared.ErrorKind.{ErrorKind}
 use Rattle.template_values_model.specs.Val.{Val}
-use Rattle.template_process.specs.Process.{tells, fails, done}
-use Rattle.template_code.specs.Streams.{stream_in}
+use Rattle.template_compiler_process.specs.Process.{tells, fails, done}
+use Rattle.template_compiler_code.specs.Streams.{stream_in}
 use Rattle.template_machine_tables.specs.Streams.{home_of, stream_of}
 use Rattle.template_machine_meaning.specs.World.{Loop, Macro, Rounds, World, has_room}
 use Rattle.template_machine_meaning.specs.Macros.{Bound, macro_levels, macro_within}
 use Rattle.template_machine_meaning.specs.Rounds.{rounds_plan, rounds_within}
-use Rattle.template_code.specs.Code.{single}
-use Rattle.template_code.specs.Counting.{MacroPlace, macro_at, rounds_at}
-use Rattle.template_code.specs.Listing.{code_in}
+use Rattle.template_compiler_code.specs.Code.{single}
+use Rattle.template_compiler_code.specs.Counting.{MacroPlace, macro_at, rounds_at}
+use Rattle.template_compiler_code.specs.Listing.{code_in}
 use Rattle.template_machine_operands.specs.Operands.{operands_in}
 use Rattle.template_machine_state.specs.Changes.{bound_to}
 use Rattle.template_machine_meaning.specs.Replies.{told}

@@ -1,6 +1,6 @@
 //! Calls of blocks, and of the bodies behind theirs.
 ghost use Rattle.std.specs.Prelude.{◌≡◌, ◌+◌, ◌||◌, false, true, is_some};
-ghost use Rattle.template_process.specs.Process.{done, value};
+ghost use Rattle.template_compiler_process.specs.Process.{done, value};
 ghost use Rattle.template_machine_tables.specs.Streams.{home_of};
 ghost use Rattle.template_machine_meaning.specs.Blocks.{block_called, block_plan, block_within, super_plan, text_plan};
 ghost use Rattle.template_machine_meaning.specs.Captures.{is_dropping};

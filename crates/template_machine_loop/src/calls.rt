@@ -1,6 +1,6 @@
 //! The instructions that call.
 ghost use Rattle.std.specs.Prelude.{◌≡◌};
-ghost use Rattle.template_code.specs.View.{code_of};
+ghost use Rattle.template_compiler_code.specs.View.{code_of};
 ghost use Rattle.template_machine_calls.specs.Hosted.{hosted};
 ghost use Rattle.template_machine_meaning.specs.Surroundings.{Programs};
 ghost use Rattle.template_machine_operands.specs.Operands.{operands_in};
@@ -11,7 +11,7 @@ ghost use Rattle.template_machine_loop.specs.declared.tasks.Task.TheVariants.{Ca
 use crate::writing::stopped_at;
 use std::alloc::Global;
 use template_callables::Callbacks;
-use template_code::{Instruction, Instructions};
+use template_compiler_code::{Instruction, Instructions};
 use template_machine_calls::{
     Entry, Rules, apply_filter, call_function, call_method, call_object, perform_test,
 };

@@ -1,12 +1,12 @@
 //! The numbers of macros, and of loops that may be called again, in code.
 ghost use Rattle.std.specs.Prelude.{◌≡◌, ◌+◌, ◌<◌, ◌^◌, option_map, slice_get};
-ghost use Rattle.template_code.specs.Counting as counting;
-ghost use Rattle.template_code.specs.Counting.{names_listed};
-ghost use Rattle.template_code.specs.Listing.{code_in};
-ghost use Rattle.template_code.specs.View.{code_of};
+ghost use Rattle.template_compiler_code.specs.Counting as counting;
+ghost use Rattle.template_compiler_code.specs.Counting.{names_listed};
+ghost use Rattle.template_compiler_code.specs.Listing.{code_in};
+ghost use Rattle.template_compiler_code.specs.View.{code_of};
 ghost use Rattle.template_machine_loop.specs.Counting.{listed_before, offset_at, place_of};
 
-use template_code::{Instruction, Instructions, Part};
+use template_compiler_code::{Instruction, Instructions, Part};
 
 /// Where the body of a macro begins, and how many values it takes.
 #[derive(Clone, Copy)]

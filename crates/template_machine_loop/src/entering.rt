@@ -1,6 +1,6 @@
 //! The instructions that may enter a run within, or that say which template is extended.
 ghost use Rattle.std.specs.Prelude.{◌≡◌, ◌==◌, length};
-ghost use Rattle.template_code.specs.View.{code_of};
+ghost use Rattle.template_compiler_code.specs.View.{code_of};
 ghost use Rattle.template_machine_going.specs.Told.{CountsFailures};
 ghost use Rattle.template_machine_operands.specs.Operands.{operands_in};
 ghost use Rattle.template_machine_loop.specs.Entering.{Does};
@@ -14,7 +14,7 @@ use crate::rounds::print_rounds;
 use crate::templates::{Program, Templates};
 use crate::told::told_by;
 use std::alloc::Global;
-use template_code::Instruction;
+use template_compiler_code::Instruction;
 use template_machine_going::Stop;
 use template_machine_operands::Operands;
 use template_machine_state::State;

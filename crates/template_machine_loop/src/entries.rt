@@ -1,7 +1,7 @@
 //! What calls enter.
 ghost use Rattle.std.specs.Prelude.{◌≡◌, List};
-ghost use Rattle.template_code.specs.Code.{Code, Operand};
-ghost use Rattle.template_process.specs.Process.{value};
+ghost use Rattle.template_compiler_code.specs.Code.{Code, Operand};
+ghost use Rattle.template_compiler_process.specs.Process.{value};
 ghost use Rattle.template_machine_calls.specs.Calls as calls;
 ghost use Rattle.template_machine_calls.specs.Left.{entering_plan, entry_plan};
 ghost use Rattle.template_machine_going.specs.Told.{CountsFailures};

@@ -1,6 +1,6 @@
 //! Which template is extended.
 ghost use Rattle.std.specs.Prelude.{ℕ, List, Option, IfErr, OnErr};
-ghost use Rattle.template_process.specs.Process.{done};
+ghost use Rattle.template_compiler_process.specs.Process.{done};
 ghost use Rattle.template_machine_meaning.specs.Blocks.{load_plan};
 ghost use Rattle.template_machine_meaning.specs.Keeps.{KeepsWorld};
 ghost use Rattle.template_machine_going.specs.Told.{SparesSink};

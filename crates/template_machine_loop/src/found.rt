@@ -1,7 +1,7 @@
 //! Which body of a block runs.
 ghost use Rattle.std.specs.Prelude.{◌≡◌, ◌==◌, ◌&&◌, ◌∷◌, [], Bool, IfErr, IfNone, IfOk, IfSome, option_and_then, option_map};
-ghost use Rattle.template_code.specs.Listing.{code_in};
-ghost use Rattle.template_code.specs.Streams.{stream_in};
+ghost use Rattle.template_compiler_code.specs.Listing.{code_in};
+ghost use Rattle.template_compiler_code.specs.Streams.{stream_in};
 ghost use Rattle.template_values_errors.specs.declared.ErrorKind.TheVariants.{InvalidOperation};
 ghost use Rattle.template_machine_tables.specs.Streams.{home_of, stream_of};
 ghost use Rattle.template_machine_meaning.specs.Blocks.{super_plan};
@@ -10,7 +10,7 @@ ghost use Rattle.template_machine_loop.specs.Found.{FindsBehind, FindsBody, IsRe
 ghost use Rattle.template_machine_loop.specs.Programs.{block_at, code_at, kept_code, own_code, programs_under, roots_of, standing_of, template_at};
 
 use crate::templates::{Compiled, Program, Templates};
-use template_code::{CompiledBlock, Instructions, block_among};
+use template_compiler_code::{CompiledBlock, Instructions, block_among};
 use template_machine_state::{Body, Home, State, Stream};
 use template_values_errors::{Error, ErrorKind};
 

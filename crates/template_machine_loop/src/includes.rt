@@ -1,6 +1,6 @@
 //! Includes.
 ghost use Rattle.std.specs.Prelude.{◌≡◌, Ok, Err, Some, IfOk, IfErr, IfSome, option_map};
-ghost use Rattle.template_process.specs.Process.{done};
+ghost use Rattle.template_compiler_process.specs.Process.{done};
 ghost use Rattle.template_machine_meaning.specs.Includes.{first_standing, include_levels, include_plan, include_within};
 ghost use Rattle.template_machine_meaning.specs.Keeps.{KeepsWorld};
 ghost use Rattle.template_machine_meaning.specs.Plans.{room_for};

@@ -1,26 +1,26 @@
 //! Instructions that join texts, keep what is written, or set attributes, in a stretch with no fuel to pay them from.
 ghost use Rattle.std.specs.Prelude.{◌≡◌, ◌+◌, ◌^◌, ◌<◌, ℕ, IfErr, List, Option, None, Some, slice_get};
-ghost use Rattle.template_code.specs.Code.{Code, Operand, begin_capture, end_capture, operate, set_attr};
-ghost use Rattle.template_code.specs.Listing.{code_in};
-ghost use Rattle.template_code.specs.View.{is_kept};
+ghost use Rattle.template_compiler_code.specs.Code.{Code, Operand, begin_capture, end_capture, operate, set_attr};
+ghost use Rattle.template_compiler_code.specs.Listing.{code_in};
+ghost use Rattle.template_compiler_code.specs.View.{is_kept};
 ghost use Rattle.template_machine_going.specs.Told.{SparesSink};
 ghost use Rattle.template_machine_meaning.specs.Surroundings.{Programs};
 ghost use Rattle.template_machine_operands.specs.Operands.{operands_in};
 ghost use Rattle.template_machine_steps.specs.Performs.{ruled};
 ghost use Rattle.template_machine_loop.specs.Runs.{Advances};
-ghost use Rattle.template_tree.specs.declared.operators.BinOpKind.TheVariants.{Concat};
+ghost use Rattle.template_compiler_tree.specs.declared.operators.BinOpKind.TheVariants.{Concat};
 
 use crate::told::told_by;
 use crate::writing::onward;
 use std::alloc::Global;
-use template_code::{CaptureMode, Instructions};
+use template_compiler_code::{CaptureMode, Instructions};
+use template_compiler_tree::BinOpKind;
 use template_machine_going::Stop;
 use template_machine_growth::grow;
 use template_machine_operands::Operands;
 use template_machine_perform::{begin_capture, end_capture, set_attr};
 use template_machine_state::State;
 use template_machine_steps::operate;
-use template_tree::BinOpKind;
 use template_values_errors::{Error, ErrorKind, UndefinedBehavior};
 
 // Joins the two values on top by `~`, and tells the next place: that behind a whole statement, where it makes the text of an

@@ -1,8 +1,8 @@
 //! Calls of macros.
 ghost use Rattle.std.specs.Prelude.{◌≡◌, ◌⊎◌, IfErr, IfOk, map, reverse};
 ghost use Rattle.template_values_errors.specs.Memory.{NoMemory};
-ghost use Rattle.template_code.specs.Code.{single};
-ghost use Rattle.template_process.specs.Process.{value};
+ghost use Rattle.template_compiler_code.specs.Code.{single};
+ghost use Rattle.template_compiler_process.specs.Process.{value};
 ghost use Rattle.template_machine_meaning.specs.Keeps.{KeepsWorld};
 ghost use Rattle.template_machine_meaning.specs.Macros.{macro_plan};
 ghost use Rattle.template_machine_meaning.specs.Records.{macro_of};
@@ -20,7 +20,7 @@ use crate::running::run_from;
 use crate::templates::{Program, Templates};
 use crate::told::told_by;
 use std::alloc::Global;
-use template_code::Instructions;
+use template_compiler_code::Instructions;
 use template_machine_calls::{Bound, bind};
 use template_machine_going::Stop;
 use template_machine_operands::Operands;

@@ -1,7 +1,7 @@
 //! Rounds of loops that are called again.
 ghost use Rattle.std.specs.Prelude.{◌≡◌, ◌∷◌, [], Bool, IfErr, IfOk, None, Option, Some, is_some};
 ghost use Rattle.template_values_errors.specs.declared.ErrorKind.TheVariants.{InvalidOperation};
-ghost use Rattle.template_process.specs.Process.{done, value};
+ghost use Rattle.template_compiler_process.specs.Process.{done, value};
 ghost use Rattle.template_machine_meaning.specs.Keeps.{KeepsWorld};
 ghost use Rattle.template_machine_meaning.specs.Records.{loop_of};
 ghost use Rattle.template_machine_loops.specs.Rounds.{rounds_in};
@@ -21,7 +21,7 @@ use crate::running::run_from;
 use crate::templates::{Program, Templates};
 use crate::told::told_by;
 use std::alloc::Global;
-use template_code::Instructions;
+use template_compiler_code::Instructions;
 use template_machine_going::Stop;
 use template_machine_operands::Operands;
 use template_machine_operations as values;

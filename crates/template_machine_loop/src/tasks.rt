@@ -1,11 +1,11 @@
 //! What instructions want done.
 ghost use Rattle.std.specs.Prelude.{◌≡◌, if◌then◌else◌};
-ghost use Rattle.template_code.specs.View.{code_of};
-ghost use Rattle.template_walk.specs.Statements.{is_super_name};
+ghost use Rattle.template_compiler_code.specs.View.{code_of};
+ghost use Rattle.template_compiler_walk.specs.Statements.{is_super_name};
 ghost use Rattle.template_machine_loop.specs.Programs.{task_of};
 ghost use Rattle.template_machine_loop.specs.declared.tasks.Task.TheVariants.{Calls, Enters};
 
-use template_code::Instruction;
+use template_compiler_code::Instruction;
 
 /// What an instruction wants done.
 #[derive(Clone, Copy)]

@@ -6,7 +6,7 @@ ghost use Rattle.template_machine_going.specs.Told.{FaultsSo};
 use std::alloc::AllocError;
 use std::borrow::CowStr;
 use template_callables::Callbacks;
-use template_code::{CompiledBlock, Instructions};
+use template_compiler_code::{CompiledBlock, Instructions};
 use template_machine_calls::Rules;
 use template_machine_going::Stop;
 use template_values_errors::AutoEscape;

@@ -1,6 +1,6 @@
 //! The run of code with the templates that are extended.
 ghost use Rattle.std.specs.Prelude.{◌≡◌, ◌≤◌, length, Some};
-ghost use Rattle.template_code.specs.Listing.{code_in};
+ghost use Rattle.template_compiler_code.specs.Listing.{code_in};
 ghost use Rattle.template_machine_going.specs.Told.{CountsFailures};
 ghost use Rattle.template_machine_meaning.specs.Keeps.{KeepsWorld};
 ghost use Rattle.template_machine_meaning.specs.Keys.{Stream, whole_of};
@@ -10,7 +10,7 @@ ghost use Rattle.template_machine_loop.specs.Runs.{KeyRuns};
 use crate::running::run_to_end;
 use crate::templates::{Program, Templates};
 use std::alloc::Global;
-use template_code::Instructions;
+use template_compiler_code::Instructions;
 use template_machine_going::Stop;
 use template_machine_state::State;
 use template_machine_surroundings::Sink;

@@ -9,10 +9,10 @@ use Rattle.template_values_errors.specs.declared.ErrorKind.TheVariants.{InvalidO
 use Rattle.template_values_model.specs.Val.{Val}
 use Rattle.template_values_core.specs.Answers.{text_in}
 use Rattle.template_values_operators.specs.Iterated.{iterated}
-use Rattle.template_process.specs.Process as events
-use Rattle.template_process.specs.Process.{Ask, begin_capture, end_capture, load_blocks, Answer, done, value, tells, fails, breaks_off, Process, step, asks, on_done, on_value}
-use Rattle.template_process.specs.Trace.{Reply}
-use Rattle.template_walk.specs.Expressions.{block_walk}
+use Rattle.template_compiler_process.specs.Process as events
+use Rattle.template_compiler_process.specs.Process.{Ask, begin_capture, end_capture, load_blocks, Answer, done, value, tells, fails, breaks_off, Process, step, asks, on_done, on_value}
+use Rattle.template_compiler_process.specs.Trace.{Reply}
+use Rattle.template_compiler_walk.specs.Expressions.{block_walk}
 use Rattle.template_machine_meaning.specs.World.{Rounds, Loop, Frame, Capture, keeps, drops, World, empty_frame, loop_frame, seen_frames, depth_of, has_room}
 use Rattle.template_machine_meaning.specs.Captures.{captured, innermost, around_innermost, is_dropping}
 use Rattle.template_machine_meaning.specs.Bodies.{Bodies, bodies_at, with_bodies}

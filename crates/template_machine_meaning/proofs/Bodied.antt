@@ -2,9 +2,9 @@
 use Rattle.std.proofs.Common.{◌≡◌, ℕ, Bool, true, false, List, [], ◌∷◌, ◌++◌, Option, Some, option_map, subst}
 use Rattle.std.specs.Prelude.{if◌then◌else◌}
 use Rattle.std.specs.Str.{bytes_eq}
-use Rattle.template_tree.specs.Tree.{Statement, Statements, raw, print, for_loop, if_condition, with_block, set, set_block, auto_escape, filter_block, block, import, from_import, extends, include, macro, call_block, continue_loop, break_loop, do_call, absent, given, no_statements, statements_more}
-use Rattle.template_walk.specs.Blocks.{Block, blocks_by, blocks_in, block_among, block_named}
-use Rattle.template_walk.specs.Runnable.{IsRunnableStatement, AreRunnableStatements, IsRunnableTemplate}
+use Rattle.template_compiler_tree.specs.Tree.{Statement, Statements, raw, print, for_loop, if_condition, with_block, set, set_block, auto_escape, filter_block, block, import, from_import, extends, include, macro, call_block, continue_loop, break_loop, do_call, absent, given, no_statements, statements_more}
+use Rattle.template_compiler_walk.specs.Blocks.{Block, blocks_by, blocks_in, block_among, block_named}
+use Rattle.template_compiler_walk.specs.Runnable.{IsRunnableStatement, AreRunnableStatements, IsRunnableTemplate}
 
 abbrev AreRunnableBlocks : List Block → Type 0
 AreRunnableBlocks [] = Unit {0}

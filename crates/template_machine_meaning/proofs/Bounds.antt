@@ -3,17 +3,17 @@ use Rattle.std.proofs.Common.{◌≡◌, ℕ, ◌==◌, ◌≤◌, inl, inr, zer
 use Rattle.std.specs.Option.{option_and_then}
 use Rattle.std.proofs.lemmas.List.{map-append}
 use Rattle.template_values_errors.specs.declared.ErrorKind.{ErrorKind}
-use Rattle.template_tree.specs.Tree.{Statements}
-use Rattle.template_process.specs.Process.{Ask, Answer, breaks_off, Process, Below}
+use Rattle.template_compiler_tree.specs.Tree.{Statements}
+use Rattle.template_compiler_process.specs.Process.{Ask, Answer, breaks_off, Process, Below}
 use Rattle.template_values_model.specs.Val.{Val}
-use Rattle.template_process.specs.Drive.{End, ends, breaks, cuts}
-use Rattle.template_process.specs.Trace.{Item, Run, run, ended, behind}
-use Rattle.template_process.specs.Fuel.{Begins}
-use Rattle.template_process.specs.Approximants.{IsUnfinished, Extends, RepliesMore}
-use Rattle.template_process.proofs.Approximants.{runs_further}
-use Rattle.template_walk.specs.Statements.{number_of, macro_walk, rounds_walk}
-use Rattle.template_walk.specs.Counting.{MacroBody, LoopRounds, macro_numbered, rounds_numbered}
-use Rattle.template_walk.proofs.Rising.{walks_rise, macros_rise, rounds_rise}
+use Rattle.template_compiler_process.specs.Drive.{End, ends, breaks, cuts}
+use Rattle.template_compiler_process.specs.Trace.{Item, Run, run, ended, behind}
+use Rattle.template_compiler_process.specs.Fuel.{Begins}
+use Rattle.template_compiler_process.specs.Approximants.{IsUnfinished, Extends, RepliesMore}
+use Rattle.template_compiler_process.proofs.Approximants.{runs_further}
+use Rattle.template_compiler_walk.specs.Statements.{number_of, macro_walk, rounds_walk}
+use Rattle.template_compiler_walk.specs.Counting.{MacroBody, LoopRounds, macro_numbered, rounds_numbered}
+use Rattle.template_compiler_walk.proofs.Rising.{walks_rise, macros_rise, rounds_rise}
 use Rattle.template_machine_meaning.specs.World.{World}
 use Rattle.template_machine_meaning.specs.Keys.{standing, own, Part, whole, body_of, rounds_of, Key, whole_of, Around}
 use Rattle.template_machine_meaning.specs.Turnings.{Turning, turned}

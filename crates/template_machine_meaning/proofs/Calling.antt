@@ -8,8 +8,8 @@ use Rattle.template_values_forms.specs.Truth as truths
 use Rattle.template_values_forms.specs.Printed.{printed}
 use Rattle.template_values_errors.specs.declared.modes.AutoEscape.{AutoEscape}
 use Rattle.template_callables.specs.Callables.{Asked, call, filter, test, lookup, call_macro, block, Stated, finishes, refuses, goes_on, Says}
-use Rattle.template_process.specs.Process.{Ask, Answer, Told, tells, fails, value, asks, on_value}
-use Rattle.template_process.specs.Trace.{Reply}
+use Rattle.template_compiler_process.specs.Process.{Ask, Answer, Told, tells, fails, value, asks, on_value}
+use Rattle.template_compiler_process.specs.Trace.{Reply}
 use Rattle.template_machine_meaning.specs.World.{World, looked_up, given_at, put_given, depth_of}
 use Rattle.template_machine_meaning.specs.Records.{known_of, macro_of, loop_of}
 use Rattle.template_machine_meaning.specs.Replies.{told, changed, kinded, replied_with}

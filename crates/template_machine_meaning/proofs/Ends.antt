@@ -5,15 +5,15 @@ use Rattle.std.specs.Option.{ForSome, option_and_then}
 use Rattle.template_values_errors.specs.declared.ErrorKind.TheVariants.{TemplateNotFound}
 use Rattle.template_values_model.specs.Val as values
 use Rattle.template_values_model.specs.Val.{Val}
-use Rattle.template_tree.specs.Tree.{Statements, no_statements, statements_more, no_expressions}
-use Rattle.template_process.specs.Process.{no_counts, close_loop, tells, value, Process, over, asks, cut_short, on_done, on_value, truth_asked}
-use Rattle.template_process.specs.Drive.{End, ends, faults, breaks}
-use Rattle.template_process.specs.Trace.{Item, Run, run, behind, ended, replied}
-use Rattle.template_process.specs.Approximants.{IsFinished, IsUnfinished}
-use Rattle.template_walk.specs.Runnable.{IsRunnableTemplate}
-use Rattle.template_walk.specs.Statements.{number_of, outside, rounds, loop_end, arguments_walk, statements_walk, template_walk, macro_walk, rounds_walk}
-use Rattle.template_walk.specs.Counting.{MacroBody, LoopRounds, macro_numbered, rounds_numbered}
-use Rattle.template_names.specs.Names.{reversed}
+use Rattle.template_compiler_tree.specs.Tree.{Statements, no_statements, statements_more, no_expressions}
+use Rattle.template_compiler_process.specs.Process.{no_counts, close_loop, tells, value, Process, over, asks, cut_short, on_done, on_value, truth_asked}
+use Rattle.template_compiler_process.specs.Drive.{End, ends, faults, breaks}
+use Rattle.template_compiler_process.specs.Trace.{Item, Run, run, behind, ended, replied}
+use Rattle.template_compiler_process.specs.Approximants.{IsFinished, IsUnfinished}
+use Rattle.template_compiler_walk.specs.Runnable.{IsRunnableTemplate}
+use Rattle.template_compiler_walk.specs.Statements.{number_of, outside, rounds, loop_end, arguments_walk, statements_walk, template_walk, macro_walk, rounds_walk}
+use Rattle.template_compiler_walk.specs.Counting.{MacroBody, LoopRounds, macro_numbered, rounds_numbered}
+use Rattle.template_compiler_names.specs.Names.{reversed}
 use Rattle.template_machine_meaning.specs.World.{Loop, Frame, Capture, World, loop_frame, depth_of}
 use Rattle.template_machine_meaning.specs.Replies.{told}
 use Rattle.template_machine_meaning.specs.Captures.{around_innermost}

@@ -3,9 +3,9 @@ use Rattle.std.proofs.Common.{◌≡◌, ℕ, ◌+◌, ◌<◌, ◌≤◌, ◌�
 use Rattle.template_values_errors.specs.declared.ErrorKind.{ErrorKind}
 use Rattle.template_values_errors.specs.declared.ErrorKind.TheVariants.{InvalidOperation}
 use Rattle.template_values_model.specs.Val.{Val}
-use Rattle.template_process.specs.Process.{Ask, Answer, Told, tells, fails, Process, asks}
-use Rattle.template_process.specs.Drive.{ends, faults}
-use Rattle.template_process.specs.Trace.{Item, Run, run, behind, ended, replied}
+use Rattle.template_compiler_process.specs.Process.{Ask, Answer, Told, tells, fails, Process, asks}
+use Rattle.template_compiler_process.specs.Drive.{ends, faults}
+use Rattle.template_compiler_process.specs.Trace.{Item, Run, run, behind, ended, replied}
 use Rattle.template_machine_meaning.specs.World.{Loop, World, loop_frame}
 use Rattle.template_machine_meaning.specs.Keys.{Part, whole, body_of, rounds_of, Key}
 use Rattle.template_machine_meaning.specs.Laws.{MayGoRound}

@@ -1,19 +1,19 @@
 -- Over contexts that agree on the names that stand in an expression its evaluation leaves the same, and the same is handed out.
 use Rattle.std.proofs.Common.{◌≡◌, ℕ, inl, List, [], ◌∷◌, Option, None, Some, option_map, refl, sym, ap, ◌∙◌}
-use Rattle.template_names.specs.Among.{Among, nothing}
-use Rattle.template_walk.specs.Counting.{MacroBody}
+use Rattle.template_compiler_names.specs.Among.{Among, nothing}
+use Rattle.template_compiler_walk.specs.Counting.{MacroBody}
 use Rattle.std.specs.Prelude.{IsTrue}
 use Rattle.template_values_model.specs.Val.{Val}
 use Rattle.template_values_forms.specs.Known as forms
 use Rattle.template_values_forms.specs.Frozen.{frozen}
-use Rattle.template_tree.specs.Tree.{Expression}
-use Rattle.template_names.specs.Names.{stands_in}
-use Rattle.template_process.specs.Process.{Process, over}
-use Rattle.template_process.specs.Drive.{End, ends, breaks}
-use Rattle.template_process.specs.Trace.{Run, ended}
-use Rattle.template_process.specs.Fuel.{IsSameRun}
-use Rattle.template_process.proofs.Fuels.{cut_alike}
-use Rattle.template_walk.specs.Statements.{standalone_walk}
+use Rattle.template_compiler_tree.specs.Tree.{Expression}
+use Rattle.template_compiler_names.specs.Names.{stands_in}
+use Rattle.template_compiler_process.specs.Process.{Process, over}
+use Rattle.template_compiler_process.specs.Drive.{End, ends, breaks}
+use Rattle.template_compiler_process.specs.Trace.{Run, ended}
+use Rattle.template_compiler_process.specs.Fuel.{IsSameRun}
+use Rattle.template_compiler_process.proofs.Fuels.{cut_alike}
+use Rattle.template_compiler_walk.specs.Statements.{standalone_walk}
 use Rattle.template_machine_meaning.specs.World.{World, first_world}
 use Rattle.template_machine_meaning.specs.Replies.{kinded}
 use Rattle.template_machine_meaning.specs.Keys as keys

@@ -7,18 +7,18 @@ use Rattle.template_values_model.specs.Val.{Val, text}
 use Rattle.template_values_forms.specs.Truth as truths
 use Rattle.template_values_operators.specs.Kinds.{list_made}
 use Rattle.template_values_operators.specs.Slices.{slice_of}
-use Rattle.template_tree.specs.declared.operators.UnaryOpKind.{UnaryOpKind}
-use Rattle.template_tree.specs.declared.operators.UnaryOpKind.TheVariants.{Not, Neg}
-use Rattle.template_tree.specs.declared.operators.BinOpKind.{BinOpKind}
-use Rattle.template_tree.specs.declared.operators.BinOpKind.TheVariants.{ScAnd, ScOr}
-use Rattle.template_tree.specs.Tree.{Expression, Optional, Expressions, Links, Arguments, variable, constant, slice, unary, binary, chain, conditional, attribute, item, call, filtered, tested, list_literal, tuple_literal, map_literal, absent, given, no_expressions, expressions_more, no_links, links_more, no_arguments, arguments_more, positional, keyword, positional_spread, keyword_spread}
-use Rattle.template_process.specs.Process.{Ask, Answer, Told, tells, fails, breaks_off, leaves, done, value, truth, items, begin_capture, end_capture, call_block, look_up, operate, compare, get_attribute, get_item, get_slice, build_list, build_tuple, build_map, build_kwargs, merge_kwargs, spread, call_function, call_method, call_value, apply_filter, perform_test, truth_of, Process, over, step, asks, on_done, on_value, on_truth, on_all}
-use Rattle.template_process.specs.Trace.{Reply, Run, paid, run, behind, go_on, replied}
-use Rattle.template_walk.specs.Constants.{constant_of}
-use Rattle.template_walk.specs.Containers.{tuple_made, map_made, kwargs_made}
-use Rattle.template_walk.specs.Operators.{operated, compared, inverted, negated}
-use Rattle.template_walk.specs.Statements.{is_super_name, standalone_walk}
-use Rattle.template_walk.specs.Expressions.{folded, unary_ask, binary_walk, Giving, Passing, alone, spreads, listed, stretches_walk, mapped, entries_stretches, has_spread, merged_if, keywords_walk, run_if, passed_walk, Callee, by_name, by_method, by_block, by_value, callee_of, called_walk, expression_walk, object_walk, positional_walks, keyword_walks, optional_walk, expressions_walk, walks_of, entries_walk, chain_walk, linked_walk}
+use Rattle.template_compiler_tree.specs.declared.operators.UnaryOpKind.{UnaryOpKind}
+use Rattle.template_compiler_tree.specs.declared.operators.UnaryOpKind.TheVariants.{Not, Neg}
+use Rattle.template_compiler_tree.specs.declared.operators.BinOpKind.{BinOpKind}
+use Rattle.template_compiler_tree.specs.declared.operators.BinOpKind.TheVariants.{ScAnd, ScOr}
+use Rattle.template_compiler_tree.specs.Tree.{Expression, Optional, Expressions, Links, Arguments, variable, constant, slice, unary, binary, chain, conditional, attribute, item, call, filtered, tested, list_literal, tuple_literal, map_literal, absent, given, no_expressions, expressions_more, no_links, links_more, no_arguments, arguments_more, positional, keyword, positional_spread, keyword_spread}
+use Rattle.template_compiler_process.specs.Process.{Ask, Answer, Told, tells, fails, breaks_off, leaves, done, value, truth, items, begin_capture, end_capture, call_block, look_up, operate, compare, get_attribute, get_item, get_slice, build_list, build_tuple, build_map, build_kwargs, merge_kwargs, spread, call_function, call_method, call_value, apply_filter, perform_test, truth_of, Process, over, step, asks, on_done, on_value, on_truth, on_all}
+use Rattle.template_compiler_process.specs.Trace.{Reply, Run, paid, run, behind, go_on, replied}
+use Rattle.template_compiler_walk.specs.Constants.{constant_of}
+use Rattle.template_compiler_walk.specs.Containers.{tuple_made, map_made, kwargs_made}
+use Rattle.template_compiler_walk.specs.Operators.{operated, compared, inverted, negated}
+use Rattle.template_compiler_walk.specs.Statements.{is_super_name, standalone_walk}
+use Rattle.template_compiler_walk.specs.Expressions.{folded, unary_ask, binary_walk, Giving, Passing, alone, spreads, listed, stretches_walk, mapped, entries_stretches, has_spread, merged_if, keywords_walk, run_if, passed_walk, Callee, by_name, by_method, by_block, by_value, callee_of, called_walk, expression_walk, object_walk, positional_walks, keyword_walks, optional_walk, expressions_walk, walks_of, entries_walk, chain_walk, linked_walk}
 use Rattle.template_machine_meaning.specs.World.{Loop, Macro, Capture, World, looked_up, value_named, depth_of}
 use Rattle.template_machine_meaning.specs.Bodies.{Bodies, bodies_at}
 use Rattle.template_machine_meaning.specs.Captures.{capture_begun, captured, is_dropping}

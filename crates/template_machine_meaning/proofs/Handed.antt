@@ -6,10 +6,10 @@ use Rattle.template_values_errors.specs.declared.ErrorKind.TheVariants.{OutOfFue
 use Rattle.template_values_model.specs.Fault.{Fault, invalid_operation, bad_serialization, missing_argument}
 use Rattle.template_values_model.specs.Val.{Val}
 use Rattle.template_values_forms.specs.Frozen.{frozen}
-use Rattle.template_process.specs.Drive.{End, ends, faults}
-use Rattle.template_process.specs.Trace.{Run, price_of}
-use Rattle.template_process.specs.Fuel.{items_before, wraps_at, under}
-use Rattle.template_walk.specs.Statements.{standalone_walk}
+use Rattle.template_compiler_process.specs.Drive.{End, ends, faults}
+use Rattle.template_compiler_process.specs.Trace.{Run, price_of}
+use Rattle.template_compiler_process.specs.Fuel.{items_before, wraps_at, under}
+use Rattle.template_compiler_walk.specs.Statements.{standalone_walk}
 use Rattle.template_machine_meaning.specs.World.{World, first_world}
 use Rattle.template_machine_meaning.specs.Records.{known_of}
 use Rattle.template_machine_meaning.specs.Replies.{kinded}

@@ -5,7 +5,7 @@ use Rattle.std.proofs.lemmas.Bool.Decides.{nat_tests}
 use Rattle.template_values_errors.specs.declared.ErrorKind.{ErrorKind}
 use Rattle.template_values_errors.specs.declared.ErrorKind.TheVariants.{InvalidOperation, TemplateNotFound}
 use Rattle.template_values_model.specs.Val.{Val}
-use Rattle.template_process.specs.Process.{Ask, include, fails, asks, on_done}
+use Rattle.template_compiler_process.specs.Process.{Ask, include, fails, asks, on_done}
 use Rattle.template_machine_meaning.specs.World.{Frame, Capture, World, depth_of, has_room}
 use Rattle.template_machine_meaning.specs.Records.{known_of}
 use Rattle.template_machine_meaning.specs.Names.{name_of}

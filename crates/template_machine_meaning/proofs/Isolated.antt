@@ -6,18 +6,18 @@ use Rattle.std.specs.Str.{bytes_eq}
 use Rattle.std.proofs.lemmas.Bool.{or_left, or_right}
 use Rattle.template_values_model.specs.Val.{Val}
 use Rattle.template_callables.specs.Callables.{no_callables}
-use Rattle.template_tree.specs.Tree.{Statement, Statements, for_loop, if_condition, with_block, set_block, auto_escape, filter_block, block, no_statements, statements_more}
-use Rattle.template_names.specs.Among.{Among, nothing}
-use Rattle.template_names.specs.Names.{is_used_in, is_used, is_stored_everywhere}
-use Rattle.template_process.specs.Process.{Process}
-use Rattle.template_process.specs.Drive.{breaks}
-use Rattle.template_process.specs.Trace.{Run, run, ended}
-use Rattle.template_process.specs.Fuel.{IsSameRun}
-use Rattle.template_process.proofs.Fuels.{cut_alike}
-use Rattle.template_walk.specs.Statements.{number_of, template_walk, macro_walk, rounds_walk}
-use Rattle.template_walk.specs.Counting.{MacroBody, LoopRounds, macro_numbered, rounds_numbered}
-use Rattle.template_walk.specs.Blocks.{Block, blocks_by, blocks_in, block_among, block_named}
-use Rattle.template_walk.specs.Imported.{is_imported_by, is_imported}
+use Rattle.template_compiler_tree.specs.Tree.{Statement, Statements, for_loop, if_condition, with_block, set_block, auto_escape, filter_block, block, no_statements, statements_more}
+use Rattle.template_compiler_names.specs.Among.{Among, nothing}
+use Rattle.template_compiler_names.specs.Names.{is_used_in, is_used, is_stored_everywhere}
+use Rattle.template_compiler_process.specs.Process.{Process}
+use Rattle.template_compiler_process.specs.Drive.{breaks}
+use Rattle.template_compiler_process.specs.Trace.{Run, run, ended}
+use Rattle.template_compiler_process.specs.Fuel.{IsSameRun}
+use Rattle.template_compiler_process.proofs.Fuels.{cut_alike}
+use Rattle.template_compiler_walk.specs.Statements.{number_of, template_walk, macro_walk, rounds_walk}
+use Rattle.template_compiler_walk.specs.Counting.{MacroBody, LoopRounds, macro_numbered, rounds_numbered}
+use Rattle.template_compiler_walk.specs.Blocks.{Block, blocks_by, blocks_in, block_among, block_named}
+use Rattle.template_compiler_walk.specs.Imported.{is_imported_by, is_imported}
 use Rattle.template_machine_meaning.specs.World.{Bindings, Frame, World, first_world}
 use Rattle.template_machine_meaning.specs.Keys as keys
 use Rattle.template_machine_meaning.specs.Keys.{Home, standing, Stream, own, block_of, Part, whole, body_of, rounds_of, Key, whole_of}

@@ -6,8 +6,8 @@ use Rattle.std.specs.Str.{bytes_eq}
 use Rattle.std.proofs.lemmas.Bool.{lt-ltb}
 use Rattle.std.proofs.lemmas.List.{length-map}
 use Rattle.std.proofs.lemmas.Slice.Eq.{bytes_eq-Decides}
-use Rattle.template_process.specs.Process.{breaks_off}
-use Rattle.template_process.specs.Trace.{Reply}
+use Rattle.template_compiler_process.specs.Process.{breaks_off}
+use Rattle.template_compiler_process.specs.Trace.{Reply}
 use Rattle.template_machine_meaning.specs.World.{Loop, Frame, Capture, World, depth_of}
 use Rattle.template_machine_meaning.specs.Replies.{told}
 use Rattle.template_machine_meaning.specs.Blocks.{is_among}

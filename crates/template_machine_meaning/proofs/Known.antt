@@ -3,8 +3,8 @@ use Rattle.std.proofs.Common.{◌≡◌, ◌∙◌, refl, ℕ, Bool, true, false
 use Rattle.std.specs.Prelude.{IsTrue}
 use Rattle.std.specs.Str.{bytes_eq}
 use Rattle.std.proofs.lemmas.Bool.{or_left, or_right}
-use Rattle.template_names.specs.Among.{Among, nothing}
-use Rattle.template_process.specs.Process.{Ask, look_up, call_function, store, open_frame, close_frame, open_loop, next_item, close_loop, enclose, get_closure, build_macro, Answer, closure, Process, over, step, asks, amiss, cut_short, stuck}
+use Rattle.template_compiler_names.specs.Among.{Among, nothing}
+use Rattle.template_compiler_process.specs.Process.{Ask, look_up, call_function, store, open_frame, close_frame, open_loop, next_item, close_loop, enclose, get_closure, build_macro, Answer, closure, Process, over, step, asks, amiss, cut_short, stuck}
 
 -- the names that each open frame has of its own, the innermost first; and whether it is the frame of rounds that were called
 pub data Known : Type 0 where

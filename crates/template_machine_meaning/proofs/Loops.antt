@@ -2,9 +2,9 @@
 use Rattle.std.proofs.Common.{◌≡◌, ℕ, ◌+◌, ◌-◌, ◌≤◌, ◌⊎◌, inl, inr, zero, suc, Bool, true, false, List, [], ◌∷◌, ◌++◌, length, slice_get, Option, None, Some, if◌then◌else◌, refl, ap, ◌∙◌, arith}
 use Rattle.std.proofs.lemmas.Option.{slice_get_within}
 use Rattle.template_values_model.specs.Val.{Val}
-use Rattle.template_process.specs.Process.{next_item, close_loop, done, leaves, item, no_item, Process, step, asks, on_done, on_item}
-use Rattle.template_process.specs.Trace.{paid, run, behind, replied}
-use Rattle.template_walk.specs.Statements.{Exits, rounds}
+use Rattle.template_compiler_process.specs.Process.{next_item, close_loop, done, leaves, item, no_item, Process, step, asks, on_done, on_item}
+use Rattle.template_compiler_process.specs.Trace.{paid, run, behind, replied}
+use Rattle.template_compiler_walk.specs.Statements.{Exits, rounds}
 use Rattle.template_machine_meaning.specs.World.{Loop, Frame, World, loop_frame, drop_given}
 use Rattle.template_machine_meaning.specs.Replies.{told, changed}
 use Rattle.template_machine_meaning.specs.Leaving.{is_held, loop_left}

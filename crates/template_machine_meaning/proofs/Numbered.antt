@@ -1,11 +1,11 @@
 -- The macros and the rounds of loops that stand in what is made of constructs that have a walk are made of such, too.
 use Rattle.std.proofs.Common.{ℕ, ◌==◌, Bool, true, false, Option, None, Some, if◌then◌else◌}
 use Rattle.std.specs.Prelude.{nat_lt}
-use Rattle.template_tree.specs.Tree.{Statement, Statements, for_loop, if_condition, with_block, set_block, auto_escape, filter_block, macro, call_block, absent, given, no_statements, statements_more}
-use Rattle.template_process.specs.Process.{Counts, no_counts, counted_together}
-use Rattle.template_walk.specs.Expressions.{Callee, by_name, by_method, by_block, by_value, callee_of}
-use Rattle.template_walk.specs.Counting.{loop_counts, counts_by, counts_among, MacroBody, LoopRounds, within_caller, macro_by, macro_among, rounds_or, rounds_by, rounds_among, macro_numbered, rounds_numbered}
-use Rattle.template_walk.specs.Runnable.{AreRunnable, IsTarget, AreTargets, IsRunnableStatement, AreRunnableStatements, IsRunnableTemplate}
+use Rattle.template_compiler_tree.specs.Tree.{Statement, Statements, for_loop, if_condition, with_block, set_block, auto_escape, filter_block, macro, call_block, absent, given, no_statements, statements_more}
+use Rattle.template_compiler_process.specs.Process.{Counts, no_counts, counted_together}
+use Rattle.template_compiler_walk.specs.Expressions.{Callee, by_name, by_method, by_block, by_value, callee_of}
+use Rattle.template_compiler_walk.specs.Counting.{loop_counts, counts_by, counts_among, MacroBody, LoopRounds, within_caller, macro_by, macro_among, rounds_or, rounds_by, rounds_among, macro_numbered, rounds_numbered}
+use Rattle.template_compiler_walk.specs.Runnable.{AreRunnable, IsTarget, AreTargets, IsRunnableStatement, AreRunnableStatements, IsRunnableTemplate}
 
 abbrev pub MacroRuns : MacroBody → Type 0
 MacroRuns b = AreTargets b.arguments × AreRunnable b.defaults × AreRunnableStatements false b.body

@@ -19,13 +19,13 @@ use Rattle.template_values_operators.specs.Kinds.{list_made}
 use Rattle.template_values_operators.specs.Slices.{slice_of}
 use Rattle.template_callables.specs.Callables as callables
 use Rattle.template_callables.specs.Callables.{View, Formatted, writes, forbids, Asked, call, filter, test, lookup, call_macro, block, Stated, finishes, refuses, goes_on, Says}
-use Rattle.template_names.specs.Among.{Among, nothing}
-use Rattle.template_process.specs.Process.{Looping, Making, Ask, look_up, store, negate, invert, operate, compare, get_attribute, get_item, get_slice, set_attribute, build_list, build_tuple, build_map, build_kwargs, merge_kwargs, call_function, call_method, call_value, apply_filter, perform_test, truth_of, unpack, spread, write_raw, write_value, open_frame, close_frame, open_loop, next_item, did_not_iterate, close_loop, open_escape, close_escape, begin_capture, end_capture, enclose, get_closure, build_macro, recurse, call_block, super_block, load_blocks, export_locals, include, Answer, done, value, truth, items, closure, Told, tells, fails, breaks_off, leaves, Process, over, step, asks, amiss, cut_short, stuck}
-use Rattle.template_process.specs.Drive.{End, ends, faults}
-use Rattle.template_process.specs.Trace.{Item, paid, written, Reply, Run, run, behind, go_on, replied}
-use Rattle.template_walk.specs.Containers.{tuple_made, map_made, kwargs_made}
-use Rattle.template_walk.specs.Operators.{operated, compared, inverted, negated}
-use Rattle.template_walk.specs.Statements.{is_super_name}
+use Rattle.template_compiler_names.specs.Among.{Among, nothing}
+use Rattle.template_compiler_process.specs.Process.{Looping, Making, Ask, look_up, store, negate, invert, operate, compare, get_attribute, get_item, get_slice, set_attribute, build_list, build_tuple, build_map, build_kwargs, merge_kwargs, call_function, call_method, call_value, apply_filter, perform_test, truth_of, unpack, spread, write_raw, write_value, open_frame, close_frame, open_loop, next_item, did_not_iterate, close_loop, open_escape, close_escape, begin_capture, end_capture, enclose, get_closure, build_macro, recurse, call_block, super_block, load_blocks, export_locals, include, Answer, done, value, truth, items, closure, Told, tells, fails, breaks_off, leaves, Process, over, step, asks, amiss, cut_short, stuck}
+use Rattle.template_compiler_process.specs.Drive.{End, ends, faults}
+use Rattle.template_compiler_process.specs.Trace.{Item, paid, written, Reply, Run, run, behind, go_on, replied}
+use Rattle.template_compiler_walk.specs.Containers.{tuple_made, map_made, kwargs_made}
+use Rattle.template_compiler_walk.specs.Operators.{operated, compared, inverted, negated}
+use Rattle.template_compiler_walk.specs.Statements.{is_super_name}
 use Rattle.template_machine_meaning.specs.World.{Bindings, Rounds, Loop, Frame, Macro, Capture, World, local_at, closure_of, seen_frames, looked_up, value_named, given_at, put_given, drop_given, put_local, depth_of, has_room, loop_over, loop_frame, empty_frame}
 use Rattle.template_machine_meaning.specs.Captures.{with_text, captured, is_dropping}
 use Rattle.template_machine_meaning.specs.Closures.{put_in_closure, stands, writing, writes_of, enclosing}

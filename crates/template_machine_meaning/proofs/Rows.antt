@@ -6,18 +6,18 @@ use Rattle.template_values_errors.specs.declared.modes.AutoEscape.TheVariants as
 use Rattle.template_values_errors.specs.declared.modes.UndefinedBehavior.{UndefinedBehavior}
 use Rattle.template_values_errors.specs.declared.modes.UndefinedBehavior.TheVariants.{Lenient, Strict}
 use Rattle.template_values_model.specs.Val.{Val, undefined, int, text, map, function, namespace, no_pairs, pairs_more}
-use Rattle.template_tree.specs.declared.operators.BinOpKind.TheVariants as operators
-use Rattle.template_tree.specs.declared.operators.CompareOpKind.TheVariants.{Lt, Gt}
+use Rattle.template_compiler_tree.specs.declared.operators.BinOpKind.TheVariants as operators
+use Rattle.template_compiler_tree.specs.declared.operators.CompareOpKind.TheVariants.{Lt, Gt}
 use Rattle.std.specs.Fmt as fmt
 use Rattle.template_values_forms.specs.Printed as printed_forms
-use Rattle.template_tree.specs.Tree as tree
-use Rattle.template_tree.specs.Tree.{Expression, Expressions, Arguments, Statement, Statements, variable, constant, binary, chain, filtered, tested, attribute, call, list_literal, absent, given, no_expressions, expressions_more, no_arguments, arguments_more, positional, keyword, positional_spread, keyword_spread, no_links, links_more, raw, print, for_loop, if_condition, macro, call_block, block, extends, import, set, set_block, filter_block, no_statements, statements_more}
+use Rattle.template_compiler_tree.specs.Tree as tree
+use Rattle.template_compiler_tree.specs.Tree.{Expression, Expressions, Arguments, Statement, Statements, variable, constant, binary, chain, filtered, tested, attribute, call, list_literal, absent, given, no_expressions, expressions_more, no_arguments, arguments_more, positional, keyword, positional_spread, keyword_spread, no_links, links_more, raw, print, for_loop, if_condition, macro, call_block, block, extends, import, set, set_block, filter_block, no_statements, statements_more}
 use Rattle.template_callables.specs.Callables as asked
 use Rattle.template_callables.specs.Callables.{filter, lookup, finishes, refuses, goes_on, Says, Callables, no_callables}
 use Rattle.template_callables.specs.Joins.{Joins, keeps_name}
-use Rattle.template_process.specs.Drive.{End, ends, faults}
-use Rattle.template_process.specs.Trace.{Run, text_of, price_of}
-use Rattle.template_process.specs.Fuel.{under}
+use Rattle.template_compiler_process.specs.Drive.{End, ends, faults}
+use Rattle.template_compiler_process.specs.Trace.{Run, text_of, price_of}
+use Rattle.template_compiler_process.specs.Fuel.{under}
 use Rattle.template_machine_meaning.specs.World.{Globals, World, local_at, range_number, dict_number, namespace_number}
 use Rattle.template_machine_meaning.specs.Meaning.{Standing, Setting, rendered, evaluated}
 

@@ -6,14 +6,14 @@ use Rattle.template_values_errors.specs.declared.ErrorKind.TheVariants.{InvalidO
 use Rattle.template_values_model.specs.Val as values
 use Rattle.template_values_model.specs.Val.{Val}
 use Rattle.template_values_core.specs.Order.{val_cmp}
-use Rattle.template_tree.specs.Tree.{Expression, Optional, Expressions, variable, attribute, list_literal, absent, given, no_expressions, expressions_more, Assignments, no_assignments, assignments_more}
-use Rattle.template_process.specs.Process as events
-use Rattle.template_process.specs.Process.{Making, Ask, store, set_attribute, unpack, close_frame, enclose, get_closure, build_macro, done, items, tells, step, asks, amiss, on_done, on_value, on_items, on_closure, truth_of, on_truth}
-use Rattle.template_process.specs.Trace.{run, replied}
+use Rattle.template_compiler_tree.specs.Tree.{Expression, Optional, Expressions, variable, attribute, list_literal, absent, given, no_expressions, expressions_more, Assignments, no_assignments, assignments_more}
+use Rattle.template_compiler_process.specs.Process as events
+use Rattle.template_compiler_process.specs.Process.{Making, Ask, store, set_attribute, unpack, close_frame, enclose, get_closure, build_macro, done, items, tells, step, asks, amiss, on_done, on_value, on_items, on_closure, truth_of, on_truth}
+use Rattle.template_compiler_process.specs.Trace.{run, replied}
 use Rattle.template_values_operators.specs.Kinds.{is_undefined}
-use Rattle.template_walk.specs.Statements.{number_of, target_walk, targets_walk, assignments_walk, enclosed_walk, making_walk, argument_walk, first_of, rest_of, arguments_walk}
-use Rattle.template_walk.specs.Expressions.{expression_walk}
-use Rattle.template_walk.specs.Runnable.{IsRunnableIfGiven, AreRunnable, IsTarget, AreTargets, AreAssignments}
+use Rattle.template_compiler_walk.specs.Statements.{number_of, target_walk, targets_walk, assignments_walk, enclosed_walk, making_walk, argument_walk, first_of, rest_of, arguments_walk}
+use Rattle.template_compiler_walk.specs.Expressions.{expression_walk}
+use Rattle.template_compiler_walk.specs.Runnable.{IsRunnableIfGiven, AreRunnable, IsTarget, AreTargets, AreAssignments}
 use Rattle.template_machine_meaning.specs.World.{Bindings, Frame, World, local_at, closure_of, put_local, value_named, depth_of, has_room}
 use Rattle.template_machine_meaning.specs.Records.{known_of}
 use Rattle.template_machine_meaning.specs.Replies.{told, changed, replied_with, changed_with}

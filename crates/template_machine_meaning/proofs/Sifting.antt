@@ -6,12 +6,12 @@ use Rattle.template_values_errors.specs.declared.ErrorKind.{ErrorKind}
 use Rattle.template_values_model.specs.Val.{Val}
 use Rattle.template_values_operators.specs.Iterated.{iterated}
 use Rattle.template_values_operators.specs.Kinds.{list_made}
-use Rattle.template_tree.specs.Tree.{Expression, Optional, absent, given}
-use Rattle.template_process.specs.Process.{spread, build_list, truth_of, open_loop, next_item, close_loop, Answer, done, item, no_item, Process, step, asks, on_done, on_value, on_truth, on_item, on_all}
-use Rattle.template_process.specs.Trace.{paid, run, behind, replied}
-use Rattle.template_walk.specs.Expressions.{expression_walk}
-use Rattle.template_walk.specs.Statements.{target_walk, nameless_loop, kept_rounds, sifting, iterable_walk}
-use Rattle.template_walk.specs.Runnable.{IsRunnable, IsRunnableIfGiven, IsTarget}
+use Rattle.template_compiler_tree.specs.Tree.{Expression, Optional, absent, given}
+use Rattle.template_compiler_process.specs.Process.{spread, build_list, truth_of, open_loop, next_item, close_loop, Answer, done, item, no_item, Process, step, asks, on_done, on_value, on_truth, on_item, on_all}
+use Rattle.template_compiler_process.specs.Trace.{paid, run, behind, replied}
+use Rattle.template_compiler_walk.specs.Expressions.{expression_walk}
+use Rattle.template_compiler_walk.specs.Statements.{target_walk, nameless_loop, kept_rounds, sifting, iterable_walk}
+use Rattle.template_compiler_walk.specs.Runnable.{IsRunnable, IsRunnableIfGiven, IsTarget}
 use Rattle.template_machine_meaning.specs.World.{Loop, World, depth_of, has_room, loop_over, counted_loop}
 use Rattle.template_machine_meaning.specs.Records.{known_of}
 use Rattle.template_machine_meaning.specs.Undefined.{forbids_iterating}

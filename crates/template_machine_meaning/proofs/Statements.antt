@@ -11,18 +11,18 @@ use Rattle.template_values_forms.specs.Escaped.{escaped}
 use Rattle.template_values_operators.specs.Iterated.{iterated}
 use Rattle.template_callables.specs.Callables as callables
 use Rattle.template_callables.specs.Callables.{View, Formatted, writes, forbids}
-use Rattle.template_tree.specs.Tree as tree
-use Rattle.template_tree.specs.Kinds.{is_empty}
-use Rattle.template_tree.specs.Tree.{Expression, Expressions, no_expressions, expressions_more, Arguments, variable, positional, keyword, positional_spread, keyword_spread, no_arguments, arguments_more, macro, Statement, Statements, Imports, call, absent, given, raw, print, for_loop, if_condition, with_block, set, set_block, auto_escape, filter_block, block, import, from_import, extends, include, continue_loop, break_loop, do_call, no_statements, statements_more, no_imports, imports_more}
-use Rattle.template_process.specs.Process as events
-use Rattle.template_process.specs.Process.{Counts, no_counts, counted_together, Looping, Making, Ask, store, truth_of, write_raw, write_value, open_frame, close_frame, open_loop, did_not_iterate, close_loop, open_escape, close_escape, begin_capture, end_capture, load_blocks, export_locals, done, value, tells, fails, Process, step, asks, on_done, on_value, on_truth, done_asked}
-use Rattle.template_process.specs.Trace.{written, Reply, run, replied}
-use Rattle.template_names.specs.Enclosed.{enclosed_names}
-use Rattle.template_walk.specs.Counting.{loop_counts, counts_by, counts_among, MacroBody, LoopRounds}
-use Rattle.template_names.specs.Names.{reversed}
-use Rattle.template_walk.specs.Expressions.{Giving, Passing, alone, spreads, Callee, by_name, by_block, callee_of, object_walk, positional_walks, keyword_walks, expression_walk, expressions_walk, filters_walk}
-use Rattle.template_walk.specs.Statements.{closing, capturing, target_walk, assignments_walk, rounds, iterable_walk, loop_end, looping_behind, Printed, prints_value, prints_block, prints_super, prints_rounds, is_super_name, is_loop_name, printed_rounds, printed_by, printed_of, printed_walk, making_of, making_walk, declared_walk, caller_name, calling_walk, arguments_walk, imported_names, stored_as, imports_stored, apart, past, statement_walk, statements_walk}
-use Rattle.template_walk.specs.Runnable.{IsRunnable, AreRunnableArguments, AreRunnable, AreFilters, IsTarget, AreTargets, AreImports, IsRunnableStatement, AreRunnableStatements}
+use Rattle.template_compiler_tree.specs.Tree as tree
+use Rattle.template_compiler_tree.specs.Kinds.{is_empty}
+use Rattle.template_compiler_tree.specs.Tree.{Expression, Expressions, no_expressions, expressions_more, Arguments, variable, positional, keyword, positional_spread, keyword_spread, no_arguments, arguments_more, macro, Statement, Statements, Imports, call, absent, given, raw, print, for_loop, if_condition, with_block, set, set_block, auto_escape, filter_block, block, import, from_import, extends, include, continue_loop, break_loop, do_call, no_statements, statements_more, no_imports, imports_more}
+use Rattle.template_compiler_process.specs.Process as events
+use Rattle.template_compiler_process.specs.Process.{Counts, no_counts, counted_together, Looping, Making, Ask, store, truth_of, write_raw, write_value, open_frame, close_frame, open_loop, did_not_iterate, close_loop, open_escape, close_escape, begin_capture, end_capture, load_blocks, export_locals, done, value, tells, fails, Process, step, asks, on_done, on_value, on_truth, done_asked}
+use Rattle.template_compiler_process.specs.Trace.{written, Reply, run, replied}
+use Rattle.template_compiler_names.specs.Enclosed.{enclosed_names}
+use Rattle.template_compiler_walk.specs.Counting.{loop_counts, counts_by, counts_among, MacroBody, LoopRounds}
+use Rattle.template_compiler_names.specs.Names.{reversed}
+use Rattle.template_compiler_walk.specs.Expressions.{Giving, Passing, alone, spreads, Callee, by_name, by_block, callee_of, object_walk, positional_walks, keyword_walks, expression_walk, expressions_walk, filters_walk}
+use Rattle.template_compiler_walk.specs.Statements.{closing, capturing, target_walk, assignments_walk, rounds, iterable_walk, loop_end, looping_behind, Printed, prints_value, prints_block, prints_super, prints_rounds, is_super_name, is_loop_name, printed_rounds, printed_by, printed_of, printed_walk, making_of, making_walk, declared_walk, caller_name, calling_walk, arguments_walk, imported_names, stored_as, imports_stored, apart, past, statement_walk, statements_walk}
+use Rattle.template_compiler_walk.specs.Runnable.{IsRunnable, AreRunnableArguments, AreRunnable, AreFilters, IsTarget, AreTargets, AreImports, IsRunnableStatement, AreRunnableStatements}
 use Rattle.template_machine_meaning.specs.World.{Loop, Frame, Capture, keeps, drops, World, empty_frame, depth_of, has_room, loop_over, counted_loop}
 use Rattle.template_machine_meaning.specs.Captures.{with_text}
 use Rattle.template_machine_meaning.specs.Records.{known_of}

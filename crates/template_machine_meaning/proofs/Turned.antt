@@ -7,7 +7,7 @@ use Rattle.std.proofs.lemmas.Bool.{or_cases}
 use Rattle.std.proofs.lemmas.Slice.Eq.{bytes_eq-Decides}
 use Rattle.template_values_model.specs.Val.{Val, undefined}
 use Rattle.template_values_model.specs.Lookup.{value_at}
-use Rattle.template_names.specs.Among.{Among}
+use Rattle.template_compiler_names.specs.Among.{Among}
 use Rattle.template_machine_meaning.specs.Keys.{Stream}
 use Rattle.template_machine_meaning.specs.World.{Bindings, Loop, Frame, Macro, World, local_at, known_by_loop, closure_of, own_in, known_in, known_at, context_beneath, base_context, put_local, depth_behind, depth_within}
 use Rattle.template_machine_meaning.specs.Records.{loops_of, known_by, known_of}

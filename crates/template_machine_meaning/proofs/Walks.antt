@@ -7,25 +7,25 @@ use Rattle.std.proofs.lemmas.Bool.Decides.{nat_tests}
 use Rattle.std.proofs.lemmas.Slice.Eq.{bytes_eq-Decides}
 use Rattle.template_values_model.specs.Val as values
 use Rattle.template_values_model.specs.Val.{Val}
-use Rattle.template_tree.specs.declared.operators.UnaryOpKind.{UnaryOpKind}
-use Rattle.template_tree.specs.declared.operators.UnaryOpKind.TheVariants.{Not, Neg}
-use Rattle.template_tree.specs.declared.operators.BinOpKind.{BinOpKind}
-use Rattle.template_tree.specs.declared.operators.BinOpKind.TheVariants.{ScAnd, ScOr}
-use Rattle.template_tree.specs.Tree.{Expression, Optional, Expressions, Links, Arguments, variable, constant, slice, unary, binary, chain, conditional, attribute, item, call, filtered, tested, list_literal, tuple_literal, map_literal, absent, given, no_expressions, expressions_more, no_links, links_more, no_arguments, arguments_more, positional, keyword, positional_spread, keyword_spread, Statement, Statements, Assignments, Imports, raw, print, for_loop, if_condition, with_block, set, set_block, auto_escape, filter_block, block, import, from_import, extends, include, continue_loop, break_loop, do_call, no_statements, statements_more, no_assignments, assignments_more, no_imports, imports_more, macro, call_block}
-use Rattle.template_tree.specs.Kinds.{is_self_name, is_empty}
-use Rattle.template_names.proofs.Plain.{in_attribute}
-use Rattle.template_names.specs.Names as imported
-use Rattle.template_names.specs.Among.{Among, nothing}
-use Rattle.template_names.specs.Enclosed.{is_listed, enclosed_names, encloses}
-use Rattle.template_names.proofs.Enclosing.{encloses_used}
-use Rattle.template_names.specs.Names.{anywhere, reversed, place_in_argument, place_in_arguments, place_in_targets, place_of_arguments, place_of_macro, stands_in, stands_if_given, stands_in_one, stands_in_links, is_stored_in, is_stored_in_one, is_used_by_target, is_used_from, is_stored_by, is_stored_everywhere, is_used_by, is_used_in}
-use Rattle.template_process.specs.Process as events
-use Rattle.template_process.specs.Process.{Counts, no_counts, counted_together, call_function, call_method, call_value, apply_filter, perform_test, close_frame, Looping, open_loop, close_loop, close_escape, enclose, get_closure, build_macro, store, Making, Answer, done, value, truth, items, no_item, closure, Process, over, step, asks, amiss, cut_short, on_done, on_value, on_truth, on_item, on_items, on_all, on_closure}
-use Rattle.template_walk.specs.Constants.{constant_of}
-use Rattle.template_walk.specs.Expressions.{folded, unary_ask, binary_walk, Giving, Passing, alone, spreads, listed, stretches_walk, mapped, entries_stretches, has_spread, merged_if, keywords_walk, run_if, passed_walk, Callee, by_name, by_method, by_block, by_value, attribute_called, callee_of, called_walk, expression_walk, object_walk, positional_walks, keyword_walks, optional_walk, expressions_walk, walks_of, entries_walk, chain_walk, linked_walk, filter_walk, filters_walk}
-use Rattle.template_walk.specs.Counting.{loop_counts, caller_counts, counts_by, counts_among, MacroBody, LoopRounds, below_or, within_caller, macro_by, macro_among, macro_numbered, rounds_or, rounds_by, rounds_among, rounds_numbered}
-use Rattle.template_walk.specs.Statements.{Exits, outside, closing, capture_left, capturing, number_of, target_walk, targets_walk, assignments_walk, rounds, looping_behind, kept_rounds, sifting, iterable_walk, loop_end, Printed, prints_value, prints_block, prints_super, prints_rounds, is_super_name, is_loop_name, printed_rounds, printed_by, printed_of, printed_walk, imported_names, stored_as, imports_stored, apart, past, making_of, enclosed_walk, making_walk, declared_walk, caller_name, statement_walk, statements_walk, template_walk, arguments_walk, macro_walk, rounds_walk}
-use Rattle.template_walk.specs.Imported.{is_name, is_one_of, is_imported_by, is_imported}
+use Rattle.template_compiler_tree.specs.declared.operators.UnaryOpKind.{UnaryOpKind}
+use Rattle.template_compiler_tree.specs.declared.operators.UnaryOpKind.TheVariants.{Not, Neg}
+use Rattle.template_compiler_tree.specs.declared.operators.BinOpKind.{BinOpKind}
+use Rattle.template_compiler_tree.specs.declared.operators.BinOpKind.TheVariants.{ScAnd, ScOr}
+use Rattle.template_compiler_tree.specs.Tree.{Expression, Optional, Expressions, Links, Arguments, variable, constant, slice, unary, binary, chain, conditional, attribute, item, call, filtered, tested, list_literal, tuple_literal, map_literal, absent, given, no_expressions, expressions_more, no_links, links_more, no_arguments, arguments_more, positional, keyword, positional_spread, keyword_spread, Statement, Statements, Assignments, Imports, raw, print, for_loop, if_condition, with_block, set, set_block, auto_escape, filter_block, block, import, from_import, extends, include, continue_loop, break_loop, do_call, no_statements, statements_more, no_assignments, assignments_more, no_imports, imports_more, macro, call_block}
+use Rattle.template_compiler_tree.specs.Kinds.{is_self_name, is_empty}
+use Rattle.template_compiler_names.proofs.Plain.{in_attribute}
+use Rattle.template_compiler_names.specs.Names as imported
+use Rattle.template_compiler_names.specs.Among.{Among, nothing}
+use Rattle.template_compiler_names.specs.Enclosed.{is_listed, enclosed_names, encloses}
+use Rattle.template_compiler_names.proofs.Enclosing.{encloses_used}
+use Rattle.template_compiler_names.specs.Names.{anywhere, reversed, place_in_argument, place_in_arguments, place_in_targets, place_of_arguments, place_of_macro, stands_in, stands_if_given, stands_in_one, stands_in_links, is_stored_in, is_stored_in_one, is_used_by_target, is_used_from, is_stored_by, is_stored_everywhere, is_used_by, is_used_in}
+use Rattle.template_compiler_process.specs.Process as events
+use Rattle.template_compiler_process.specs.Process.{Counts, no_counts, counted_together, call_function, call_method, call_value, apply_filter, perform_test, close_frame, Looping, open_loop, close_loop, close_escape, enclose, get_closure, build_macro, store, Making, Answer, done, value, truth, items, no_item, closure, Process, over, step, asks, amiss, cut_short, on_done, on_value, on_truth, on_item, on_items, on_all, on_closure}
+use Rattle.template_compiler_walk.specs.Constants.{constant_of}
+use Rattle.template_compiler_walk.specs.Expressions.{folded, unary_ask, binary_walk, Giving, Passing, alone, spreads, listed, stretches_walk, mapped, entries_stretches, has_spread, merged_if, keywords_walk, run_if, passed_walk, Callee, by_name, by_method, by_block, by_value, attribute_called, callee_of, called_walk, expression_walk, object_walk, positional_walks, keyword_walks, optional_walk, expressions_walk, walks_of, entries_walk, chain_walk, linked_walk, filter_walk, filters_walk}
+use Rattle.template_compiler_walk.specs.Counting.{loop_counts, caller_counts, counts_by, counts_among, MacroBody, LoopRounds, below_or, within_caller, macro_by, macro_among, macro_numbered, rounds_or, rounds_by, rounds_among, rounds_numbered}
+use Rattle.template_compiler_walk.specs.Statements.{Exits, outside, closing, capture_left, capturing, number_of, target_walk, targets_walk, assignments_walk, rounds, looping_behind, kept_rounds, sifting, iterable_walk, loop_end, Printed, prints_value, prints_block, prints_super, prints_rounds, is_super_name, is_loop_name, printed_rounds, printed_by, printed_of, printed_walk, imported_names, stored_as, imports_stored, apart, past, making_of, enclosed_walk, making_walk, declared_walk, caller_name, statement_walk, statements_walk, template_walk, arguments_walk, macro_walk, rounds_walk}
+use Rattle.template_compiler_walk.specs.Imported.{is_name, is_one_of, is_imported_by, is_imported}
 use Rattle.template_machine_meaning.specs.Isolation.{used_of_rounds, is_used_by_rounds_of, is_used_by_rounds, IsName, AreNames, AreAllNames, ImportsNamesAt, ImportsNames}
 use Rattle.template_machine_meaning.proofs.Expressions.{itself, value_walk}
 use Rattle.template_machine_meaning.proofs.Known as makings

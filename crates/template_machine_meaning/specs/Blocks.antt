@@ -6,7 +6,7 @@ use Rattle.template_values_errors.specs.declared.ErrorKind.{ErrorKind}
 use Rattle.template_values_errors.specs.declared.ErrorKind.TheVariants.{InvalidOperation, TemplateNotFound, UnknownBlock, EvalBlock}
 use Rattle.template_values_model.specs.Val.{Val}
 use Rattle.template_values_core.specs.Answers.{text_in}
-use Rattle.template_process.specs.Process.{tells, fails, done}
+use Rattle.template_compiler_process.specs.Process.{tells, fails, done}
 use Rattle.template_machine_meaning.specs.Keys.{Home, standing, Stream, block_of, whole_of, Head, Around}
 use Rattle.template_machine_meaning.specs.Bodies.{Bodies, bodies_at, with_bodies, with_place}
 use Rattle.template_machine_meaning.specs.World.{World, Capture, keeps, drops, empty_frame}

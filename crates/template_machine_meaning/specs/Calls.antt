@@ -8,7 +8,7 @@ use Rattle.template_values_model.specs.Val.{Val, vals_of}
 use Rattle.template_values_core.specs.Order.{val_cmp}
 use Rattle.template_values_named.specs.Named.{with_all_named}
 use Rattle.template_callables.specs.Callables.{View, Asked, call, filter, test, lookup, call_macro, block, Stated, finishes, refuses, goes_on, Says, Callables}
-use Rattle.template_process.specs.Process.{tells, fails, value}
+use Rattle.template_compiler_process.specs.Process.{tells, fails, value}
 use Rattle.template_machine_meaning.specs.World.{World, looked_up, value_named, given_at, put_given, depth_of}
 use Rattle.template_machine_meaning.specs.Records.{macro_of, loop_of}
 use Rattle.template_machine_meaning.specs.Replies.{told, changed, refused, replied_with}

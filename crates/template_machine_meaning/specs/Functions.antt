@@ -11,7 +11,7 @@ use Rattle.template_values_core.specs.Maps.{pairs_of}
 use Rattle.template_values_forms.specs.Known.{LoopSeen, MacroSeen, Known}
 use Rattle.template_values_operators.specs.Kinds.{is_undefined}
 use Rattle.template_values_operators.specs.Slices.{step_count}
-use Rattle.template_walk.specs.Containers.{map_made}
+use Rattle.template_compiler_walk.specs.Containers.{map_made}
 use Rattle.template_machine_meaning.specs.World.{Globals, range_number, dict_number, own_functions}
 use Rattle.template_machine_meaning.specs.Replies.{kinded}
 

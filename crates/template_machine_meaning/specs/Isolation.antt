@@ -4,11 +4,11 @@ use Rattle.std.specs.Str.{bytes_eq}
 use Rattle.template_values_model.specs.Val.{Val}
 use Rattle.template_values_model.specs.Lookup.{value_at}
 use Rattle.template_callables.specs.Callables.{View, Asked, lookup, call_macro, Stated, goes_on, Says, Callables}
-use Rattle.template_tree.specs.Tree.{Expression, Expressions, Statement, Statements, Imports, variable, absent, given, for_loop, if_condition, with_block, set_block, auto_escape, filter_block, block, from_import, macro, call_block, no_statements, statements_more, no_imports, imports_more, no_expressions, expressions_more}
-use Rattle.template_names.specs.Names.{is_used, is_used_in, is_used_by_target, is_stored_in, is_stored_everywhere, stands_in}
-use Rattle.template_walk.specs.Blocks.{Block, blocks_in}
-use Rattle.template_walk.specs.Imported.{is_imported}
-use Rattle.template_process.specs.Fuel.{IsSameRun, under}
+use Rattle.template_compiler_tree.specs.Tree.{Expression, Expressions, Statement, Statements, Imports, variable, absent, given, for_loop, if_condition, with_block, set_block, auto_escape, filter_block, block, from_import, macro, call_block, no_statements, statements_more, no_imports, imports_more, no_expressions, expressions_more}
+use Rattle.template_compiler_names.specs.Names.{is_used, is_used_in, is_used_by_target, is_stored_in, is_stored_everywhere, stands_in}
+use Rattle.template_compiler_walk.specs.Blocks.{Block, blocks_in}
+use Rattle.template_compiler_walk.specs.Imported.{is_imported}
+use Rattle.template_compiler_process.specs.Fuel.{IsSameRun, under}
 use Rattle.template_machine_meaning.specs.Functions.{Invoked}
 use Rattle.template_machine_meaning.specs.Calls.{said}
 use Rattle.template_machine_meaning.specs.Meaning.{Standing, Setting, rendered, evaluated}

@@ -2,13 +2,13 @@
 use Rattle.std.specs.Prelude.{◌≡◌, ℕ, ◌<◌, ◌≤◌, true, List, [], ◌∷◌, length, Option, None, Some, IsSome}
 use Rattle.std.specs.Option.{ForSome}
 use Rattle.template_values_model.specs.Val.{Val}
-use Rattle.template_tree.specs.Tree.{Expression}
-use Rattle.template_process.specs.Process.{Process, Below}
-use Rattle.template_process.specs.Drive.{End, ends, faults}
-use Rattle.template_process.specs.Trace.{run}
-use Rattle.template_process.specs.Approximants.{Extends, IsFinished}
-use Rattle.template_walk.specs.Runnable.{IsRunnable, IsRunnableTemplate}
-use Rattle.template_walk.specs.Statements.{standalone_walk}
+use Rattle.template_compiler_tree.specs.Tree.{Expression}
+use Rattle.template_compiler_process.specs.Process.{Process, Below}
+use Rattle.template_compiler_process.specs.Drive.{End, ends, faults}
+use Rattle.template_compiler_process.specs.Trace.{run}
+use Rattle.template_compiler_process.specs.Approximants.{Extends, IsFinished}
+use Rattle.template_compiler_walk.specs.Runnable.{IsRunnable, IsRunnableTemplate}
+use Rattle.template_compiler_walk.specs.Statements.{standalone_walk}
 use Rattle.template_machine_meaning.specs.World.{Loop, Frame, World}
 use Rattle.template_machine_meaning.specs.Records.{loop_numbered, all_loops}
 use Rattle.template_machine_meaning.specs.Plans.{ran}

@@ -7,7 +7,7 @@ use Rattle.template_values_errors.specs.declared.ErrorKind.TheVariants.{InvalidO
 use Rattle.template_values_model.specs.Val.{Val, Pairs, no_pairs, pairs_more, undefined, keyword_map}
 use Rattle.template_values_model.specs.Lookup.{is_text, entry_at}
 use Rattle.template_values_core.specs.Answers.{text_in}
-use Rattle.template_process.specs.Process.{Making}
+use Rattle.template_compiler_process.specs.Process.{Making}
 use Rattle.template_machine_meaning.specs.World.{Bindings, Macro, World, keeps, empty_frame}
 use Rattle.template_machine_meaning.specs.Replies.{refused}
 use Rattle.template_machine_meaning.specs.Keys.{body_of}

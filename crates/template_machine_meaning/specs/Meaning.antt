@@ -9,13 +9,13 @@ use Rattle.template_values_model.specs.Val.{Val}
 use Rattle.template_values_forms.specs.Frozen.{frozen}
 use Rattle.template_callables.specs.Callables.{Callables}
 use Rattle.template_callables.specs.Joins.{Joins}
-use Rattle.template_tree.specs.Tree.{Expression, Statements}
-use Rattle.template_process.specs.Process.{Process}
-use Rattle.template_process.specs.Drive.{End, ends, faults}
-use Rattle.template_process.specs.Trace.{Run, run}
-use Rattle.template_walk.specs.Statements.{number_of, standalone_walk, template_walk, macro_walk, rounds_walk}
-use Rattle.template_walk.specs.Blocks.{Block, blocks_in, block_named}
-use Rattle.template_walk.specs.Counting.{MacroBody, macro_numbered, rounds_numbered}
+use Rattle.template_compiler_tree.specs.Tree.{Expression, Statements}
+use Rattle.template_compiler_process.specs.Process.{Process}
+use Rattle.template_compiler_process.specs.Drive.{End, ends, faults}
+use Rattle.template_compiler_process.specs.Trace.{Run, run}
+use Rattle.template_compiler_walk.specs.Statements.{number_of, standalone_walk, template_walk, macro_walk, rounds_walk}
+use Rattle.template_compiler_walk.specs.Blocks.{Block, blocks_in, block_named}
+use Rattle.template_compiler_walk.specs.Counting.{MacroBody, macro_numbered, rounds_numbered}
 use Rattle.template_machine_meaning.specs.World.{Globals, World, first_world}
 use Rattle.template_machine_meaning.specs.Records.{known_of}
 use Rattle.template_machine_meaning.specs.Replies.{kinded}

@@ -4,9 +4,9 @@ use Rattle.template_values_errors.specs.declared.ErrorKind.{ErrorKind}
 use Rattle.template_values_errors.specs.declared.ErrorKind.TheVariants.{InvalidOperation, TemplateNotFound}
 use Rattle.template_values_errors.specs.declared.modes.AutoEscape.{AutoEscape}
 use Rattle.template_values_model.specs.Val.{Val}
-use Rattle.template_process.specs.Process.{Answer, done, value, Told, tells, fails, breaks_off}
-use Rattle.template_process.specs.Drive.{End, ends, faults, breaks}
-use Rattle.template_process.specs.Trace.{Item, paid, written, Reply, Run, ended, behind}
+use Rattle.template_compiler_process.specs.Process.{Answer, done, value, Told, tells, fails, breaks_off}
+use Rattle.template_compiler_process.specs.Drive.{End, ends, faults, breaks}
+use Rattle.template_compiler_process.specs.Trace.{Item, paid, written, Reply, Run, ended, behind}
 use Rattle.template_machine_meaning.specs.World.{Frame, World, has_room}
 use Rattle.template_machine_meaning.specs.Captures.{captured, innermost, around_innermost}
 use Rattle.template_machine_meaning.specs.Bodies.{Bodies, with_place}

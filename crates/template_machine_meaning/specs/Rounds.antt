@@ -4,7 +4,7 @@ use Rattle.template_values_errors.specs.declared.ErrorKind.{ErrorKind}
 use Rattle.template_values_errors.specs.declared.ErrorKind.TheVariants.{InvalidOperation, UnknownFunction}
 use Rattle.template_values_model.specs.Val.{Val}
 use Rattle.template_values_operators.specs.Iterated.{iterated}
-use Rattle.template_process.specs.Process.{fails}
+use Rattle.template_compiler_process.specs.Process.{fails}
 use Rattle.template_machine_meaning.specs.World.{Rounds, Loop, Frame, World, loop_over, loop_frame, counted_loop, seen_frames}
 use Rattle.template_machine_meaning.specs.Records.{known_of}
 use Rattle.template_machine_meaning.specs.Blocks.{captured_if}

@@ -7,7 +7,7 @@ use Rattle.template_values_model.specs.Val as values
 use Rattle.template_values_model.specs.Val.{Val, keyword_map, «module», namespace}
 use Rattle.template_values_forms.specs.Known.{Known}
 use Rattle.template_values_operators.specs.Iterated.{iterated}
-use Rattle.template_walk.specs.Containers.{kwargs_made}
+use Rattle.template_compiler_walk.specs.Containers.{kwargs_made}
 use Rattle.template_machine_meaning.specs.Undefined.{forbids_iterating}
 use Rattle.template_machine_meaning.specs.Replies.{kinded, guarded}
 use Rattle.template_machine_meaning.specs.Functions.{entries_of}

@@ -7,7 +7,7 @@ use Rattle.template_values_model.specs.Val.{Val}
 use Rattle.template_values_forms.specs.Known.{Known}
 use Rattle.template_values_forms.specs.Printed.{printed}
 use Rattle.template_values_forms.specs.Truth as truths
-use Rattle.template_process.specs.Process.{Told, tells, fails, value}
+use Rattle.template_compiler_process.specs.Process.{Told, tells, fails, value}
 use Rattle.template_machine_meaning.specs.World.{World, keeps}
 use Rattle.template_machine_meaning.specs.Records.{known_of}
 use Rattle.template_machine_meaning.specs.Captures.{captured}

@@ -4,10 +4,10 @@ use Rattle.template_values_errors.specs.declared.modes.UndefinedBehavior.{Undefi
 use Rattle.template_values_errors.specs.declared.modes.UndefinedBehavior.TheVariants.{Chainable, SemiStrict, Strict}
 use Rattle.template_values_model.specs.Val.{Val, undefined}
 use Rattle.template_values_operators.specs.Kinds.{is_undefined}
-use Rattle.template_tree.specs.declared.operators.BinOpKind.{BinOpKind}
-use Rattle.template_tree.specs.declared.operators.BinOpKind.TheVariants.{Eq, Ne, Lt, Lte, Gt, Gte, Concat, In}
-use Rattle.template_tree.specs.declared.operators.CompareOpKind.{CompareOpKind}
-use Rattle.template_tree.specs.declared.operators.CompareOpKind.TheVariants as compares
+use Rattle.template_compiler_tree.specs.declared.operators.BinOpKind.{BinOpKind}
+use Rattle.template_compiler_tree.specs.declared.operators.BinOpKind.TheVariants.{Eq, Ne, Lt, Lte, Gt, Gte, Concat, In}
+use Rattle.template_compiler_tree.specs.declared.operators.CompareOpKind.{CompareOpKind}
+use Rattle.template_compiler_tree.specs.declared.operators.CompareOpKind.TheVariants as compares
 
 -- undefined, and not the silent one that an if-expression without an else part gives
 abbrev pub is_loud : Val → Bool

@@ -1,8 +1,8 @@
 //! Counted runs of values among the operands, and closures.
 ghost use Rattle.std.specs.Prelude.{◌≡◌, ◌≢◌, ◌∷◌, [], not, IsTrue, IfOk, IfErr, OnOk, OnErr};
 ghost use Rattle.template_values_errors.specs.Memory.{NoMemory};
-ghost use Rattle.template_code.specs.Code.{closure, counted};
-ghost use Rattle.template_code.specs.Steps.{handed, values_in};
+ghost use Rattle.template_compiler_code.specs.Code.{closure, counted};
+ghost use Rattle.template_compiler_code.specs.Steps.{handed, values_in};
 ghost use Rattle.template_machine_operands.specs.Operands.{operands_in, CountsNext, CountsOne, GoesInto, LacksClosure, LacksRun, RefusesCounting, RefusesHanded, RefusesNext};
 
 use crate::Operands;

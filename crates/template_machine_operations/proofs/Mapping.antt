@@ -16,7 +16,7 @@ use Rattle.template_values_core.specs.Shape.{pairs_in}
 use Rattle.template_values_core.specs.declared.value.Entry.{Entry}
 use Rattle.template_values_core.proofs.PairLemmas.{pairs_in_push}
 use Rattle.template_values_core.proofs.Sorting.{collected-rising}
-use Rattle.template_walk.specs.Containers.{map_made, within_depth}
+use Rattle.template_compiler_walk.specs.Containers.{map_made, within_depth}
 use Rattle.template_machine_meaning.specs.Functions.{base_in, dict_of, entries_of}
 use Rattle.template_machine_meaning.specs.Replies.{kinded}
 use Rattle.template_machine_operations.specs.Answers.{Answers, answered}

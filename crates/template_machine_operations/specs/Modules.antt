@@ -5,7 +5,7 @@ use Rattle.template_values_model.specs.Val as values
 use Rattle.template_values_model.specs.Val.{Val}
 use Rattle.template_values_core.specs.Answers.{text_in}
 use Rattle.template_values_core.specs.Maps.{collected}
-use Rattle.template_walk.specs.Containers.{within_depth}
+use Rattle.template_compiler_walk.specs.Containers.{within_depth}
 
 -- names with their values, and the text that was written; one that was dropped is empty
 abbrev pub module_with : List (Val × Val) → Val → Result Val Fault

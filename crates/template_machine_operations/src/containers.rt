@@ -2,7 +2,7 @@
 ghost use Rattle.template_values_model.specs.Gives.{Gives};
 ghost use Rattle.template_values_core.specs.Shape.{pairs_in};
 ghost use Rattle.template_values_operators.specs.Kinds.{list_made};
-ghost use Rattle.template_walk.specs.Containers.{tuple_made, map_made, kwargs_made};
+ghost use Rattle.template_compiler_walk.specs.Containers.{tuple_made, map_made, kwargs_made};
 ghost use Rattle.template_machine_meaning.specs.Replies.{kinded};
 ghost use Rattle.template_machine_operations.specs.Answers.{Answers};
 

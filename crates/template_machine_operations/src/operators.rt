@@ -1,7 +1,7 @@
 //! The operators' events, and the truth of a value.
 ghost use Rattle.std.specs.Prelude.{◌≡◌};
 ghost use Rattle.template_values_forms.specs.Truth as truths;
-ghost use Rattle.template_walk.specs.Operators.{operated, compared, inverted, negated};
+ghost use Rattle.template_compiler_walk.specs.Operators.{operated, compared, inverted, negated};
 ghost use Rattle.template_machine_meaning.specs.Undefined.{forbids_operator, forbids_link, forbids_truth};
 ghost use Rattle.template_machine_meaning.specs.Replies.{guarded, kinded};
 ghost use Rattle.template_machine_operations.specs.Answers.{Answers, answered};
@@ -9,7 +9,7 @@ ghost use Rattle.template_machine_operations.specs.Answers.{Answers, answered};
 use crate::undefined::{forbids_link, forbids_truth};
 use crate::{forbids_operator, refusal};
 use std::alloc::Global;
-use template_tree::{BinOpKind, CompareOpKind};
+use template_compiler_tree::{BinOpKind, CompareOpKind};
 use template_values_core::Value;
 use template_values_errors::{Error, UndefinedBehavior};
 use template_values_forms::Records;

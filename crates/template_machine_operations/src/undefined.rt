@@ -4,7 +4,7 @@ ghost use Rattle.std.specs.Prelude.{◌≡◌, [], ◌∷◌, Err};
 ghost use Rattle.template_values_operators.specs.Kinds.{is_undefined};
 ghost use Rattle.template_machine_meaning.specs.Undefined.{is_loud, is_strict, is_half_strict, is_chainable, forbids_printing, forbids_iterating, forbids_truth, forbids_slicing, forbids_comparing, forbids_membership, forbids_operator, forbids_link};
 
-use template_tree::{BinOpKind, CompareOpKind};
+use template_compiler_tree::{BinOpKind, CompareOpKind};
 use template_values_core::{Content, Value};
 use template_values_errors::{Error, ErrorKind, UndefinedBehavior};
 

@@ -1,13 +1,13 @@
 //! Captures.
 ghost use Rattle.std.specs.Prelude.{List};
-ghost use Rattle.template_code.specs.Code.{Operand, begin_capture, end_capture};
-ghost use Rattle.template_code.specs.View.{is_kept};
+ghost use Rattle.template_compiler_code.specs.Code.{Operand, begin_capture, end_capture};
+ghost use Rattle.template_compiler_code.specs.View.{is_kept};
 ghost use Rattle.template_machine_meaning.specs.Surroundings.{Programs};
 ghost use Rattle.template_machine_operands.specs.Operands.{operands_in};
 ghost use Rattle.template_machine_steps.specs.Performs.{Performs};
 
 use std::alloc::Global;
-use template_code::CaptureMode;
+use template_compiler_code::CaptureMode;
 use template_machine_operands::Operands;
 use template_machine_state::State;
 use template_values_errors::{Error, ErrorKind};

@@ -1,5 +1,5 @@
 //! Escapes.
-ghost use Rattle.template_code.specs.Code.{Operand, push_auto_escape, pop_auto_escape};
+ghost use Rattle.template_compiler_code.specs.Code.{Operand, push_auto_escape, pop_auto_escape};
 ghost use Rattle.template_machine_meaning.specs.Surroundings.{Programs};
 ghost use Rattle.template_machine_operands.specs.Operands.{operands_in};
 ghost use Rattle.template_machine_steps.specs.Performs.{Performs};

@@ -1,6 +1,6 @@
 //! Frames.
 ghost use Rattle.std.specs.Prelude.{ℕ, List, Option};
-ghost use Rattle.template_code.specs.Code.{Operand, push_with, pop_frame};
+ghost use Rattle.template_compiler_code.specs.Code.{Operand, push_with, pop_frame};
 ghost use Rattle.template_values_errors.specs.declared.modes.UndefinedBehavior.{UndefinedBehavior};
 ghost use Rattle.template_machine_meaning.specs.Surroundings.{Programs};
 ghost use Rattle.template_machine_steps.specs.Performs.{Performs, ruled};

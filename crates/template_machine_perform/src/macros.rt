@@ -1,14 +1,14 @@
 //! Macros that are made.
 ghost use Rattle.std.specs.Prelude.{◌≡◌, ℕ, List};
-ghost use Rattle.template_process.specs.Process.{Counts};
-ghost use Rattle.template_code.specs.Code.{Operand, build_macro, enclose, get_closure};
-ghost use Rattle.template_code.specs.Counting.{takes_caller};
+ghost use Rattle.template_compiler_process.specs.Process.{Counts};
+ghost use Rattle.template_compiler_code.specs.Code.{Operand, build_macro, enclose, get_closure};
+ghost use Rattle.template_compiler_code.specs.Counting.{takes_caller};
 ghost use Rattle.template_machine_meaning.specs.Surroundings.{Programs};
 ghost use Rattle.template_machine_operands.specs.Operands.{operands_in};
 ghost use Rattle.template_machine_steps.specs.Performs.{Performs, PerformsBehind};
 
 use std::alloc::Global;
-use template_code::MACRO_CALLER;
+use template_compiler_code::MACRO_CALLER;
 use template_machine_operands::Operands;
 use template_machine_state::State;
 use template_values_errors::{Error, ErrorKind};

@@ -1,13 +1,14 @@
 //! Instructions that only take and give operands.
 ghost use Rattle.std.specs.Prelude.{◌≡◌, ℕ, None};
-ghost use Rattle.template_code.specs.View.{code_of, comparison_of};
+ghost use Rattle.template_compiler_code.specs.View.{code_of, comparison_of};
 ghost use Rattle.template_machine_meaning.specs.Surroundings.{Programs};
 ghost use Rattle.template_machine_operands.specs.Operands.{operands_in};
 ghost use Rattle.template_machine_steps.specs.Performs.{Leads, ruled};
 ghost use Rattle.template_machine_perform.specs.Performs.{straight, operator_in, IsOfOperands};
 
 use std::alloc::Global;
-use template_code::{CompareOp, Instruction};
+use template_compiler_code::{CompareOp, Instruction};
+use template_compiler_tree::{BinOpKind, CompareOpKind};
 use template_machine_operands::Operands;
 use template_machine_state::State;
 use template_machine_steps::{
@@ -16,7 +17,6 @@ use template_machine_steps::{
     jump_if_true_or_pop, load_const, merge_kwargs, negate, operate, slice, swap, unpack_list,
     unpack_lists,
 };
-use template_tree::{BinOpKind, CompareOpKind};
 use template_values_errors::{Error, ErrorKind, UndefinedBehavior};
 
 /// Behind the instruction, where it was performed.

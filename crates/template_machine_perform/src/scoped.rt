@@ -1,6 +1,6 @@
 //! Instructions that write nothing.
 ghost use Rattle.std.specs.Prelude.{ℕ, List, Option};
-ghost use Rattle.template_code.specs.View.{code_of};
+ghost use Rattle.template_compiler_code.specs.View.{code_of};
 ghost use Rattle.template_machine_meaning.specs.Surroundings.{Programs};
 ghost use Rattle.template_machine_operands.specs.Operands.{operands_in};
 ghost use Rattle.template_machine_steps.specs.Performs.{Leads, ruled};
@@ -14,7 +14,7 @@ use crate::{
     store_local,
 };
 use std::alloc::Global;
-use template_code::Instruction;
+use template_compiler_code::Instruction;
 use template_machine_operands::Operands;
 use template_machine_state::State;
 use template_machine_steps::Way;

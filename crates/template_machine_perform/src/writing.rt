@@ -1,6 +1,6 @@
 //! Instructions that write.
 ghost use Rattle.std.specs.Prelude.{◌≡◌, ◌<◌, ◌∷◌, [], ℕ, suc, length, List, Option, None};
-ghost use Rattle.template_code.specs.Code.{Operand, single, emit_raw, emit};
+ghost use Rattle.template_compiler_code.specs.Code.{Operand, single, emit_raw, emit};
 ghost use Rattle.template_machine_meaning.specs.Surroundings.{Programs};
 ghost use Rattle.template_machine_operands.specs.Operands.{operands_in};
 ghost use Rattle.template_machine_operations.specs.Outcomes.{TellsFailures};

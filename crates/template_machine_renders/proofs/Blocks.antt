@@ -1,10 +1,10 @@
 -- From the run of a block's code to what the block means.
 use Rattle.std.proofs.Common.{◌≡◌, ℕ, ◌≤◌, List, [], ◌∷◌, Option, None, Some, Ok, Err, refl, sym, ap, subst, ◌∙◌}
 use Rattle.template_values_errors.specs.declared.ErrorKind.{ErrorKind}
-use Rattle.template_process.specs.Approximants.{IsFinished}
-use Rattle.template_process.specs.Drive.{End, ends, faults, breaks, waits, mistaken, cuts, sticks}
-use Rattle.template_process.specs.Process.{Answer, Told, tells, fails, breaks_off, leaves, done}
-use Rattle.template_process.specs.Trace.{Reply, Run}
+use Rattle.template_compiler_process.specs.Approximants.{IsFinished}
+use Rattle.template_compiler_process.specs.Drive.{End, ends, faults, breaks, waits, mistaken, cuts, sticks}
+use Rattle.template_compiler_process.specs.Process.{Answer, Told, tells, fails, breaks_off, leaves, done}
+use Rattle.template_compiler_process.specs.Trace.{Reply, Run}
 use Rattle.template_machine_meaning.specs.World.{World}
 use Rattle.template_machine_meaning.specs.Blocks.{block_plan}
 use Rattle.template_machine_meaning.specs.Plans.{Within, Plan, replies, enters, after_by, caller_of, given, told_by, came_from}

@@ -2,10 +2,10 @@
 use Rattle.std.proofs.Common.{◌≡◌, ℕ, ◌+◌, inl, List, [], ◌∷◌, Option, Result, Ok, Err, refl, sym, ap, subst, ◌∙◌, arith}
 use Rattle.std.proofs.KnownBytes.{Appends-nil}
 use Rattle.template_values_model.specs.Val.{Val}
-use Rattle.template_process.specs.Approximants.{IsFinished}
-use Rattle.template_process.specs.Fuel.{under}
-use Rattle.template_process.specs.Process.{fails, tells, value}
-use Rattle.template_process.specs.Trace.{Reply}
+use Rattle.template_compiler_process.specs.Approximants.{IsFinished}
+use Rattle.template_compiler_process.specs.Fuel.{under}
+use Rattle.template_compiler_process.specs.Process.{fails, tells, value}
+use Rattle.template_compiler_process.specs.Trace.{Reply}
 use Rattle.template_machine_going.proofs.Paths.{paid_nothing}
 use Rattle.template_machine_going.specs.Told.{FaultsSo}
 use Rattle.template_machine_going.specs.declared.stop.Stop.{Stop}

@@ -3,17 +3,17 @@ use Rattle.std.proofs.Common.{◌≡◌, ℕ, ◌+◌, ◌≤◌, List, [], ◌�
 use Rattle.std.specs.Io.KnownBytes.{Appends}
 use Rattle.template_values_errors.specs.declared.ErrorKind.TheVariants.{OutOfFuel}
 use Rattle.template_values_model.specs.Val.{Val}
-use Rattle.template_tree.specs.Tree.{Expression}
-use Rattle.template_walk.specs.Runnable.{IsRunnable}
-use Rattle.template_code.specs.Code.{Operand, single, Code}
-use Rattle.template_code.specs.Steps.{values_in}
+use Rattle.template_compiler_tree.specs.Tree.{Expression}
+use Rattle.template_compiler_walk.specs.Runnable.{IsRunnable}
+use Rattle.template_compiler_code.specs.Code.{Operand, single, Code}
+use Rattle.template_compiler_code.specs.Steps.{values_in}
 use Rattle.template_compiler_codegen.specs.Statements.{standalone_code}
-use Rattle.template_process.specs.Approximants.{IsFinished}
-use Rattle.template_process.specs.Drive.{End, ends, breaks, waits, mistaken, cuts, sticks, IsUncut}
-use Rattle.template_process.specs.Drive as drives
-use Rattle.template_process.specs.Fuel.{under}
-use Rattle.template_process.specs.Trace.{Item, paid, Run, behind, ended, text_of, price_of}
-use Rattle.template_process.proofs.Cuts.{text-append}
+use Rattle.template_compiler_process.specs.Approximants.{IsFinished}
+use Rattle.template_compiler_process.specs.Drive.{End, ends, breaks, waits, mistaken, cuts, sticks, IsUncut}
+use Rattle.template_compiler_process.specs.Drive as drives
+use Rattle.template_compiler_process.specs.Fuel.{under}
+use Rattle.template_compiler_process.specs.Trace.{Item, paid, Run, behind, ended, text_of, price_of}
+use Rattle.template_compiler_process.proofs.Cuts.{text-append}
 use Rattle.template_machine_surroundings.specs.Writes.{AppendsBeginning}
 use Rattle.template_machine_surroundings.proofs.Beginnings.{beginning_longer}
 use Rattle.template_machine_meaning.specs.World.{World}

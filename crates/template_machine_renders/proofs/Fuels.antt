@@ -2,11 +2,11 @@
 use Rattle.std.proofs.Common.{◌≡◌, ℕ, ◌+◌, ◌-◌, ◌≤◌, inl, inr, List, [], ◌∷◌, ◌++◌, Option, None, Some, refl, sym, ap, ◌∙◌, arith}
 use Rattle.template_values_errors.specs.declared.ErrorKind.{ErrorKind}
 use Rattle.template_values_errors.specs.declared.ErrorKind.TheVariants.{OutOfFuel}
-use Rattle.template_process.specs.Drive.{faults}
-use Rattle.template_process.specs.Fuel.{Lasts, cut, under}
-use Rattle.template_process.specs.Trace.{Item, paid, Run, behind, price_of}
-use Rattle.template_process.proofs.Cuts.{price-append}
-use Rattle.template_process.proofs.Behind.{cut-behind, cut_first, cut_whole, remaining-behind, remaining_first, remaining_whole}
+use Rattle.template_compiler_process.specs.Drive.{faults}
+use Rattle.template_compiler_process.specs.Fuel.{Lasts, cut, under}
+use Rattle.template_compiler_process.specs.Trace.{Item, paid, Run, behind, price_of}
+use Rattle.template_compiler_process.proofs.Cuts.{price-append}
+use Rattle.template_compiler_process.proofs.Behind.{cut-behind, cut_first, cut_whole, remaining-behind, remaining_first, remaining_whole}
 use Rattle.template_machine_going.specs.Paying.{Paid, IsSpent}
 use Rattle.template_machine_renders.specs.Renders.{IsShort, leaves}
 

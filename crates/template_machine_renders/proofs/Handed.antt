@@ -10,20 +10,20 @@ use Rattle.template_values_model.specs.Val.{Val}
 use Rattle.template_values_errors.specs.declared.modes.UndefinedBehavior.{UndefinedBehavior}
 use Rattle.template_callables.specs.Callables.{Callables}
 use Rattle.template_callables.specs.Joins.{Joins}
-use Rattle.template_process.specs.Approximants.{IsFinished}
-use Rattle.template_process.specs.Drive.{End, ends, faults, breaks, IsUncut}
-use Rattle.template_process.specs.Process.{Answer, Told, tells, fails, breaks_off, leaves, Process, over, step, asks, amiss, cut_short, stuck, Ask}
-use Rattle.template_process.specs.Trace.{Item, paid, Reply, Run, run, behind, ended, go_on}
-use Rattle.template_code.specs.Code.{Code, Operand, single}
-use Rattle.template_code.specs.Counting.{MacroPlace, macro_at, rounds_at}
-use Rattle.template_code.specs.Steps.{exec, values_in}
-use Rattle.template_code.proofs.Rising.{exec_more}
-use Rattle.template_code_shapes.specs.Laws.{EndsWith}
-use Rattle.template_code_shapes.specs.Shapes.{start}
-use Rattle.template_code_shapes.specs.Streams.{IsGood, begins}
-use Rattle.template_code_shapes.specs.declared.StreamKind.{StreamKind}
-use Rattle.template_code_shapes.specs.declared.StreamKind.TheVariants.{Template, Expression}
-use Rattle.template_code_shapes.proofs.Ending.{ends_by}
+use Rattle.template_compiler_process.specs.Approximants.{IsFinished}
+use Rattle.template_compiler_process.specs.Drive.{End, ends, faults, breaks, IsUncut}
+use Rattle.template_compiler_process.specs.Process.{Answer, Told, tells, fails, breaks_off, leaves, Process, over, step, asks, amiss, cut_short, stuck, Ask}
+use Rattle.template_compiler_process.specs.Trace.{Item, paid, Reply, Run, run, behind, ended, go_on}
+use Rattle.template_compiler_code.specs.Code.{Code, Operand, single}
+use Rattle.template_compiler_code.specs.Counting.{MacroPlace, macro_at, rounds_at}
+use Rattle.template_compiler_code.specs.Steps.{exec, values_in}
+use Rattle.template_compiler_code.proofs.Rising.{exec_more}
+use Rattle.template_compiler_code_shapes.specs.Laws.{EndsWith}
+use Rattle.template_compiler_code_shapes.specs.Shapes.{start}
+use Rattle.template_compiler_code_shapes.specs.Streams.{IsGood, begins}
+use Rattle.template_compiler_code_shapes.specs.declared.StreamKind.{StreamKind}
+use Rattle.template_compiler_code_shapes.specs.declared.StreamKind.TheVariants.{Template, Expression}
+use Rattle.template_compiler_code_shapes.proofs.Ending.{ends_by}
 use Rattle.template_machine_meaning.specs.Keeps.{KeepsFrames, KeepsWorld}
 use Rattle.template_machine_meaning.specs.Keys as keys
 use Rattle.template_machine_meaning.specs.Keys.{Key, Part, whole, body_of, rounds_of, own, whole_of}

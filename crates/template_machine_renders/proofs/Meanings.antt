@@ -1,11 +1,11 @@
 -- What code that stands alone comes to under a bound on its instructions is what it means.
 use Rattle.std.proofs.Common.{◌≡◌, ℕ, ◌+◌, ◌≤◌, List, [], None, sym, subst, ◌∙◌, arith}
-use Rattle.template_process.specs.Drive.{IsUncut}
-use Rattle.template_process.specs.Trace.{Item, Run, run, behind}
-use Rattle.template_process.proofs.Driving.{run_alike}
-use Rattle.template_code.specs.Code.{Code}
-use Rattle.template_code.specs.Steps.{exec}
-use Rattle.template_code.proofs.Rising.{exec_more}
+use Rattle.template_compiler_process.specs.Drive.{IsUncut}
+use Rattle.template_compiler_process.specs.Trace.{Item, Run, run, behind}
+use Rattle.template_compiler_process.proofs.Driving.{run_alike}
+use Rattle.template_compiler_code.specs.Code.{Code}
+use Rattle.template_compiler_code.specs.Steps.{exec}
+use Rattle.template_compiler_code.proofs.Rising.{exec_more}
 use Rattle.template_machine_going.proofs.Staying.{beginnings_stay}
 use Rattle.template_machine_meaning.specs.World.{World}
 use Rattle.template_machine_meaning.specs.Surroundings.{answer}

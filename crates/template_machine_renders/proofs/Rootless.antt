@@ -3,10 +3,10 @@ use Rattle.std.proofs.Common.{◌≡◌, ℕ, zero, suc, List, [], Option, None,
 use Rattle.std.specs.Option.{option_map}
 use Rattle.template_callables.specs.Callables.{Callables}
 use Rattle.template_callables.specs.Joins.{Joins}
-use Rattle.template_process.specs.Drive.{breaks}
-use Rattle.template_process.specs.Process.{Process}
-use Rattle.template_process.specs.Trace.{Run, ended, run}
-use Rattle.template_code.specs.Code.{Code}
+use Rattle.template_compiler_process.specs.Drive.{breaks}
+use Rattle.template_compiler_process.specs.Process.{Process}
+use Rattle.template_compiler_process.specs.Trace.{Run, ended, run}
+use Rattle.template_compiler_code.specs.Code.{Code}
 use Rattle.template_machine_meaning.specs.World.{World}
 use Rattle.template_machine_meaning.specs.Keys.{Key}
 use Rattle.template_machine_meaning.specs.Plans.{ran, followed}

@@ -3,10 +3,10 @@ use Rattle.std.proofs.Common.{◌≡◌, ℕ, inl, inr, List, [], ◌∷◌, map
 use Rattle.template_values_errors.specs.declared.ErrorKind.{ErrorKind}
 use Rattle.template_values_errors.specs.declared.ErrorKind.TheVariants.{BadStream}
 use Rattle.template_values_model.specs.Val.{Val}
-use Rattle.template_process.specs.Drive.{ends}
-use Rattle.template_process.specs.Trace.{behind, ended}
-use Rattle.template_code.specs.Code.{Operand, single, Code}
-use Rattle.template_code.specs.Steps.{values_in}
+use Rattle.template_compiler_process.specs.Drive.{ends}
+use Rattle.template_compiler_process.specs.Trace.{behind, ended}
+use Rattle.template_compiler_code.specs.Code.{Operand, single, Code}
+use Rattle.template_compiler_code.specs.Steps.{values_in}
 use Rattle.template_machine_meaning.specs.World.{World}
 use Rattle.template_machine_meaning.specs.Surroundings.{Programs, answer}
 use Rattle.template_machine_going.specs.Outcomes.{Stops}

@@ -2,10 +2,10 @@
 use Rattle.std.specs.Prelude.{◌≡◌, ◌≤◌, ℕ, List, [], ◌∷◌, Option, None, Some, Result, Ok, Err, if◌then◌else◌}
 use Rattle.template_values_errors.specs.declared.ErrorKind.TheVariants.{InvalidOperation}
 use Rattle.template_values_model.specs.Val.{Val}
-use Rattle.template_process.specs.Drive.{ends, faults}
-use Rattle.template_process.specs.Trace.{Run, ended, run}
-use Rattle.template_code.specs.Code.{Code}
-use Rattle.template_code.specs.Steps.{exec}
+use Rattle.template_compiler_process.specs.Drive.{ends, faults}
+use Rattle.template_compiler_process.specs.Trace.{Run, ended, run}
+use Rattle.template_compiler_code.specs.Code.{Code}
+use Rattle.template_compiler_code.specs.Steps.{exec}
 use Rattle.template_machine_going.specs.declared.stop.Stop.{Stop}
 use Rattle.template_machine_meaning.specs.Keys as keys
 use Rattle.template_machine_meaning.specs.Keys.{Key, own, whole_of}

@@ -1,12 +1,12 @@
 -- The laws from runs of code to renders and to values.
 use Rattle.std.specs.Prelude.{ℕ, List, Option, None, Some, Result, Err}
 use Rattle.template_values_model.specs.Val.{Val}
-use Rattle.template_tree.specs.Tree.{Expression}
-use Rattle.template_process.specs.Approximants.{IsFinished}
-use Rattle.template_process.specs.Fuel.{under}
-use Rattle.template_process.specs.Process.{done}
-use Rattle.template_process.specs.Trace.{Run}
-use Rattle.template_walk.specs.Runnable.{IsRunnable}
+use Rattle.template_compiler_tree.specs.Tree.{Expression}
+use Rattle.template_compiler_process.specs.Approximants.{IsFinished}
+use Rattle.template_compiler_process.specs.Fuel.{under}
+use Rattle.template_compiler_process.specs.Process.{done}
+use Rattle.template_compiler_process.specs.Trace.{Run}
+use Rattle.template_compiler_walk.specs.Runnable.{IsRunnable}
 use Rattle.template_compiler_codegen.specs.Statements.{standalone_code}
 use Rattle.template_machine_meaning.specs.World.{World}
 use Rattle.template_machine_meaning.specs.Plans.{ran}

@@ -4,9 +4,9 @@ use Rattle.std.specs.Io.KnownBytes.{Appends}
 use Rattle.std.specs.Option.{option_map}
 use Rattle.template_values_errors.specs.declared.ErrorKind.{ErrorKind}
 use Rattle.template_values_model.specs.Val.{Val}
-use Rattle.template_process.specs.Drive.{End, ends, faults}
-use Rattle.template_process.specs.Fuel.{Lasts, remaining, under}
-use Rattle.template_process.specs.Trace.{Run, price_of, text_of}
+use Rattle.template_compiler_process.specs.Drive.{End, ends, faults}
+use Rattle.template_compiler_process.specs.Fuel.{Lasts, remaining, under}
+use Rattle.template_compiler_process.specs.Trace.{Run, price_of, text_of}
 use Rattle.template_machine_surroundings.specs.Writes.{AppendsBeginning}
 use Rattle.template_machine_meaning.specs.World.{World}
 use Rattle.template_machine_going.specs.Spots.{Spot}

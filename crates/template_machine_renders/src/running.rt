@@ -1,6 +1,6 @@
 //! The run of a template's code, and of an expression's.
 ghost use Rattle.std.specs.Prelude.{◌≤◌, length, Option, None};
-ghost use Rattle.template_code.specs.Listing.{code_in};
+ghost use Rattle.template_compiler_code.specs.Listing.{code_in};
 ghost use Rattle.template_machine_going.specs.Told.{CountsFailures};
 ghost use Rattle.template_machine_meaning.specs.Keeps.{KeepsWorld};
 ghost use Rattle.template_machine_meaning.specs.Meaning.{top};
@@ -8,7 +8,7 @@ ghost use Rattle.template_machine_loop.specs.Programs.{programs_under, roots_of}
 ghost use Rattle.template_machine_loop.specs.Runs.{Evaluates, KeyRuns};
 
 use std::alloc::Global;
-use template_code::Instructions;
+use template_compiler_code::Instructions;
 use template_machine_going::Stop;
 use template_machine_loop::{Program, Templates, run_to_end, run_whole};
 use template_machine_state::State;

@@ -1,9 +1,9 @@
 //! The run of a stream that was handed in.
 ghost use Rattle.std.specs.Prelude.{◌≡◌, ℕ, ◌≤◌, length, None, Some, IfOk};
-ghost use Rattle.template_code.specs.Listing.{code_in};
-ghost use Rattle.template_code.specs.Steps.{values_in};
-ghost use Rattle.template_code_shapes.specs.Checked.{kind_in, stream_in};
-ghost use Rattle.template_code_shapes.specs.declared.StreamKind.{StreamKind};
+ghost use Rattle.template_compiler_code.specs.Listing.{code_in};
+ghost use Rattle.template_compiler_code.specs.Steps.{values_in};
+ghost use Rattle.template_compiler_code_shapes.specs.Checked.{kind_in, stream_in};
+ghost use Rattle.template_compiler_code_shapes.specs.declared.StreamKind.{StreamKind};
 ghost use Rattle.template_machine_going.specs.Told.{CountsFailures};
 ghost use Rattle.template_machine_meaning.specs.Keeps.{KeepsWorld};
 ghost use Rattle.template_machine_operands.specs.Operands.{operands_in};
@@ -14,8 +14,8 @@ ghost use Rattle.template_machine_loop.specs.Runs.{KeyRuns};
 ghost use Rattle.template_machine_renders.specs.Handed.{ComesGiving, LeavesAtEnd, begun_run, handed, handing, own_run, stream_run};
 
 use std::alloc::Global;
-use template_code::Instructions;
-use template_code_shapes::Checked;
+use template_compiler_code::Instructions;
+use template_compiler_code_shapes::Checked;
 use template_machine_going::Stop;
 use template_machine_loop::{Kept, Program, Templates, run_to_end, run_whole};
 use template_machine_operands::Operands;

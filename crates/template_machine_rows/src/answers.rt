@@ -9,7 +9,7 @@ use std::alloc::Global;
 use std::borrow::CowStr;
 use template_callables::Extension;
 use template_compiler_syntax::{SyntaxConfig, SyntaxConfigBuilder};
-use template_environment::Environment;
+use template_machine_environment::Environment;
 use template_machine_surroundings::StateIds;
 use template_rows::unreadable;
 use template_values_core::{Entry, Value};

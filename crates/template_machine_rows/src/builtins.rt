@@ -4,7 +4,7 @@ use crate::report::Report;
 use serde_json::{Map, Value as Json};
 use std::alloc::Global;
 use template_builtins::{Builtins, install};
-use template_environment::Environment;
+use template_machine_environment::Environment;
 use template_machine_surroundings::StateIds;
 use template_rows::{behavior_of, expect_names, text_of, unreadable};
 use template_values_core::Value;

@@ -8,7 +8,7 @@ use crate::tellings::{tell_globals, tell_new_state, tell_templates};
 use std::alloc::Global;
 use std::borrow::CowStr;
 use template_callables::Extension;
-use template_environment::{Environment, Expression, Template};
+use template_machine_environment::{Environment, Expression, Template};
 use template_machine_surroundings::StateIds;
 use template_values_core::Value;
 use template_values_errors::Error;

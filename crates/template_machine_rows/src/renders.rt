@@ -6,7 +6,7 @@ use crate::report::Report;
 use crate::tellings::{tell_state, tell_temps};
 use crate::writers::{Taker, Taking};
 use template_callables::Extension;
-use template_environment::{Captured, Template};
+use template_machine_environment::{Captured, Template};
 use template_machine_surroundings::{NullWriter, StateIds, WriteWrapper};
 use template_values_core::Value;
 use template_values_errors::{Error, ErrorKind};

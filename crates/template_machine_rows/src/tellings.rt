@@ -2,7 +2,7 @@
 use crate::report::Report;
 use std::collections::BTreeSet;
 use template_callables::Extension;
-use template_environment::{Environment, State, Template};
+use template_machine_environment::{Environment, State, Template};
 use template_values_core::Value;
 use template_values_errors::Error;
 

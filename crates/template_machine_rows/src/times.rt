@@ -3,7 +3,7 @@ use crate::report::Report;
 use std::alloc::Global;
 use std::hint::black_box;
 use std::time::Instant;
-use template_environment::{Environment, Template};
+use template_machine_environment::{Environment, Template};
 use template_machine_surroundings::StateIds;
 use template_values_core::Value;
 use template_values_errors::{Error, ErrorKind};

@@ -5,7 +5,7 @@ ghost use Rattle.template_values_forms.specs.Views as views;
 ghost use Rattle.template_values_forms.specs.Views.{loop_seen};
 ghost use Rattle.template_values_model.specs.Val as values;
 ghost use Rattle.template_values_core.specs.Shape.{pairs_in};
-ghost use Rattle.template_process.specs.Process as process;
+ghost use Rattle.template_compiler_process.specs.Process as process;
 ghost use Rattle.template_callables.specs.Callables.{Asked};
 ghost use Rattle.template_values_named.specs.Named.{pairs_named};
 ghost use Rattle.template_machine_meaning.specs.Calls.{called_plan, may_hold_any};

@@ -1,7 +1,7 @@
 -- Calls that may hear a user's own, and what they hand on of those that cannot.
 use Rattle.std.proofs.Common.{◌≡◌, ℕ, List, Option, Result, Ok, Err, OnErr, IfErr, IsErrAnd, sym, subst}
 use Rattle.template_values_errors.specs.declared.ErrorKind.{ErrorKind}
-use Rattle.template_code.specs.Code.{Operand, Code}
+use Rattle.template_compiler_code.specs.Code.{Operand, Code}
 use Rattle.template_machine_meaning.specs.World.{World}
 use Rattle.template_machine_meaning.specs.Keeps.{KeepsWorld}
 use Rattle.template_machine_meaning.specs.Surroundings.{Programs}

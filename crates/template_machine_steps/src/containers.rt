@@ -2,7 +2,7 @@
 ghost use Rattle.std.specs.Prelude.{◌≡◌, ◌++◌, ℕ, List, Option, map, OnOk, IfErr};
 ghost use Rattle.template_values_errors.specs.Memory.{NoMemory};
 ghost use Rattle.template_values_errors.specs.declared.modes.UndefinedBehavior.{UndefinedBehavior};
-ghost use Rattle.template_code.specs.Code.{single, build_list, build_tuple, build_map, build_kwargs, merge_kwargs, unpack_list, unpack_lists};
+ghost use Rattle.template_compiler_code.specs.Code.{single, build_list, build_tuple, build_map, build_kwargs, merge_kwargs, unpack_list, unpack_lists};
 ghost use Rattle.template_machine_meaning.specs.Records.{known_of};
 ghost use Rattle.template_machine_meaning.specs.Surroundings.{Programs};
 ghost use Rattle.template_machine_meaning.specs.World.{World};

@@ -2,8 +2,8 @@
 use Rattle.std.proofs.Common.{◌≡◌, ◌∙◌, ℕ, suc, ◌+◌, ◌<◌, false, List, [], ◌∷◌, length, drop, get_or, sym, ap, subst, arith}
 use Rattle.std.specs.Cow.{cow_str_bytes}
 use Rattle.std.proofs.Math.Seq.{drop-cons}
-use Rattle.template_code.specs.declared.blocks.CompiledBlock.{CompiledBlock}
-use Rattle.template_code.specs.Streams.{heads_of, streams_in}
+use Rattle.template_compiler_code.specs.declared.blocks.CompiledBlock.{CompiledBlock}
+use Rattle.template_compiler_code.specs.Streams.{heads_of, streams_in}
 use Rattle.template_machine_meaning.specs.Keys.{Home}
 use Rattle.template_machine_meaning.specs.Bodies.{Bodies, with_bodies, with_body}
 use Rattle.template_machine_meaning.specs.Keeps.{KeepsBodies}

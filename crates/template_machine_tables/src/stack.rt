@@ -1,7 +1,7 @@
 //! What stands under the names of blocks.
 ghost use Rattle.std.specs.Prelude.{◌≡◌, ◌+◌, ◌^◌, ◌<◌, [], IfErr, IfNone, IfOk, IfSome, None, OnErr, OnOk, option_copied, slice_get, suc};
 ghost use Rattle.template_values_errors.specs.Memory.{NoMemory};
-ghost use Rattle.template_code.specs.Streams.{heads_of, streams_in};
+ghost use Rattle.template_compiler_code.specs.Streams.{heads_of, streams_in};
 ghost use Rattle.template_machine_meaning.specs.Bodies.{bodies_at, with_bodies, with_body, with_place};
 ghost use Rattle.template_machine_meaning.specs.Keeps.{KeepsBodies};
 ghost use Rattle.template_machine_tables.specs.Stack.{HasBehind, HasBody, IsBehind, IsBody, home_behind, home_running};
@@ -12,7 +12,7 @@ use crate::home::Home;
 use std::alloc::Global;
 use std::collections::BTreeMap;
 use std::marker::Model;
-use template_code::CompiledBlock;
+use template_compiler_code::CompiledBlock;
 use template_values_errors::Error;
 
 /// Which templates have a body for each block, and which of them runs. A contract sees the blocks in the order of their names by

@@ -2,8 +2,8 @@
 use Rattle.std.specs.Prelude.{◌≡◌, ◌⊎◌, ℕ, true, false, List, [], ◌∷◌, map, reverse, Result, Ok, Err, string_bytes}
 use Rattle.template_values_errors.specs.Memory.{NoMemory}
 use Rattle.template_values_errors.specs.declared.ErrorKind.{ErrorKind}
-use Rattle.template_code.specs.declared.instruction.CaptureMode.{CaptureMode}
-use Rattle.template_code.specs.declared.instruction.CaptureMode.TheVariants as modes
+use Rattle.template_compiler_code.specs.declared.instruction.CaptureMode.{CaptureMode}
+use Rattle.template_compiler_code.specs.declared.instruction.CaptureMode.TheVariants as modes
 use Rattle.template_machine_meaning.specs.World.{Capture, keeps, drops}
 use Rattle.template_machine_meaning.specs.Captures.{capture_begun, with_text}
 use Rattle.template_output.specs.declared.capture.Capture as own

@@ -5,7 +5,7 @@ ghost use Rattle.template_machine_meaning.specs.Captures.{captured, is_dropping,
 ghost use Rattle.template_output.specs.Captures.{capture_begun_by, capture_of};
 
 use std::alloc::Global;
-use template_code::CaptureMode;
+use template_compiler_code::CaptureMode;
 use template_values_core::Value;
 use template_values_errors::{AutoEscape, Error};
 

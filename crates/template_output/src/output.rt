@@ -9,7 +9,7 @@ ghost use Rattle.template_output.specs.Captures.{IsToldIn, capture_begun_by, cap
 
 use crate::capture::Capture;
 use std::alloc::Global;
-use template_code::CaptureMode;
+use template_compiler_code::CaptureMode;
 use template_machine_operations::{print, write};
 use template_machine_surroundings::Sink;
 use template_values_core::Value;

@@ -8,18 +8,18 @@ use Rattle.std.specs.declared.alloc.Global.{Global}
 use Rattle.template_values_errors.specs.declared.ErrorKind.{ErrorKind}
 use Rattle.template_values_model.specs.Val.{Val}
 use Rattle.template_compiler_syntax.specs.Syntax.{IsUsable}
-use Rattle.template_process.specs.Approximants.{IsFinished}
-use Rattle.template_process.specs.Fuel.{IsSameRun, under}
-use Rattle.template_process.specs.Trace.{Item, Run, text_of}
+use Rattle.template_compiler_process.specs.Approximants.{IsFinished}
+use Rattle.template_compiler_process.specs.Fuel.{IsSameRun, under}
+use Rattle.template_compiler_process.specs.Trace.{Item, Run, text_of}
 use Rattle.template_machine_meaning.specs.Meaning.{Standing, rendered}
 use Rattle.template_machine_meaning.specs.World.{World}
-use Rattle.template_environment.proofs.Importing.{source_imports, standing_import}
-use Rattle.template_environment_settings.specs.Extras.{Brought}
-use Rattle.template_environment_settings.specs.Isolation.{AgreesAt, AskNoNames, ImportsNames, IsolatesNames}
-use Rattle.template_environment_settings.specs.Plain.{IsRefusedForRoom}
-use Rattle.template_environment_settings.specs.Renderings.{Renders}
-use Rattle.template_environment_settings.specs.Registry.{Registry}
-use Rattle.template_environment_settings.specs.Standing.{setting_of}
+use Rattle.template_machine_environment.proofs.Importing.{source_imports, standing_import}
+use Rattle.template_machine_environment_settings.specs.Extras.{Brought}
+use Rattle.template_machine_environment_settings.specs.Isolation.{AgreesAt, AskNoNames, ImportsNames, IsolatesNames}
+use Rattle.template_machine_environment_settings.specs.Plain.{IsRefusedForRoom}
+use Rattle.template_machine_environment_settings.specs.Renderings.{Renders}
+use Rattle.template_machine_environment_settings.specs.Registry.{Registry}
+use Rattle.template_machine_environment_settings.specs.Standing.{setting_of}
 use Rattle.template_program_run.specs.Additions.{IsRefusedAddition, RefusesOne}
 use Rattle.template_program_run.specs.Answers.{AnswersWith, HasNames, IsTemplateOf, IsUntouched, Performed, Rendered, TellsNames, definitions_of}
 use Rattle.template_program_run.specs.Environments.{IsMade}

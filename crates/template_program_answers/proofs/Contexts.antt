@@ -4,7 +4,7 @@ use Rattle.std.proofs.lemmas.Option.{none-some, same_Some}
 use Rattle.template_values_errors.specs.declared.ErrorKind.{ErrorKind}
 use Rattle.template_values_errors.specs.Memory.{NoMemory}
 use Rattle.template_values_model.specs.Val.{Val}
-use Rattle.template_environment_settings.specs.Isolation.{AgreesAt}
+use Rattle.template_machine_environment_settings.specs.Isolation.{AgreesAt}
 use Rattle.template_program_parts.specs.declared.command.Command.{Command}
 use Rattle.template_program_parts.specs.declared.command.Command.TheVariants as asked
 use Rattle.template_program_run.specs.Given.{Given, HasGiven, IsContextFrom, IsRefusedGiven}

@@ -4,9 +4,9 @@ use Rattle.std.specs.Borrow.{Bor}
 use Rattle.template_values_errors.specs.declared.ErrorKind.{ErrorKind}
 use Rattle.template_compiler_syntax.specs.Syntax.{IsUsable, Syntax, default_syntax}
 use Rattle.template_compiler_syntax.proofs.Apart.{all_apart}
-use Rattle.template_environment_settings.specs.Sources.{IsAccepted, IsRefusedWith}
+use Rattle.template_machine_environment_settings.specs.Sources.{IsAccepted, IsRefusedWith}
 use Rattle.template_compiled.proofs.Refusals as refusals
-use Rattle.template_environment_settings.specs.Plain.{IsRefusedForRoom}
+use Rattle.template_machine_environment_settings.specs.Plain.{IsRefusedForRoom}
 use Rattle.template_program_run.specs.Additions.{AllAreAccepted, RefusesOne}
 use Rattle.template_program_run.specs.History.{source_under}
 use Rattle.template_program_run.specs.Served.{Served, served_under}

@@ -2,12 +2,12 @@
 use Rattle.std.proofs.Common.{◌≡◌, ◌∙◌, ◌⊎◌, ℕ, List, Option, Result, Ok, Err, inl, inr, refl, sym, ap, subst}
 use Rattle.std.specs.Io.KnownBytes.{Appends}
 use Rattle.template_values_errors.specs.declared.ErrorKind.{ErrorKind}
-use Rattle.template_process.specs.Drive.{faults}
-use Rattle.template_process.specs.Fuel.{IsSameRun}
-use Rattle.template_process.specs.Trace.{Run, text_of}
-use Rattle.template_environment_settings.specs.Outcomes.{IsWant}
-use Rattle.template_environment_settings.specs.Renderings.{IsCut, Renders, whole, broken}
-use Rattle.template_environment_settings.specs.Renders.{IsOver}
+use Rattle.template_compiler_process.specs.Drive.{faults}
+use Rattle.template_compiler_process.specs.Fuel.{IsSameRun}
+use Rattle.template_compiler_process.specs.Trace.{Run, text_of}
+use Rattle.template_machine_environment_settings.specs.Outcomes.{IsWant}
+use Rattle.template_machine_environment_settings.specs.Renderings.{IsCut, Renders, whole, broken}
+use Rattle.template_machine_environment_settings.specs.Renders.{IsOver}
 use Rattle.template_program_run.specs.Answers.{IsOutcomeOf}
 use Rattle.template_program_parts.specs.declared.outcome.Outcome.{Outcome}
 use Rattle.template_program_parts.specs.declared.outcome.Outcome.TheVariants.{Done, Render, Context, Template}

@@ -5,12 +5,12 @@ use Rattle.std.specs.Prelude.{String}
 use Rattle.std.specs.declared.alloc.Global.{Global}
 use Rattle.template_machine_surroundings.proofs.OneRule.{one_escape}
 use Rattle.template_machine_meaning.specs.Meaning.{Setting, Standing}
-use Rattle.template_environment_settings.specs.Extras.{Brought}
-use Rattle.template_environment_settings.specs.Isolation.{IsContextName}
-use Rattle.template_environment_settings.specs.Sources.{tree_in}
-use Rattle.template_environment_settings.specs.Registry.{Registry}
-use Rattle.template_environment_settings.specs.Standing.{setting_of}
-use Rattle.template_environment_settings.proofs.Settings as settings
+use Rattle.template_machine_environment_settings.specs.Extras.{Brought}
+use Rattle.template_machine_environment_settings.specs.Isolation.{IsContextName}
+use Rattle.template_machine_environment_settings.specs.Sources.{tree_in}
+use Rattle.template_machine_environment_settings.specs.Registry.{Registry}
+use Rattle.template_machine_environment_settings.specs.Standing.{setting_of}
+use Rattle.template_machine_environment_settings.proofs.Settings as settings
 use Rattle.template_program_run.specs.Answers.{IsTemplateOf}
 use Rattle.template_program_run.specs.Environments.{IsMade}
 use Rattle.template_program_run.specs.History.{source_under}

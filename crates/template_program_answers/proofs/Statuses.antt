@@ -5,18 +5,18 @@ use Rattle.template_values_errors.specs.declared.ErrorKind.{ErrorKind}
 use Rattle.template_values_errors.specs.declared.ErrorKind.TheVariants.{OutOfMemory}
 use Rattle.template_values_errors.specs.Memory.{NoMemory}
 use Rattle.template_values_model.specs.Val.{Val}
-use Rattle.template_process.specs.Drive.{End}
-use Rattle.template_process.specs.Fuel.{under}
-use Rattle.template_process.specs.Trace.{Run}
+use Rattle.template_compiler_process.specs.Drive.{End}
+use Rattle.template_compiler_process.specs.Fuel.{under}
+use Rattle.template_compiler_process.specs.Trace.{Run}
 use Rattle.template_machine_meaning.specs.Keeps.{IsMeant, AreMeant, IsFault, IsMeantEnd}
 use Rattle.template_machine_meaning.specs.Meaning.{Standing, head_of, rendered, top, walks_of}
 use Rattle.template_machine_meaning.specs.World.{first_world}
 use Rattle.template_machine_meaning.proofs.RunsKept.{key_faults_are_meant, nothing_brought_meant}
-use Rattle.template_environment_settings.specs.Extras.{nothing_brought}
-use Rattle.template_environment_settings.specs.Outcomes.{IsWant}
-use Rattle.template_environment_settings.specs.Registry.{Registry}
-use Rattle.template_environment_settings.specs.Renderings.{Renders, whole, broken}
-use Rattle.template_environment_settings.specs.Standing.{setting_of}
+use Rattle.template_machine_environment_settings.specs.Extras.{nothing_brought}
+use Rattle.template_machine_environment_settings.specs.Outcomes.{IsWant}
+use Rattle.template_machine_environment_settings.specs.Registry.{Registry}
+use Rattle.template_machine_environment_settings.specs.Renderings.{Renders, whole, broken}
+use Rattle.template_machine_environment_settings.specs.Standing.{setting_of}
 use Rattle.template_program_run.specs.Answers.{AnswersWith, IsOutcomeOf, Performed, Rendered}
 use Rattle.template_program_run.specs.Ids.{last_id}
 use Rattle.template_program_run.specs.Given.{Given}

@@ -5,8 +5,8 @@ use Rattle.template_values_errors.specs.declared.ErrorKind.{ErrorKind}
 use Rattle.template_values_errors.specs.Memory.{NoMemory}
 use Rattle.template_values_model.specs.Val.{Val}
 use Rattle.template_compiler_syntax.specs.Syntax.{IsUsable}
-use Rattle.template_environment_settings.specs.Outcomes.{IsWant}
-use Rattle.template_environment_settings.specs.Plain.{IsRefusedForRoom}
+use Rattle.template_machine_environment_settings.specs.Outcomes.{IsWant}
+use Rattle.template_machine_environment_settings.specs.Plain.{IsRefusedForRoom}
 use Rattle.template_program_run.specs.Answers.{AnswersRequest, AnswersWith}
 use Rattle.template_program_run.specs.Given.{Given, IsContextFrom, IsJsonAlone, fault_of_given}
 use Rattle.template_program_run.specs.Ids.{IsLastId}

@@ -1,12 +1,12 @@
 -- What goes along lists: an item is passed, and then those behind it.
 use Rattle.std.proofs.Common.{◌≡◌, ℕ, zero, suc, ◌+◌, ◌<◌, ◌≤◌, arith, Bool, ◌||◌, List, [], ◌∷◌, length, drop, get_or, Some, slice_get, String, Global, string_bytes, refl, sym, ap, subst, ◌∙◌}
-use Rattle.template_code.specs.Code.{Code}
-use Rattle.template_code.specs.Listing.{code_in}
-use Rattle.template_code.specs.Streams.{streams_in}
-use Rattle.template_code.specs.declared.blocks.CompiledBlock.{CompiledBlock}
+use Rattle.template_compiler_code.specs.Code.{Code}
+use Rattle.template_compiler_code.specs.Listing.{code_in}
+use Rattle.template_compiler_code.specs.Streams.{streams_in}
+use Rattle.template_compiler_code.specs.declared.blocks.CompiledBlock.{CompiledBlock}
 use Rattle.template_compiled.specs.Compiled.{Compiled}
 use Rattle.template_compiled.specs.Sources.{Source}
-use Rattle.template_names.proofs.Laws.{drop_at, drop_none, or_assoc, or_false}
+use Rattle.template_compiler_names.proofs.Laws.{drop_at, drop_none, or_assoc, or_false}
 use Rattle.template_program_parts.specs.Context.{text_pairs}
 use Rattle.template_program_check.specs.Checked.{ChecksFrom, ChecksOne}
 use Rattle.template_program_check.specs.Names.{is_stored_at, is_stored_by, is_stored_in, is_stored_in_blocks, is_stored_in_one}

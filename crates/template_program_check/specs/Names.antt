@@ -2,8 +2,8 @@
 use Rattle.std.specs.Prelude.{ℕ, Bool, false, ◌||◌, List, [], ◌∷◌, Option, None, Some, is_some, bytes_eq, codes}
 use Rattle.template_values_errors.specs.declared.ErrorKind.{ErrorKind}
 use Rattle.template_values_errors.specs.declared.ErrorKind.TheVariants.{UnknownFilter, UnknownTest, UnknownFunction}
-use Rattle.template_code.specs.Code.{Code, apply_filter, perform_test, call_function, store_local}
-use Rattle.template_code.specs.Streams.{BlockStream}
+use Rattle.template_compiler_code.specs.Code.{Code, apply_filter, perform_test, call_function, store_local}
+use Rattle.template_compiler_code.specs.Streams.{BlockStream}
 use Rattle.template_compiled.specs.Compiled.{Compiled, code_for}
 use Rattle.template_compiled.specs.Sources.{tree_in}
 use Rattle.template_compiled.specs.Streams.{streams_of}

@@ -1,7 +1,7 @@
 -- The lines of the names that nothing has.
 use Rattle.std.specs.Prelude.{◌≡◌, ℕ, Bool, true, false, List, [], ◌∷◌, ◌++◌, Option, None, Some}
-use Rattle.template_code.specs.Code.{Code}
-use Rattle.template_code.specs.Streams.{BlockStream}
+use Rattle.template_compiler_code.specs.Code.{Code}
+use Rattle.template_compiler_code.specs.Streams.{BlockStream}
 use Rattle.template_compiled.specs.Compiled.{Compiled, code_for}
 use Rattle.template_compiled.specs.Sources.{tree_in}
 use Rattle.template_compiled.specs.Streams.{streams_of}

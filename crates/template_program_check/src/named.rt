@@ -1,12 +1,12 @@
 //! What instructions name.
 ghost use Rattle.std.specs.Prelude.{◌≡◌, option_map};
 ghost use Rattle.std.specs.BTreeSet.{contains_text};
-ghost use Rattle.template_code.specs.View.{code_of};
+ghost use Rattle.template_compiler_code.specs.View.{code_of};
 ghost use Rattle.template_program_check.specs.Names.{is_had, is_own, kind_for, name_in, named_by, named_in};
 
 use std::collections::BTreeSet;
 use template_builtins_callables::{filter_named, test_named};
-use template_code::Instruction;
+use template_compiler_code::Instruction;
 use template_values_errors::ErrorKind;
 
 /// What an instruction names: a filter, a test, or a function that it calls.

@@ -1,17 +1,17 @@
 //! The names that templates store.
 ghost use Rattle.std.specs.Prelude.{◌≡◌, ℕ, List, IfOk, OnOk, option_map};
 ghost use Rattle.std.specs.BTreeSet.{contains_text};
-ghost use Rattle.template_code.specs.Listing.{code_in};
-ghost use Rattle.template_code.specs.View.{code_of};
-ghost use Rattle.template_code.specs.Streams.{streams_in};
-ghost use Rattle.template_names.specs.Among.{Adds};
+ghost use Rattle.template_compiler_code.specs.Listing.{code_in};
+ghost use Rattle.template_compiler_code.specs.View.{code_of};
+ghost use Rattle.template_compiler_code.specs.Streams.{streams_in};
+ghost use Rattle.template_compiler_names.specs.Among.{Adds};
 ghost use Rattle.template_program_check.specs.Names.{is_stored_at, is_stored_by, is_stored_in, is_stored_in_blocks, is_stored_in_one};
 
 use std::alloc::{AllocError, Global};
 use std::collections::BTreeSet;
-use template_code::{CompiledBlock, Instruction, Instructions};
 use template_compiled::CompiledTemplate;
-use template_names::add_name;
+use template_compiler_code::{CompiledBlock, Instruction, Instructions};
+use template_compiler_names::add_name;
 
 /// The names that templates store: by `set`, imports and macros, and as targets and arguments.
 pub(crate) fn stored_names(

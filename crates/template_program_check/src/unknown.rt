@@ -2,8 +2,8 @@
 ghost use Rattle.std.specs.Prelude.{[], IfErr, IfOk, OnOk, option_map, slice_get, string_bytes};
 ghost use Rattle.std.specs.BTreeSet.{contains_text};
 ghost use Rattle.template_values_errors.specs.Memory.{NoMemory};
-ghost use Rattle.template_code.specs.Listing.{code_in};
-ghost use Rattle.template_code.specs.Streams.{streams_in};
+ghost use Rattle.template_compiler_code.specs.Listing.{code_in};
+ghost use Rattle.template_compiler_code.specs.Streams.{streams_in};
 ghost use Rattle.template_program_check.specs.Names.{named_in};
 ghost use Rattle.template_program_check.specs.Unknown.{TellsAll, TellsBlocks, TellsCode, TellsIf, TellsIfThere, TellsNamed, TellsTemplate, TellsUnknown};
 
@@ -12,8 +12,8 @@ use crate::named::{Named, naming};
 use crate::stored::stored_names;
 use std::alloc::{AllocError, Global};
 use std::collections::BTreeSet;
-use template_code::{CompiledBlock, Instructions};
 use template_compiled::CompiledTemplate;
+use template_compiler_code::{CompiledBlock, Instructions};
 use template_values_errors::Error;
 
 /// A line for each place in the templates where a filter, a test or a function is named that nothing has: no builtin, no

@@ -9,20 +9,20 @@ use Rattle.template_values_errors.specs.declared.modes.UndefinedBehavior.{Undefi
 use Rattle.template_values_errors.specs.Memory.{NoMemory}
 use Rattle.template_values_model.specs.Val.{Val}
 use Rattle.template_machine_surroundings.specs.Writes.{AppendsBeginning}
-use Rattle.template_process.specs.Drive.{ends}
-use Rattle.template_process.specs.Fuel.{under}
-use Rattle.template_process.specs.Trace.{Run}
+use Rattle.template_compiler_process.specs.Drive.{ends}
+use Rattle.template_compiler_process.specs.Fuel.{under}
+use Rattle.template_compiler_process.specs.Trace.{Run}
 use Rattle.template_machine_meaning.specs.Laws.{GivesOne}
 use Rattle.template_machine_meaning.specs.World.{World}
-use Rattle.template_environment.specs.Evaluations.{Gives, environment_under, text_of}
-use Rattle.template_environment.specs.Extras.{Brought, UserAnswers}
-use Rattle.template_environment.specs.Outcomes.{IsWant, TellsFailures}
-use Rattle.template_environment.specs.Reading.{brought_of, registry_of}
-use Rattle.template_environment.specs.Renderings.{last_id}
-use Rattle.template_environment.specs.Standing.{settings_of}
-use Rattle.template_environment.specs.declared.environment.Environment.{Environment}
-use Rattle.template_environment.specs.declared.expression.Expression.{Expression}
-use Rattle.template_environment.specs.declared.registry.Registry.{Registry}
+use Rattle.template_machine_environment.specs.Evaluations.{Gives, environment_under, text_of}
+use Rattle.template_machine_environment.specs.Extras.{Brought, UserAnswers}
+use Rattle.template_machine_environment.specs.Outcomes.{IsWant, TellsFailures}
+use Rattle.template_machine_environment.specs.Reading.{brought_of, registry_of}
+use Rattle.template_machine_environment.specs.Renderings.{last_id}
+use Rattle.template_machine_environment.specs.Standing.{settings_of}
+use Rattle.template_machine_environment.specs.declared.environment.Environment.{Environment}
+use Rattle.template_machine_environment.specs.declared.expression.Expression.{Expression}
+use Rattle.template_machine_environment.specs.declared.registry.Registry.{Registry}
 use Rattle.template_program_parts.specs.declared.outcome.Outcome.TheVariants.{Done, Render}
 use Rattle.template_program_expression.specs.Evaluations.{IsEvaluated, MakesTold, behind_one, meaning_of}
 use Rattle.template_program_expression.specs.Told.{Makes, value_line}

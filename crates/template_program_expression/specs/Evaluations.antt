@@ -8,19 +8,19 @@ use Rattle.template_values_errors.specs.declared.modes.UndefinedBehavior.{Undefi
 use Rattle.template_values_errors.specs.Memory.{NoMemory}
 use Rattle.template_values_model.specs.Val.{Val}
 use Rattle.template_machine_surroundings.specs.Writes.{AppendsBeginning}
-use Rattle.template_process.specs.Drive.{ends}
-use Rattle.template_process.specs.Fuel.{under}
-use Rattle.template_process.specs.Trace.{Run}
+use Rattle.template_compiler_process.specs.Drive.{ends}
+use Rattle.template_compiler_process.specs.Fuel.{under}
+use Rattle.template_compiler_process.specs.Trace.{Run}
 use Rattle.template_machine_meaning.specs.Laws.{GivesOne}
 use Rattle.template_machine_meaning.specs.Meaning.{evaluated}
 use Rattle.template_machine_meaning.specs.World.{World}
 use Rattle.template_compiled.specs.Expressions.{IsAcceptedExpression, IsExpressionRefusedWith, expression_in}
-use Rattle.template_environment.specs.Extras.{Brought}
-use Rattle.template_environment.specs.Outcomes.{IsWant, TellsFailures}
-use Rattle.template_environment.specs.Renderings.{last_id}
-use Rattle.template_environment.specs.Renders.{FaultsAs}
-use Rattle.template_environment.specs.Standing.{setting_of, settings_of}
-use Rattle.template_environment.specs.declared.registry.Registry.{Registry}
+use Rattle.template_machine_environment.specs.Extras.{Brought}
+use Rattle.template_machine_environment.specs.Outcomes.{IsWant, TellsFailures}
+use Rattle.template_machine_environment.specs.Renderings.{last_id}
+use Rattle.template_machine_environment.specs.Renders.{FaultsAs}
+use Rattle.template_machine_environment.specs.Standing.{setting_of, settings_of}
+use Rattle.template_machine_environment.specs.declared.registry.Registry.{Registry}
 use Rattle.template_program_parts.specs.declared.outcome.Outcome.{Outcome}
 use Rattle.template_program_parts.specs.declared.outcome.Outcome.TheVariants.{Done, Render, Context, Template}
 use Rattle.template_program_expression.specs.Told.{value_line}

@@ -1,17 +1,17 @@
 //! The evaluation of a text.
 ghost use Rattle.std.specs.Prelude.{◌≡◌, ◌≢◌, ◌∷◌, [], Err};
-ghost use Rattle.template_process.specs.Fuel.{under};
+ghost use Rattle.template_compiler_process.specs.Fuel.{under};
 ghost use Rattle.template_machine_meaning.specs.Laws.{GivesOne};
-ghost use Rattle.template_environment.specs.Evaluations.{environment_under, text_of};
-ghost use Rattle.template_environment.specs.Extras.{user_answers};
-ghost use Rattle.template_environment.specs.Reading.{brought_of, registry_of};
-ghost use Rattle.template_environment.specs.Renderings.{last_id};
+ghost use Rattle.template_machine_environment.specs.Evaluations.{environment_under, text_of};
+ghost use Rattle.template_machine_environment.specs.Extras.{user_answers};
+ghost use Rattle.template_machine_environment.specs.Reading.{brought_of, registry_of};
+ghost use Rattle.template_machine_environment.specs.Renderings.{last_id};
 ghost use Rattle.template_program_expression.specs.Evaluations.{Evaluates, MakesTold, behind_evaluation, behind_one, meaning_of};
 
 use crate::telling::line_of;
 use std::alloc::Global;
 use template_callables::Extension;
-use template_environment::{Environment, Expression};
+use template_machine_environment::{Environment, Expression};
 use template_machine_operations::write;
 use template_machine_surroundings::{Sink, StateIds};
 use template_program_parts::Outcome;

@@ -1,6 +1,6 @@
 -- Which templates are kept: those that the main one reaches, and those that can be read.
 use Rattle.std.specs.Prelude.{◌≡◌, ◌⊎◌, ℕ, ◌<◌, ◌^◌, List, [], ◌∷◌, length, None}
-use Rattle.template_tree.specs.Tree.{Statement}
+use Rattle.template_compiler_tree.specs.Tree.{Statement}
 use Rattle.template_compiler_syntax.specs.Syntax.{Syntax}
 use Rattle.template_compiler_sources.specs.Source.{IsSource}
 use Rattle.template_program_reached.specs.Reached.{IsReached, source_under}

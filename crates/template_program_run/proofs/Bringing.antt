@@ -5,9 +5,9 @@ use Rattle.template_callables.specs.Callables.{escapes}
 use Rattle.template_callables.specs.Joins.{keeps_name}
 use Rattle.template_machine_surroundings.specs.declared.escape.EscapeRule.{EscapeRule}
 use Rattle.template_machine_surroundings.specs.declared.escape.EscapeRule.TheVariants.{ByName, Never, Fixed}
-use Rattle.template_environment_settings.specs.Extras.{Extras, brought_by, no_extras}
-use Rattle.template_environment_settings.specs.Isolation.{AskNoNames}
-use Rattle.template_environment_settings.specs.Reading.{rule_for}
+use Rattle.template_machine_environment_settings.specs.Extras.{Extras, brought_by, no_extras}
+use Rattle.template_machine_environment_settings.specs.Isolation.{AskNoNames}
+use Rattle.template_machine_environment_settings.specs.Reading.{rule_for}
 use Rattle.template_machine_meaning.proofs.Isolated.{no_callables_ask}
 use Rattle.template_builtins.specs.Brought.{builtins_brought}
 use Rattle.template_builtins.specs.Installed.{Installs}

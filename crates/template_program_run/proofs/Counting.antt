@@ -5,9 +5,9 @@ use Rattle.template_values_errors.specs.declared.ErrorKind.{ErrorKind}
 use Rattle.template_values_errors.specs.declared.ErrorKind.TheVariants.{InvalidOperation}
 use Rattle.template_values_errors.specs.Memory.{NoMemory}
 use Rattle.template_values_model.specs.Val.{Val}
-use Rattle.template_environment_settings.specs.Extras.{Brought}
-use Rattle.template_environment_settings.specs.Meaning.{Standing}
-use Rattle.template_environment_settings.specs.Registry.{Registry}
+use Rattle.template_machine_environment_settings.specs.Extras.{Brought}
+use Rattle.template_machine_environment_settings.specs.Meaning.{Standing}
+use Rattle.template_machine_environment_settings.specs.Registry.{Registry}
 use Rattle.template_program_expression.specs.Evaluations.{Evaluates, behind_evaluation}
 use Rattle.template_program_run.specs.Additions.{IsRefusedEnvironment}
 use Rattle.template_program_run.specs.Answers.{Rendered, TellsNames}

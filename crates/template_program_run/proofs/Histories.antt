@@ -4,7 +4,7 @@ use Rattle.std.proofs.Math.Seq.{take-suc, split_at}
 use Rattle.std.specs.Option.{option_map}
 use Rattle.std.specs.declared.alloc.Global.{Global}
 use Rattle.template_values_errors.specs.declared.ErrorKind.{ErrorKind}
-use Rattle.template_environment_settings.specs.Sources.{IsAccepted, IsRefusedWith}
+use Rattle.template_machine_environment_settings.specs.Sources.{IsAccepted, IsRefusedWith}
 use Rattle.template_program_parts.specs.Context.{text_pairs}
 use Rattle.template_program_run.specs.Additions.{AllAreAccepted, RefusesOne}
 use Rattle.template_program_run.specs.History.{text_under, source_under, source_standing, standing}

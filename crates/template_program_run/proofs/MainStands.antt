@@ -4,11 +4,11 @@ use Rattle.std.proofs.lemmas.Option.{none-some, same_Some}
 use Rattle.std.specs.Option.{option_map}
 use Rattle.template_values_model.specs.Val.{Val}
 use Rattle.template_machine_surroundings.specs.Rule.{IsEscapeOf}
-use Rattle.template_environment_settings.specs.Meaning.{Standing}
-use Rattle.template_environment_settings.specs.Compiled.{Compiled, standing_of}
-use Rattle.template_environment_settings.specs.Sources.{Source, tree_in}
-use Rattle.template_environment_settings.specs.Standing.{source_at}
-use Rattle.template_environment_settings.specs.Registry.{Registry}
+use Rattle.template_machine_environment_settings.specs.Meaning.{Standing}
+use Rattle.template_machine_environment_settings.specs.Compiled.{Compiled, standing_of}
+use Rattle.template_machine_environment_settings.specs.Sources.{Source, tree_in}
+use Rattle.template_machine_environment_settings.specs.Standing.{source_at}
+use Rattle.template_machine_environment_settings.specs.Registry.{Registry}
 use Rattle.template_program_run.specs.Additions.{AllAreAccepted}
 use Rattle.template_program_run.specs.Environments.{IsMade}
 use Rattle.template_program_run.specs.Given.{Given, HasGiven}

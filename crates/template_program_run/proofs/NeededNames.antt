@@ -4,13 +4,13 @@ use Rattle.std.specs.BTreeSet.{BTreeSet, contains_text, IsOrdered}
 use Rattle.std.specs.String.{string_cmp}
 use Rattle.std.specs.declared.alloc.Global.{Global}
 use Rattle.template_values_model.specs.Val.{Val}
-use Rattle.template_process.specs.Fuel.{IsSameRun, under}
-use Rattle.template_environment_settings.specs.Extras.{Brought}
-use Rattle.template_environment_settings.specs.Isolated.{AgreeAmong}
-use Rattle.template_environment_settings.specs.Isolation.{IsContextName}
-use Rattle.template_environment_settings.specs.Meaning.{Standing, rendered}
-use Rattle.template_environment_settings.specs.Standing.{setting_of}
-use Rattle.template_environment_settings.specs.Registry.{Registry}
+use Rattle.template_compiler_process.specs.Fuel.{IsSameRun, under}
+use Rattle.template_machine_environment_settings.specs.Extras.{Brought}
+use Rattle.template_machine_environment_settings.specs.Isolated.{AgreeAmong}
+use Rattle.template_machine_environment_settings.specs.Isolation.{IsContextName}
+use Rattle.template_machine_environment_settings.specs.Meaning.{Standing, rendered}
+use Rattle.template_machine_environment_settings.specs.Standing.{setting_of}
+use Rattle.template_machine_environment_settings.specs.Registry.{Registry}
 use Rattle.template_program_run.specs.Answers.{HasNames}
 
 -- what is told of names

@@ -2,14 +2,14 @@
 use Rattle.std.proofs.Common.{ℕ, List, Option, Result, Ok, Err}
 use Rattle.template_values_errors.specs.declared.ErrorKind.{ErrorKind}
 use Rattle.template_values_model.specs.Val.{Val}
-use Rattle.template_process.specs.Approximants.{IsFinished}
-use Rattle.template_process.specs.Fuel.{under}
-use Rattle.template_process.specs.Trace.{Run}
-use Rattle.template_environment_settings.specs.Extras.{Brought}
-use Rattle.template_environment_settings.specs.Meaning.{Standing, rendered}
-use Rattle.template_environment_settings.specs.Renderings.{Renders, whole, broken}
-use Rattle.template_environment_settings.specs.Standing.{setting_of}
-use Rattle.template_environment_settings.specs.Registry.{Registry}
+use Rattle.template_compiler_process.specs.Approximants.{IsFinished}
+use Rattle.template_compiler_process.specs.Fuel.{under}
+use Rattle.template_compiler_process.specs.Trace.{Run}
+use Rattle.template_machine_environment_settings.specs.Extras.{Brought}
+use Rattle.template_machine_environment_settings.specs.Meaning.{Standing, rendered}
+use Rattle.template_machine_environment_settings.specs.Renderings.{Renders, whole, broken}
+use Rattle.template_machine_environment_settings.specs.Standing.{setting_of}
+use Rattle.template_machine_environment_settings.specs.Registry.{Registry}
 use Rattle.template_program_run.specs.Answers.{IsRendered}
 
 renders_done : {X S : Type 0} (v : X) (before after : Option (List ℕ)) (failed fails : ℕ) (r : Run S)

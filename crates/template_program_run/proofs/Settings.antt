@@ -2,8 +2,8 @@
 use Rattle.std.proofs.Common.{◌≡◌, ◌∙◌, ℕ, Option, min, ap, unwrap_or}
 use Rattle.template_compiler_syntax.specs.Syntax.{Syntax, default_syntax}
 use Rattle.template_machine_surroundings.specs.declared.escape.EscapeRule.TheVariants.{ByName}
-use Rattle.template_environment_settings.specs.Globals.{own_globals}
-use Rattle.template_environment_settings.specs.Standing.{Settings, greatest_limit, new_settings}
+use Rattle.template_machine_environment_settings.specs.Globals.{own_globals}
+use Rattle.template_machine_environment_settings.specs.Standing.{Settings, greatest_limit, new_settings}
 use Rattle.template_program_run.specs.Environments.{IsSetFor}
 use Rattle.template_program_run.specs.declared.request.Request.{Request}
 

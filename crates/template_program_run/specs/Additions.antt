@@ -3,7 +3,7 @@ use Rattle.std.specs.Prelude.{◌≡◌, ℕ, ◌⊎◌, List, [], ◌∷◌}
 use Rattle.template_values_errors.specs.declared.ErrorKind.{ErrorKind}
 use Rattle.template_values_errors.specs.declared.ErrorKind.TheVariants.{InvalidOperation}
 use Rattle.template_values_errors.specs.Memory.{NoMemory}
-use Rattle.template_environment_settings.specs.Sources.{IsAccepted, IsRefusedWith}
+use Rattle.template_machine_environment_settings.specs.Sources.{IsAccepted, IsRefusedWith}
 use Rattle.template_program_run.specs.History.{source_under}
 use Rattle.template_program_run.specs.Ids.{IsLastId}
 use Rattle.template_program_run.specs.Served.{Served}

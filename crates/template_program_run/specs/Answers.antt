@@ -8,19 +8,19 @@ use Rattle.template_values_errors.specs.declared.ErrorKind.{ErrorKind}
 use Rattle.template_values_errors.specs.declared.ErrorKind.TheVariants.{InvalidOperation, TemplateNotFound}
 use Rattle.template_values_errors.specs.Memory.{NoMemory}
 use Rattle.template_values_model.specs.Val.{Val}
-use Rattle.template_process.specs.Approximants.{IsFinished}
-use Rattle.template_process.specs.Fuel.{IsSameRun, under}
+use Rattle.template_compiler_process.specs.Approximants.{IsFinished}
+use Rattle.template_compiler_process.specs.Fuel.{IsSameRun, under}
 use Rattle.template_machine_surroundings.specs.Rule.{IsEscapeOf}
 use Rattle.template_machine_surroundings.specs.Writes.{AppendsBeginning}
-use Rattle.template_environment_settings.specs.Extras.{Brought}
-use Rattle.template_environment_settings.specs.Outcomes.{IsWant, TellsFailures}
-use Rattle.template_environment_settings.specs.Meaning.{Standing, rendered}
-use Rattle.template_environment_settings.specs.Isolation.{IsContextName}
-use Rattle.template_environment_settings.specs.Renderings.{Renders}
-use Rattle.template_environment_settings.specs.Sources.{tree_in}
-use Rattle.template_environment_settings.specs.Isolated.{AgreeAmong}
-use Rattle.template_environment_settings.specs.Registry.{Registry}
-use Rattle.template_environment_settings.specs.Standing.{setting_of}
+use Rattle.template_machine_environment_settings.specs.Extras.{Brought}
+use Rattle.template_machine_environment_settings.specs.Outcomes.{IsWant, TellsFailures}
+use Rattle.template_machine_environment_settings.specs.Meaning.{Standing, rendered}
+use Rattle.template_machine_environment_settings.specs.Isolation.{IsContextName}
+use Rattle.template_machine_environment_settings.specs.Renderings.{Renders}
+use Rattle.template_machine_environment_settings.specs.Sources.{tree_in}
+use Rattle.template_machine_environment_settings.specs.Isolated.{AgreeAmong}
+use Rattle.template_machine_environment_settings.specs.Registry.{Registry}
+use Rattle.template_machine_environment_settings.specs.Standing.{setting_of}
 use Rattle.template_program_parts.specs.Context.{text_pairs}
 use Rattle.template_program_run.specs.Additions.{AllAreAccepted, IsRefusedAddition}
 use Rattle.template_program_run.specs.Environments.{IsMade}

@@ -2,7 +2,7 @@
 use Rattle.std.specs.Prelude.{Bool, if◌then◌else◌}
 use Rattle.template_callables.specs.Callables.{escapes}
 use Rattle.template_callables.specs.Joins.{keeps_name}
-use Rattle.template_environment_settings.specs.Extras.{Brought, UserAnswers, nothing_brought, user_answers}
+use Rattle.template_machine_environment_settings.specs.Extras.{Brought, UserAnswers, nothing_brought, user_answers}
 use Rattle.template_builtins.specs.Brought.{builtins_brought}
 use Rattle.template_builtins_callables.specs.Says.{builtin_says}
 use Rattle.template_builtins_callables.specs.declared.builtin.Builtin.{Builtin}

@@ -4,9 +4,9 @@ use Rattle.template_values_errors.specs.declared.modes.AutoEscape.TheVariants as
 use Rattle.template_compiler_syntax.specs.Syntax.{Syntax}
 use Rattle.template_machine_surroundings.specs.declared.escape.EscapeRule.{EscapeRule}
 use Rattle.template_machine_surroundings.specs.declared.escape.EscapeRule.TheVariants.{ByName, Never, Fixed}
-use Rattle.template_environment_settings.specs.Globals.{own_globals}
-use Rattle.template_environment_settings.specs.Standing.{Settings, greatest_limit, settings_of, source_at}
-use Rattle.template_environment_settings.specs.Registry.{Registry}
+use Rattle.template_machine_environment_settings.specs.Globals.{own_globals}
+use Rattle.template_machine_environment_settings.specs.Standing.{Settings, greatest_limit, settings_of, source_at}
+use Rattle.template_machine_environment_settings.specs.Registry.{Registry}
 use Rattle.template_program_run.specs.History.{source_standing}
 use Rattle.template_program_run.specs.Served.{Served}
 use Rattle.template_program_run.specs.declared.extension.OneEscape.{OneEscape}

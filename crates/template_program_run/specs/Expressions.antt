@@ -3,7 +3,7 @@ use Rattle.std.specs.Prelude.{◌≡◌, ℕ, ◌+◌, ◌⊎◌, Bool, List, Op
 use Rattle.std.specs.Borrow.{Bor}
 use Rattle.template_values_errors.specs.declared.ErrorKind.{ErrorKind}
 use Rattle.template_values_model.specs.Val.{Val}
-use Rattle.template_environment_settings.specs.Registry.{Registry}
+use Rattle.template_machine_environment_settings.specs.Registry.{Registry}
 use Rattle.template_program_parts.specs.declared.outcome.Outcome.{Outcome}
 use Rattle.template_program_parts.specs.declared.outcome.Outcome.TheVariants.{Context, Template}
 use Rattle.template_program_expression.specs.Evaluations.{Evaluates}

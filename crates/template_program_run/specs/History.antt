@@ -2,7 +2,7 @@
 use Rattle.std.specs.Prelude.{ℕ, List, [], ◌∷◌, Option, None, Some, if◌then◌else◌}
 use Rattle.std.specs.Option.{option_map}
 use Rattle.std.specs.Str.{bytes_eq}
-use Rattle.template_environment_settings.specs.Sources.{Source}
+use Rattle.template_machine_environment_settings.specs.Sources.{Source}
 use Rattle.template_program_run.specs.Served.{Served, plainly_served}
 
 -- the one given last under the name

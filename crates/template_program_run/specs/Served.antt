@@ -4,7 +4,7 @@ use Rattle.template_values_errors.specs.declared.modes.AutoEscape.TheVariants as
 use Rattle.template_compiler_syntax.specs.Syntax.{Syntax, default_syntax}
 use Rattle.template_machine_surroundings.specs.declared.escape.EscapeRule.{EscapeRule}
 use Rattle.template_machine_surroundings.specs.declared.escape.EscapeRule.TheVariants.{ByName, Never, Fixed}
-use Rattle.template_environment_settings.specs.Extras.{Brought, nothing_brought}
+use Rattle.template_machine_environment_settings.specs.Extras.{Brought, nothing_brought}
 use Rattle.template_program_run.specs.Brought.{brought_under}
 use Rattle.template_program_run.specs.declared.options.Options.{Options}
 

@@ -2,9 +2,9 @@
 ghost use Rattle.std.specs.Prelude.{◌≡◌, ℕ, List, None, IfOk, IfErr, OnOk, option_map, unwrap_or};
 ghost use Rattle.template_values_errors.specs.Memory.{NoMemory};
 ghost use Rattle.template_compiler_syntax.specs.Syntax.{default_syntax};
-ghost use Rattle.template_environment_settings.specs.Extras.{no_extras};
-ghost use Rattle.template_environment_settings.specs.Reading.{brought_of, extras_of, registry_of};
-ghost use Rattle.template_environment_settings.specs.Standing.{settings_of, source_at};
+ghost use Rattle.template_machine_environment_settings.specs.Extras.{no_extras};
+ghost use Rattle.template_machine_environment_settings.specs.Reading.{brought_of, extras_of, registry_of};
+ghost use Rattle.template_machine_environment_settings.specs.Standing.{settings_of, source_at};
 ghost use Rattle.template_program_parts.specs.Context.{text_pairs};
 ghost use Rattle.template_program_run.specs.Additions.{AllAreAccepted, IsRefusedAddition, IsRefusedEnvironment};
 ghost use Rattle.template_program_run.specs.Brought.{brought_if, program_answers};
@@ -18,7 +18,7 @@ use crate::request::Request;
 use std::alloc::Global;
 use template_builtins::install;
 use template_compiler_syntax::SyntaxConfig;
-use template_environment_settings::{Environment, set_bounds};
+use template_machine_environment_settings::{Environment, set_bounds};
 use template_machine_surroundings::{EscapeRule, StateIds};
 use template_values_errors::{AutoEscape, Error};
 

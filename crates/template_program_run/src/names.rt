@@ -4,7 +4,7 @@ ghost use Rattle.std.specs.Io.KnownBytes.{Appends};
 ghost use Rattle.serde_json.specs.View.{view};
 ghost use Rattle.template_values_errors.specs.Memory.{NoMemory};
 ghost use Rattle.template_machine_surroundings.specs.Writes.{AppendsBeginning};
-ghost use Rattle.template_environment_settings.specs.Outcomes.{IsWant, TellsFailures};
+ghost use Rattle.template_machine_environment_settings.specs.Outcomes.{IsWant, TellsFailures};
 ghost use Rattle.template_program_run.specs.Lines.{json_line_of, line_of, lines_of, strings_of, told_names};
 
 use serde_json::Value as Json;

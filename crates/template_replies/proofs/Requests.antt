@@ -1,6 +1,6 @@
 -- The run of a request.
 use Rattle.std.proofs.Common.{◌≡◌, ℕ, List, [], ◌∷◌, MatchOption, Option, None, Some, option_to_list, string_bytes, subst, sym}
-use Rattle.template_environment_settings.specs.Plain.{IsPlain, text_kept}
+use Rattle.template_machine_environment_settings.specs.Plain.{IsPlain, text_kept}
 use Rattle.template_program_contexts.specs.declared.documents.Document.{Document}
 use Rattle.template_program_parts.specs.Context.{text_pairs}
 use Rattle.template_program_parts.specs.declared.command.Command.{Command}

@@ -1,6 +1,6 @@
 -- The answer to a request, which writes into an empty text, in the first state ids.
 use Rattle.std.specs.Prelude.{◌≡◌, ℕ, List, [], Some, string_bytes}
-use Rattle.template_environment_settings.specs.Plain.{IsPlain, text_kept}
+use Rattle.template_machine_environment_settings.specs.Plain.{IsPlain, text_kept}
 use Rattle.template_program_parts.specs.declared.outcome.Outcome.{Outcome}
 use Rattle.template_program_run.specs.Answers.{AnswersWith}
 use Rattle.template_program_run.specs.Given.{Given}

@@ -5,7 +5,7 @@ mod words;
 
 use serde_json::Value as Json;
 use std::alloc::Global;
-use template_code::Instructions;
+use template_compiler_code::Instructions;
 use template_values_errors::Error;
 pub use words::instruction;
 

@@ -2,7 +2,7 @@
 use serde_json::Value as Json;
 use std::alloc::Global;
 use std::borrow::CowStr;
-use template_code::{
+use template_compiler_code::{
     CaptureMode, CompareOp, Instruction, LOOP_FLAG_RECURSIVE, LOOP_FLAG_WITH_LOOP_VAR,
 };
 use template_values_core::Value;

@@ -3,13 +3,13 @@ use Rattle.std.proofs.Common.{◌≡◌, ◌∙◌, ℕ, List, [], ◌∷◌, Ma
 use Rattle.template_values_errors.specs.declared.ErrorKind.{ErrorKind}
 use Rattle.template_values_model.specs.Val.{Val}
 use Rattle.template_machine_surroundings.specs.Rule.{IsEscapeOf}
-use Rattle.template_environment_settings.specs.Compiled.{Compiled, standing_of}
-use Rattle.template_environment_settings.specs.Extras.{Brought}
-use Rattle.template_environment_settings.specs.Plain.{IsPlain, text_kept}
-use Rattle.template_environment_settings.specs.Reading.{brought_of, registry_of}
-use Rattle.template_environment_settings.specs.Registry.{Registry}
-use Rattle.template_environment_settings.specs.Sources.{tree_in}
-use Rattle.template_environment_settings.specs.Standing.{source_at}
+use Rattle.template_machine_environment_settings.specs.Compiled.{Compiled, standing_of}
+use Rattle.template_machine_environment_settings.specs.Extras.{Brought}
+use Rattle.template_machine_environment_settings.specs.Plain.{IsPlain, text_kept}
+use Rattle.template_machine_environment_settings.specs.Reading.{brought_of, registry_of}
+use Rattle.template_machine_environment_settings.specs.Registry.{Registry}
+use Rattle.template_machine_environment_settings.specs.Sources.{tree_in}
+use Rattle.template_machine_environment_settings.specs.Standing.{source_at}
 use Rattle.template_program_contexts.specs.declared.documents.Document.{Document}
 use Rattle.template_program_parts.specs.Context.{text_pairs}
 use Rattle.template_program_parts.specs.declared.command.Command.TheVariants as asked

@@ -1,6 +1,6 @@
 //! The environment of a session: the templates, added in order, and what the options bring.
 ghost use Rattle.std.specs.Prelude.{◌≡◌, IfOk, IfErr, OnOk};
-ghost use Rattle.template_environment_settings.specs.Reading.{brought_of, registry_of};
+ghost use Rattle.template_machine_environment_settings.specs.Reading.{brought_of, registry_of};
 ghost use Rattle.template_program_parts.specs.Context.{text_pairs};
 ghost use Rattle.template_program_run.specs.Additions.{AllAreAccepted, IsRefusedAddition};
 ghost use Rattle.template_program_run.specs.Brought.{brought_if, program_answers};
@@ -10,7 +10,7 @@ ghost use Rattle.template_program_run.specs.Served.{served_under};
 
 use std::alloc::Global;
 use std::borrow::CowStr;
-use template_environment_settings::Environment;
+use template_machine_environment_settings::Environment;
 use template_machine_surroundings::StateIds;
 use template_program_run::{Options, Program, Request, set_up};
 use template_values_errors::Error;

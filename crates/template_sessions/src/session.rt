@@ -11,7 +11,7 @@ ghost use Rattle.template_sessions.specs.Sessions.{IsKept, IsOpened, RendersIn};
 use crate::additions::environment_of;
 use std::alloc::Global;
 use template_compiler_syntax::SyntaxConfig;
-use template_environment_settings::Environment;
+use template_machine_environment_settings::Environment;
 use template_machine_surroundings::{Sink, StateIds};
 use template_program_contexts::context_with;
 use template_program_parts::{Command, Outcome};

@@ -2,7 +2,7 @@
 ghost use Rattle.template_values_model.specs.Gives.{Gives};
 ghost use Rattle.template_values_core.specs.Shape.{pairs_in};
 ghost use Rattle.template_values_operators.specs.Kinds.{list_made};
-ghost use Rattle.template_walk.specs.Containers.{tuple_made, map_made};
+ghost use Rattle.template_compiler_walk.specs.Containers.{tuple_made, map_made};
 
 use std::alloc::Global;
 use template_values_core::{Entry, Value};

@@ -1,11 +1,11 @@
 use Rattle.std.proofs.Common.{rules, ◌≡◌, ◌==◌, ◌+◌, ◌-◌, ◌*◌, ◌≤◌, ◌<◌, refl, [], ◌∷◌, None, Ok, Err, true, false, option_map, length, suc, sym, ap, subst, ◌∙◌, arith, inr, ℕ, Option}
 use Rattle.template_values_errors.specs.declared.ErrorKind.TheVariants.{OutOfMemory, InvalidOperation, BadInclude, EvalBlock}
 use Rattle.template_values_model.specs.Val.{Val}
-use Rattle.template_process.specs.Process.{done, value}
-use Rattle.template_code.specs.Code as codes
-use Rattle.template_code.specs.Listing.{code_in}
-use Rattle.template_code.specs.View.{code_of}
-use Rattle.template_code.specs.Streams.{stream_in}
+use Rattle.template_compiler_process.specs.Process.{done, value}
+use Rattle.template_compiler_code.specs.Code as codes
+use Rattle.template_compiler_code.specs.Listing.{code_in}
+use Rattle.template_compiler_code.specs.View.{code_of}
+use Rattle.template_compiler_code.specs.Streams.{stream_in}
 use Rattle.template_machine_tables.specs.Streams.{home_of}
 use Rattle.template_machine_meaning.specs.World.{World, empty_frame, loop_frame}
 use Rattle.template_machine_meaning.specs.Records.{known_of, loop_of, macro_of}

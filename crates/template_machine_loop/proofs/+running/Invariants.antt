@@ -1,5 +1,5 @@
 use Rattle.std.proofs.Common.{◌≡◌, ◌+◌, ◌-◌, ◌*◌, length, Some}
-use Rattle.template_code.specs.Listing.{code_in}
+use Rattle.template_compiler_code.specs.Listing.{code_in}
 use Rattle.template_machine_meaning.specs.Keeps.{KeepsWorld}
 use Rattle.template_machine_meaning.specs.Keys.{Stream, whole_of}
 use Rattle.template_machine_meaning.specs.Surroundings.{answer}

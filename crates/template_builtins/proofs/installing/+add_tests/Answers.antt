@@ -1,7 +1,7 @@
 use Rattle.std.proofs.Common.{ap}
 use Rattle.std.proofs.lemmas.Result.{on_err_weaker}
-use Rattle.template_environment.specs.Extras.{Extras}
-use Rattle.template_environment.specs.Reading.{IsUnchanged, extras_of}
+use Rattle.template_machine_environment.specs.Extras.{Extras}
+use Rattle.template_machine_environment.specs.Reading.{IsUnchanged, extras_of}
 use Rattle.template_builtins_callables.specs.declared.builtin.Kind.TheVariants as kinds
 use Rattle.template_builtins.proofs.Partial.{keeps_where_refused}
 use Rattle.template_builtins.proofs.installing.+add_tests.Goals as goal

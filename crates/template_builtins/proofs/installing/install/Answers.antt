@@ -1,4 +1,4 @@
-use Rattle.template_environment.specs.Reading.{extras_of}
+use Rattle.template_machine_environment.specs.Reading.{extras_of}
 use Rattle.template_builtins_callables.specs.Builtins.{filter_named, test_named}
 use Rattle.template_builtins.proofs.Added.{installed}
 use Rattle.template_builtins.proofs.Partial.{anyhow, some_filters, some_tests}

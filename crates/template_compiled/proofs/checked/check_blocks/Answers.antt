@@ -1,8 +1,8 @@
 use Rattle.std.proofs.Common.{rules, ◌≡◌, List, [], ◌∷◌, ◌++◌, map, sym, subst}
 use Rattle.std.specs.List.{All}
 use Rattle.std.proofs.lemmas.List.Elements.{All-append, All-cons, All-nil, All-tail}
-use Rattle.template_code.specs.Streams.{stream_in}
-use Rattle.template_code.specs.declared.blocks.CompiledBlock.{CompiledBlock}
+use Rattle.template_compiler_code.specs.Streams.{stream_in}
+use Rattle.template_compiler_code.specs.declared.blocks.CompiledBlock.{CompiledBlock}
 use Rattle.template_compiled.specs.Checked.{IsGoodBlock, IsOfTemplate, checked_stream}
 use Rattle.template_compiled.specs.declared.checked.CheckedBlock.{CheckedBlock}
 use Rattle.template_compiled.proofs.Blocks.{one_more}

@@ -1,6 +1,6 @@
 use Rattle.std.proofs.Common.{◌≡◌, ◌++◌, map}
 use Rattle.std.specs.List.{All}
-use Rattle.template_code.specs.Streams.{stream_in}
+use Rattle.template_compiler_code.specs.Streams.{stream_in}
 use Rattle.template_compiled.specs.Checked.{IsGoodBlock, IsOfTemplate, checked_stream}
 use Rattle.template_compiled.proofs.checked.check_blocks.Given as goal
 

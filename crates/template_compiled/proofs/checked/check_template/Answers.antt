@@ -1,7 +1,7 @@
 use Rattle.std.proofs.Common.{List, sym, subst}
-use Rattle.template_code.specs.Code.{Code}
-use Rattle.template_code_shapes.specs.Streams.{IsGood}
-use Rattle.template_code_shapes.specs.declared.StreamKind.TheVariants.{Template}
+use Rattle.template_compiler_code.specs.Code.{Code}
+use Rattle.template_compiler_code_shapes.specs.Streams.{IsGood}
+use Rattle.template_compiler_code_shapes.specs.declared.StreamKind.TheVariants.{Template}
 use Rattle.template_compiled.specs.Sources.{tree_in}
 use Rattle.template_compiled.proofs.Good.{blocks_good, tree_is_good}
 use Rattle.template_compiled.proofs.checked.check_template.Goals as goal

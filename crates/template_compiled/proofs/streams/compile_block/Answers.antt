@@ -1,8 +1,8 @@
 use Rattle.std.proofs.Common.{false, List, [], ◌++◌, length, sym, ap, subst, ◌∙◌}
-use Rattle.template_code.specs.Code.{Code}
-use Rattle.template_tree_parts.specs.Listed.{statements_in}
-use Rattle.template_tree_statements.specs.declared.statements.Stmt.{Stmt}
-use Rattle.template_walk.specs.Runnable.{AreRunnableStatements}
+use Rattle.template_compiler_code.specs.Code.{Code}
+use Rattle.template_compiler_tree_parts.specs.Listed.{statements_in}
+use Rattle.template_compiler_tree_statements.specs.declared.statements.Stmt.{Stmt}
+use Rattle.template_compiler_walk.specs.Runnable.{AreRunnableStatements}
 use Rattle.template_compiler_codegen.specs.Statements.{no_ways, statements_code}
 use Rattle.template_compiler_generator.specs.Numbers.{numbered_in}
 use Rattle.template_compiled.proofs.Bodies.{stream_with}

@@ -1,10 +1,10 @@
 use Rattle.std.proofs.Common.{◌<◌, ◌≤◌, false, length, map, Bor, sym, ap, subst, ◌∙◌, arith}
 use Rattle.std.proofs.lemmas.List.{take_all}
-use Rattle.template_tree_parts.specs.Listed.{statements_in}
-use Rattle.template_tree_statements.specs.declared.statements.Block.{Block as BlockNode}
-use Rattle.template_walk.specs.Blocks.{blocks_in}
-use Rattle.template_walk.specs.Runnable.{AreRunnableStatements}
-use Rattle.template_names_needed.proofs.Runnable.{blocks_run}
+use Rattle.template_compiler_tree_parts.specs.Listed.{statements_in}
+use Rattle.template_compiler_tree_statements.specs.declared.statements.Block.{Block as BlockNode}
+use Rattle.template_compiler_walk.specs.Blocks.{blocks_in}
+use Rattle.template_compiler_walk.specs.Runnable.{AreRunnableStatements}
+use Rattle.template_compiler_names_needed.proofs.Runnable.{blocks_run}
 use Rattle.template_compiled.specs.Streams.{stream_of}
 use Rattle.template_compiled.proofs.Bodies.{all_streams, nodes_run, one_stream, streams_at}
 use Rattle.template_compiled.proofs.streams.compile_blocks.Goals as goal

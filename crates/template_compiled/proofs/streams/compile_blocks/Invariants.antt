@@ -1,6 +1,6 @@
 -- The streams so far.
 use Rattle.std.proofs.Common.{◌≡◌, take}
-use Rattle.template_code.specs.Streams.{streams_in}
+use Rattle.template_compiler_code.specs.Streams.{streams_in}
 use Rattle.template_compiled.proofs.Bodies.{streams_at}
 use Rattle.template_compiled.proofs.streams.compile_blocks.Given as goal
 

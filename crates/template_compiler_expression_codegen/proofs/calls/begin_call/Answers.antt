@@ -1,9 +1,9 @@
 use Rattle.std.proofs.Common.{ℕ, List, sym, subst}
 use Rattle.std.specs.Prelude.{IfOk}
 use Rattle.std.proofs.lemmas.Result.{on_ok_weaker}
-use Rattle.template_tree.specs.View.{arguments_in}
-use Rattle.template_tree.specs.declared.calls.CallArg.{CallArg}
-use Rattle.template_walk.specs.Runnable.{AreRunnableArguments}
+use Rattle.template_compiler_tree.specs.View.{arguments_in}
+use Rattle.template_compiler_tree.specs.declared.calls.CallArg.{CallArg}
+use Rattle.template_compiler_walk.specs.Runnable.{AreRunnableArguments}
 use Rattle.template_compiler_emission.specs.Puts.{Puts}
 use Rattle.template_compiler_emission.proofs.Putting.{puts_then}
 use Rattle.template_compiler_expression_codegen.specs.Begun.{ArgumentsBegin, arguments_begun}

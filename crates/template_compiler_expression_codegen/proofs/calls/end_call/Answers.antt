@@ -1,5 +1,5 @@
 use Rattle.std.proofs.lemmas.Result.{on_ok_weaker}
-use Rattle.template_tree.specs.View.{arguments_in, expression_of}
+use Rattle.template_compiler_tree.specs.View.{arguments_in, expression_of}
 use Rattle.template_compiler_expression_codegen.proofs.Begun.{puts_ended}
 use Rattle.template_compiler_expression_codegen.proofs.Putting.{puts_as}
 use Rattle.template_compiler_expression_codegen.proofs.calls.end_call.Goals as goal

@@ -1,7 +1,7 @@
 use Rattle.std.proofs.Common.{◌≡◌, ◌∷◌, [], ◌++◌, length, ap, ◌∙◌}
 use Rattle.std.proofs.lemmas.List.{length-set}
-use Rattle.template_code.specs.Code.{jump_if_false_or_pop}
-use Rattle.template_code.specs.Listing.{code_in}
+use Rattle.template_compiler_code.specs.Code.{jump_if_false_or_pop}
+use Rattle.template_compiler_code.specs.Listing.{code_in}
 use Rattle.template_compiler_emission.proofs.Putting.{same_then}
 use Rattle.template_compiler_expression_codegen.proofs.Linked.{one_leapt}
 use Rattle.template_compiler_expression_codegen.proofs.chains.tell_leaps.Goals as goal

@@ -1,6 +1,6 @@
 -- The leaps that are left, led to the end, make what all of them make of the first code.
 use Rattle.std.proofs.Common.{◌≡◌, length, vec_len}
-use Rattle.template_code.specs.Listing.{code_in}
+use Rattle.template_compiler_code.specs.Listing.{code_in}
 use Rattle.template_compiler_emission.specs.Puts.{Keeps}
 use Rattle.template_compiler_expression_codegen.specs.Chains.{leapt}
 use Rattle.template_compiler_expression_codegen.proofs.chains.tell_leaps.Given as goal

@@ -1,10 +1,10 @@
 use Rattle.std.proofs.Common.{◌≡◌, true, false, ◌&&◌, Some, sym, ap, ◌∙◌, rules}
-use Rattle.template_tree.specs.Kinds.{is_self_name, is_empty}
-use Rattle.template_tree.specs.View.{arguments_in, expression_of}
-use Rattle.template_tree.specs.declared.calls.Call.{Call as CallNode}
-use Rattle.template_tree.specs.declared.expressions.GetAttr.{GetAttr as GetAttrNode}
-use Rattle.template_tree.specs.declared.span.Spanned.{Spanned}
-use Rattle.template_tree.specs.declared.expressions.Expr.{the_lemmas}
+use Rattle.template_compiler_tree.specs.Kinds.{is_self_name, is_empty}
+use Rattle.template_compiler_tree.specs.View.{arguments_in, expression_of}
+use Rattle.template_compiler_tree.specs.declared.calls.Call.{Call as CallNode}
+use Rattle.template_compiler_tree.specs.declared.expressions.GetAttr.{GetAttr as GetAttrNode}
+use Rattle.template_compiler_tree.specs.declared.span.Spanned.{Spanned}
+use Rattle.template_compiler_tree.specs.declared.expressions.Expr.{the_lemmas}
 use Rattle.template_compiler_expression_codegen.proofs.CodedChains.{block_left, call_left, called_left, chain_left, method_left}
 use Rattle.template_compiler_expression_codegen.proofs.coded.coded_left.Goals as goal
 

@@ -1,6 +1,6 @@
 use Rattle.std.proofs.Common.{◌≡◌, ◌+◌, ◌≤◌, Option, Bor, ap, arith}
-use Rattle.template_tree.specs.declared.expressions.Expr.{Expr, size-Expr}
-use Rattle.template_tree_parts.proofs.Chains.{passed_within}
+use Rattle.template_compiler_tree.specs.declared.expressions.Expr.{Expr, size-Expr}
+use Rattle.template_compiler_tree_parts.proofs.Chains.{passed_within}
 use Rattle.template_compiler_expression_codegen.proofs.CodedChains.{coded_more, left_deep, left_within}
 use Rattle.template_compiler_expression_codegen.proofs.coded.coded_spine.Goals as goal
 

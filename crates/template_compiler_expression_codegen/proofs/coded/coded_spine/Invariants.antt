@@ -1,6 +1,6 @@
 use Rattle.std.proofs.Common.{◌≡◌, ◌+◌, ◌≤◌, ◌++◌, All, map, reverse}
-use Rattle.template_tree.specs.View.{expression_of}
-use Rattle.template_tree.specs.declared.expressions.Expr.{size-Expr}
+use Rattle.template_compiler_tree.specs.View.{expression_of}
+use Rattle.template_compiler_tree.specs.declared.expressions.Expr.{size-Expr}
 use Rattle.template_compiler_expression_codegen.specs.Coded.{coded_spine}
 use Rattle.template_compiler_expression_codegen.proofs.CodedChains.{coded_along, left_deep}
 use Rattle.template_compiler_expression_codegen.proofs.coded.coded_spine.Given as goal

@@ -1,6 +1,6 @@
 use Rattle.std.proofs.Common.{Bool, ◌&&◌, sym, ap, ◌∙◌}
-use Rattle.template_tree.specs.Kinds.{is_empty}
-use Rattle.template_tree.specs.View.{arguments_in}
+use Rattle.template_compiler_tree.specs.Kinds.{is_empty}
+use Rattle.template_compiler_tree.specs.View.{arguments_in}
 use Rattle.template_compiler_expression_codegen.proofs.coded.is_block.Goals as goal
 
 pub returns-then-not-is_self : goal.returns-then-not-is_self

@@ -1,4 +1,4 @@
-use Rattle.template_tree.proofs.Arms.{other_than_name}
+use Rattle.template_compiler_tree.proofs.Arms.{other_than_name}
 use Rattle.template_compiler_expression_codegen.proofs.coded.is_self.Goals as goal
 
 pub returns-in_default : goal.returns-in_default

@@ -3,26 +3,26 @@ use Rattle.std.proofs.lemmas.Result.{IfOk-at_ok, on_ok_weaker}
 use Rattle.std.specs.Prelude.{IfOk, OnOk, option_and_then}
 use Rattle.template_values_model.specs.Val.{Val}
 use Rattle.std.specs.Cow.{cow_str_bytes}
-use Rattle.template_tree.specs.Tree.{Expression, Links, call, chain, filtered, tested, links_more, list_literal, map_literal, tuple_literal}
-use Rattle.template_tree.specs.Kinds.{is_self_name, is_empty}
-use Rattle.template_tree.specs.View.{arguments_in, expression_of, expressions_in, links_in, optional_in}
-use Rattle.template_tree.specs.declared.calls.Call.{Call as CallNode}
-use Rattle.template_tree.specs.declared.calls.CallArg.{CallArg}
-use Rattle.template_tree.specs.declared.expressions.Compare.{Compare, out-Compare}
-use Rattle.template_tree.specs.declared.expressions.CompareOp.{CompareOp}
-use Rattle.template_tree.specs.declared.expressions.Expr.{size-Expr}
-use Rattle.template_tree.specs.declared.expressions.Filter.{Filter as FilterNode}
-use Rattle.template_tree.specs.declared.expressions.GetAttr.{GetAttr as GetAttrNode}
-use Rattle.template_tree.specs.declared.expressions.List.{List as ListNode}
-use Rattle.template_tree.specs.declared.expressions.Map.{Map as MapNode}
-use Rattle.template_tree.specs.declared.expressions.Test.{Test as TestNode}
-use Rattle.template_tree.specs.declared.expressions.Tuple.{Tuple as TupleNode}
-use Rattle.template_tree.specs.declared.span.Spanned.{Spanned}
+use Rattle.template_compiler_tree.specs.Tree.{Expression, Links, call, chain, filtered, tested, links_more, list_literal, map_literal, tuple_literal}
+use Rattle.template_compiler_tree.specs.Kinds.{is_self_name, is_empty}
+use Rattle.template_compiler_tree.specs.View.{arguments_in, expression_of, expressions_in, links_in, optional_in}
+use Rattle.template_compiler_tree.specs.declared.calls.Call.{Call as CallNode}
+use Rattle.template_compiler_tree.specs.declared.calls.CallArg.{CallArg}
+use Rattle.template_compiler_tree.specs.declared.expressions.Compare.{Compare, out-Compare}
+use Rattle.template_compiler_tree.specs.declared.expressions.CompareOp.{CompareOp}
+use Rattle.template_compiler_tree.specs.declared.expressions.Expr.{size-Expr}
+use Rattle.template_compiler_tree.specs.declared.expressions.Filter.{Filter as FilterNode}
+use Rattle.template_compiler_tree.specs.declared.expressions.GetAttr.{GetAttr as GetAttrNode}
+use Rattle.template_compiler_tree.specs.declared.expressions.List.{List as ListNode}
+use Rattle.template_compiler_tree.specs.declared.expressions.Map.{Map as MapNode}
+use Rattle.template_compiler_tree.specs.declared.expressions.Test.{Test as TestNode}
+use Rattle.template_compiler_tree.specs.declared.expressions.Tuple.{Tuple as TupleNode}
+use Rattle.template_compiler_tree.specs.declared.span.Spanned.{Spanned}
 use Rattle.template_compiler_expression_codegen.proofs.CodedWalks.{coded_walked}
-use Rattle.template_walk.specs.Constants.{chain_constant, constant_of}
-use Rattle.template_walk.specs.Runnable.{IsRunnable, AreRunnableArguments}
-use Rattle.template_code.specs.Code.{build_list, build_tuple, call_method, compare_and_preserve, operate}
-use Rattle.template_code.specs.Listing.{code_in}
+use Rattle.template_compiler_walk.specs.Constants.{chain_constant, constant_of}
+use Rattle.template_compiler_walk.specs.Runnable.{IsRunnable, AreRunnableArguments}
+use Rattle.template_compiler_code.specs.Code.{build_list, build_tuple, call_method, compare_and_preserve, operate}
+use Rattle.template_compiler_code.specs.Listing.{code_in}
 use Rattle.template_compiler_codegen.specs.Expressions.{chain_code, expression_code, filter_code, merged_count, one, unary_code}
 use Rattle.template_compiler_folding.specs.Folding.{binary_folded, comparison_folded, unary_folded}
 use Rattle.template_compiler_emission.specs.declared.leaps.Leap.TheVariants.{Always, IfFalse}

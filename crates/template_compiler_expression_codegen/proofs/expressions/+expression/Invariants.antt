@@ -1,9 +1,9 @@
 -- A node is gone to once it is reached along the left chain; other parts are smaller than the node.
 use Rattle.std.proofs.Common.{◌≡◌, ◌+◌, ◌-◌, ◌*◌, ◌≤◌, ◌++◌, None, length, max, take, drop}
-use Rattle.template_tree.specs.View.{expressions_in, links_in}
-use Rattle.template_tree.specs.declared.calls.CallArg.{size-CallArg}
-use Rattle.template_tree.specs.declared.expressions.Expr.{size-Expr}
-use Rattle.template_code.specs.Listing.{code_in}
+use Rattle.template_compiler_tree.specs.View.{expressions_in, links_in}
+use Rattle.template_compiler_tree.specs.declared.calls.CallArg.{size-CallArg}
+use Rattle.template_compiler_tree.specs.declared.expressions.Expr.{size-Expr}
+use Rattle.template_compiler_code.specs.Listing.{code_in}
 use Rattle.template_compiler_codegen.specs.Expressions.{codes_of, entry_count, expressions_code}
 use Rattle.template_compiler_emission.specs.Puts.{Keeps, Puts}
 use Rattle.template_compiler_expression_codegen.specs.Chains.{Grows, constant_behind, leaps_in, linked_to}

@@ -1,7 +1,7 @@
 use Rattle.std.proofs.Common.{refl, ap, subst}
-use Rattle.template_tree.specs.Tree.{Expression}
-use Rattle.template_tree.specs.declared.expressions.Filter.{Filter as FilterNode}
-use Rattle.template_tree.specs.declared.span.Spanned.{Spanned}
+use Rattle.template_compiler_tree.specs.Tree.{Expression}
+use Rattle.template_compiler_tree.specs.declared.expressions.Filter.{Filter as FilterNode}
+use Rattle.template_compiler_tree.specs.declared.span.Spanned.{Spanned}
 use Rattle.template_compiler_expression_codegen.specs.Filters.{IsLastRunnable}
 use Rattle.template_compiler_expression_codegen.proofs.Filtering.{chain_no_filter, puts_no_filter}
 use Rattle.template_compiler_expression_codegen.proofs.Trees.{filter_is}

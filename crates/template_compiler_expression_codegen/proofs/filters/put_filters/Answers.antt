@@ -1,6 +1,6 @@
 use Rattle.std.proofs.Common.{◌<◌, length, arith}
 use Rattle.std.proofs.lemmas.Result.{IfOk-at_ok}
-use Rattle.template_tree.specs.View.{expression_of}
+use Rattle.template_compiler_tree.specs.View.{expression_of}
 use Rattle.template_compiler_expression_codegen.proofs.Filtering.{filter_runnable, puts_all_filters, puts_filter_more}
 use Rattle.template_compiler_expression_codegen.proofs.filters.put_filters.Goals as goal
 

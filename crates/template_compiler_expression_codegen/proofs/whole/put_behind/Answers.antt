@@ -1,7 +1,7 @@
 use Rattle.std.proofs.Common.{None, refl}
 use Rattle.std.proofs.lemmas.Result.{on_ok_weaker}
 use Rattle.template_compiler_expression_codegen.specs.Calls.{call_of}
-use Rattle.template_tree.specs.View.{expression_of}
+use Rattle.template_compiler_tree.specs.View.{expression_of}
 use Rattle.template_compiler_expression_codegen.proofs.Along.{part_put}
 use Rattle.template_compiler_expression_codegen.proofs.whole.put_behind.Goals as goal
 

@@ -1,11 +1,11 @@
 use Rattle.std.proofs.Common.{◌≡◌, true, false, ◌&&◌, Some, sym, ap, subst, ◌∙◌}
 use Rattle.std.proofs.lemmas.Result.{on_ok_weaker}
-use Rattle.template_tree.specs.Kinds.{is_self_name, is_empty}
-use Rattle.template_tree.specs.View.{arguments_in, expression_of}
-use Rattle.template_tree.specs.declared.expressions.Expr.{Expr}
-use Rattle.template_tree.specs.declared.expressions.GetAttr.{GetAttr as GetAttrNode}
-use Rattle.template_tree.specs.declared.span.Spanned.{Spanned}
-use Rattle.template_walk.specs.Runnable.{IsRunnable}
+use Rattle.template_compiler_tree.specs.Kinds.{is_self_name, is_empty}
+use Rattle.template_compiler_tree.specs.View.{arguments_in, expression_of}
+use Rattle.template_compiler_tree.specs.declared.expressions.Expr.{Expr}
+use Rattle.template_compiler_tree.specs.declared.expressions.GetAttr.{GetAttr as GetAttrNode}
+use Rattle.template_compiler_tree.specs.declared.span.Spanned.{Spanned}
+use Rattle.template_compiler_walk.specs.Runnable.{IsRunnable}
 use Rattle.template_compiler_expression_codegen.proofs.Arguments.{puts_whole_block}
 use Rattle.template_compiler_expression_codegen.proofs.CodedChains.{method_left, value_left}
 use Rattle.template_compiler_expression_codegen.proofs.whole.put_call.Goals as goal

@@ -1,14 +1,14 @@
 use Rattle.std.proofs.Common.{◌<◌, List as Items, None, length, sym, ap, ◌∙◌, arith, rules}
-use Rattle.template_tree.specs.Tree.{chain}
-use Rattle.template_tree.specs.View.{expression_of, links_in}
-use Rattle.template_tree.specs.declared.expressions.Compare.{Compare, out-Compare}
-use Rattle.template_tree.specs.declared.expressions.CompareOp.{CompareOp}
-use Rattle.template_tree.specs.declared.expressions.Expr.{Expr, the_lemmas}
-use Rattle.template_tree.proofs.Rows.{expressions_row}
-use Rattle.template_tree_parts.proofs.Trees.{chain_tree}
-use Rattle.template_tree.specs.declared.span.Spanned.{Spanned}
-use Rattle.template_tree_parts.proofs.Walks.{walked}
-use Rattle.template_walk.specs.Constants.{constant_of}
+use Rattle.template_compiler_tree.specs.Tree.{chain}
+use Rattle.template_compiler_tree.specs.View.{expression_of, links_in}
+use Rattle.template_compiler_tree.specs.declared.expressions.Compare.{Compare, out-Compare}
+use Rattle.template_compiler_tree.specs.declared.expressions.CompareOp.{CompareOp}
+use Rattle.template_compiler_tree.specs.declared.expressions.Expr.{Expr, the_lemmas}
+use Rattle.template_compiler_tree.proofs.Rows.{expressions_row}
+use Rattle.template_compiler_tree_parts.proofs.Trees.{chain_tree}
+use Rattle.template_compiler_tree.specs.declared.span.Spanned.{Spanned}
+use Rattle.template_compiler_tree_parts.proofs.Walks.{walked}
+use Rattle.template_compiler_walk.specs.Constants.{constant_of}
 use Rattle.template_compiler_folding.specs.Nodes.{node_constant}
 use Rattle.template_compiler_folding.proofs.Along.{node_step}
 use Rattle.template_compiler_folding.proofs.Chains.{link_ends, link_goes}

@@ -1,9 +1,9 @@
 -- A node is gone to once it is reached along the left chain; other parts are smaller than the node.
 use Rattle.std.proofs.Common.{◌≡◌, ◌+◌, ◌-◌, ◌*◌, length, take, drop}
 use Rattle.std.specs.Prelude.{option_and_then}
-use Rattle.template_tree.specs.View.{links_in}
-use Rattle.template_tree.specs.declared.expressions.Expr.{size-Expr}
-use Rattle.template_walk.specs.Constants.{chain_constant}
+use Rattle.template_compiler_tree.specs.View.{links_in}
+use Rattle.template_compiler_tree.specs.declared.expressions.Expr.{size-Expr}
+use Rattle.template_compiler_walk.specs.Constants.{chain_constant}
 use Rattle.template_compiler_folding.specs.Nodes.{constant_from}
 use Rattle.template_compiler_folding.proofs.Along.{so_far}
 use Rattle.template_compiler_folding.proofs.constants.+constant.Given as goal

@@ -2,7 +2,7 @@ use Rattle.std.proofs.Common.{◌≡◌, ◌+◌, ◌<◌, ◌++◌, List, lengt
 use Rattle.template_values_model.specs.Val.{Val}
 use Rattle.template_values_core.specs.Shape.{pairs_in}
 use Rattle.template_values_core.specs.declared.value.Entry.{Entry}
-use Rattle.template_walk.specs.Containers.{pairs_with}
+use Rattle.template_compiler_walk.specs.Containers.{pairs_with}
 use Rattle.template_compiler_folding.proofs.Pairs.{one_pair}
 use Rattle.template_compiler_folding.proofs.containers.entries_with.Goals as goal
 

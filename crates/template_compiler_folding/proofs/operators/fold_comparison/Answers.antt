@@ -1,5 +1,5 @@
 use Rattle.template_values_forms.specs.Known.{nothing_known}
-use Rattle.template_walk.specs.Operators.{compared}
+use Rattle.template_compiler_walk.specs.Operators.{compared}
 use Rattle.template_compiler_folding.proofs.Settling.{gives_alone}
 use Rattle.template_compiler_folding.proofs.operators.fold_comparison.Goals as goal
 

@@ -1,9 +1,9 @@
 use Rattle.std.proofs.Common.{ap, sym, ◌∙◌}
-use Rattle.template_tree.specs.Tree.{no_statements, statements_more}
-use Rattle.template_tree_parts.specs.Listed.{statements_in}
-use Rattle.template_tree_parts.proofs.Trees.{whole_tree}
-use Rattle.template_tree_statements.specs.View.{statement_of}
-use Rattle.template_tree_statements.specs.declared.statements.Stmt.{Stmt}
+use Rattle.template_compiler_tree.specs.Tree.{no_statements, statements_more}
+use Rattle.template_compiler_tree_parts.specs.Listed.{statements_in}
+use Rattle.template_compiler_tree_parts.proofs.Trees.{whole_tree}
+use Rattle.template_compiler_tree_statements.specs.View.{statement_of}
+use Rattle.template_compiler_tree_statements.specs.declared.statements.Stmt.{Stmt}
 use Rattle.template_compiler_generator.specs.Alone.{statements_of}
 use Rattle.template_compiler_generator.proofs.CallBlocks.{call_alone}
 use Rattle.template_compiler_generator.proofs.alone.statements.Goals as goal

@@ -1,7 +1,7 @@
 use Rattle.std.proofs.Common.{[], refl}
-use Rattle.template_code_shapes.specs.declared.StreamKind.TheVariants.{Template}
-use Rattle.template_code_shapes.specs.Shapes.{start}
-use Rattle.template_code_shapes.specs.Streams.{begins}
+use Rattle.template_compiler_code_shapes.specs.declared.StreamKind.TheVariants.{Template}
+use Rattle.template_compiler_code_shapes.specs.Shapes.{start}
+use Rattle.template_compiler_code_shapes.specs.Streams.{begins}
 use Rattle.template_compiler_generator.proofs.certificates.templates_go_on.Goals as goal
 
 pub returns : goal.returns

@@ -1,9 +1,9 @@
 use Rattle.std.proofs.Common.{◌≡◌, ◌∙◌, ℕ, List, Some, map, set, sym, ap, rules}
 use Rattle.std.specs.Cow.{cow_str_bytes}
-use Rattle.template_code.specs.Code.{apply_filter, perform_test}
-use Rattle.template_code.specs.Listing.{code_in}
-use Rattle.template_code.specs.View.{code_of}
-use Rattle.template_code.specs.declared.instruction.Instruction.{Instruction}
+use Rattle.template_compiler_code.specs.Code.{apply_filter, perform_test}
+use Rattle.template_compiler_code.specs.Listing.{code_in}
+use Rattle.template_compiler_code.specs.View.{code_of}
+use Rattle.template_compiler_code.specs.declared.instruction.Instruction.{Instruction}
 use Rattle.template_compiler_generator.specs.Numbers.{name_at, names_at, number_among, with_name}
 use Rattle.template_compiler_generator.proofs.Passing.{filter_step, test_step, no_step, plain_step, is_plain}
 use Rattle.template_compiler_generator.proofs.numbers.number_at.Goals as goal

@@ -1,6 +1,6 @@
 use Rattle.std.proofs.Common.{◌≡◌, ◌<◌, ◌∙◌, length, sym, ap, refl, arith}
 use Rattle.std.proofs.lemmas.List.{length-map}
-use Rattle.template_code.specs.Listing.{code_in}
+use Rattle.template_compiler_code.specs.Listing.{code_in}
 use Rattle.template_compiler_generator.specs.Numbers.{bare, names_at, numbered_in, numbered_behind}
 use Rattle.template_compiler_generator.proofs.Passing.{step_passes, step_bare}
 use Rattle.template_compiler_generator.proofs.numbers.number_names.Goals as goal

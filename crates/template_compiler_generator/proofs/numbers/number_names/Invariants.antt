@@ -1,6 +1,6 @@
 -- With the names so far, the code behind the place is numbered as all of it is.
 use Rattle.std.proofs.Common.{◌≡◌, ◌≤◌, length, map}
-use Rattle.template_code.specs.Listing.{code_in, places_in, IsSameTemplate}
+use Rattle.template_compiler_code.specs.Listing.{code_in, places_in, IsSameTemplate}
 use Rattle.template_compiler_generator.specs.Numbers.{bare, names_at, numbered_in}
 use Rattle.template_compiler_generator.proofs.Passing.{passed}
 use Rattle.template_compiler_generator.proofs.numbers.number_names.Given as goal

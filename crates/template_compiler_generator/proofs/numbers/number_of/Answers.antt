@@ -1,6 +1,6 @@
 use Rattle.std.proofs.Common.{◌≡◌, ◌∙◌, ◌<◌, ◌≤◌, ◌++◌, ◌∷◌, [], ℕ, List, length, sym, ap, map, Some, None, bytes_eq, position, arith}
 use Rattle.std.proofs.lemmas.List.{length-map, map-append}
-use Rattle.template_code.specs.Listing.{code_in}
+use Rattle.template_compiler_code.specs.Listing.{code_in}
 use Rattle.template_compiler_generator.specs.Numbers.{name_at, number_among, place_among}
 use Rattle.template_compiler_generator.proofs.Naming.{place_at, named_again, named_late, named_first}
 use Rattle.template_compiler_generator.proofs.numbers.number_of.Goals as goal

@@ -1,7 +1,7 @@
 use Rattle.std.proofs.Common.{List, sym, subst}
-use Rattle.template_code.specs.Code.{Code}
-use Rattle.template_code_shapes.specs.declared.StreamKind.TheVariants.{Template}
-use Rattle.template_code_shapes.specs.Streams.{IsGood}
+use Rattle.template_compiler_code.specs.Code.{Code}
+use Rattle.template_compiler_code_shapes.specs.declared.StreamKind.TheVariants.{Template}
+use Rattle.template_compiler_code_shapes.specs.Streams.{IsGood}
 use Rattle.template_compiler_codegen.specs.Statements.{no_ways, statements_code}
 use Rattle.template_compiler_generator.specs.Numbers.{numbered_in}
 use Rattle.template_compiler_generator.proofs.Accepted.{generated_whole}

@@ -1,11 +1,11 @@
 use Rattle.std.proofs.Common.{List, ◌≡◌, ap, sym, subst, ◌∙◌, rules}
-use Rattle.template_code.specs.Code.{Code}
-use Rattle.template_code.specs.Listing.{name_in, source_in}
-use Rattle.template_code_shapes.specs.Streams.{IsGood}
-use Rattle.template_code_shapes.specs.declared.StreamKind.TheVariants.{Expression as ExpressionStream}
+use Rattle.template_compiler_code.specs.Code.{Code}
+use Rattle.template_compiler_code.specs.Listing.{name_in, source_in}
+use Rattle.template_compiler_code_shapes.specs.Streams.{IsGood}
+use Rattle.template_compiler_code_shapes.specs.declared.StreamKind.TheVariants.{Expression as ExpressionStream}
 use Rattle.template_compiler_generator.specs.Drafts.{Draft}
 use Rattle.template_compiler_generator.specs.View.{draft_of}
-use Rattle.template_tree.specs.View.{expression_of}
+use Rattle.template_compiler_tree.specs.View.{expression_of}
 use Rattle.template_compiler_generator.proofs.Accepted.{no_room, told_stream}
 use Rattle.template_compiler_generator.proofs.verified.verified_expression.Goals as goal
 

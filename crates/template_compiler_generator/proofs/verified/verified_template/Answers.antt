@@ -1,12 +1,12 @@
 use Rattle.std.proofs.Common.{List, ◌≡◌, ap, sym, subst, ◌∙◌, rules}
-use Rattle.template_code.specs.Code.{Code}
-use Rattle.template_code.specs.Listing.{code_in, name_in, source_in}
-use Rattle.template_code_shapes.specs.Streams.{IsGood}
-use Rattle.template_code_shapes.specs.declared.StreamKind.TheVariants.{Template}
+use Rattle.template_compiler_code.specs.Code.{Code}
+use Rattle.template_compiler_code.specs.Listing.{code_in, name_in, source_in}
+use Rattle.template_compiler_code_shapes.specs.Streams.{IsGood}
+use Rattle.template_compiler_code_shapes.specs.declared.StreamKind.TheVariants.{Template}
 use Rattle.template_compiler_generator.specs.Drafts.{Draft}
 use Rattle.template_compiler_generator.specs.View.{draft_of}
 use Rattle.template_compiler_generator.specs.Alone.{statements_of}
-use Rattle.template_tree_statements.specs.View.{statement_of}
+use Rattle.template_compiler_tree_statements.specs.View.{statement_of}
 use Rattle.template_compiler_generator.proofs.Accepted.{no_room, told_stream, told_template}
 use Rattle.template_compiler_generator.proofs.verified.verified_template.Goals as goal
 

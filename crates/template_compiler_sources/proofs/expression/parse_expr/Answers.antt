@@ -1,4 +1,4 @@
-use Rattle.template_tree.specs.View.{expression_of}
+use Rattle.template_compiler_tree.specs.View.{expression_of}
 use Rattle.template_compiler_grammar.specs.Views.{node_of}
 use Rattle.template_compiler_sources.proofs.Sources.{found_alone, found_expression, refused_alone}
 use Rattle.template_compiler_sources.proofs.expression.parse_expr.Goals as goal

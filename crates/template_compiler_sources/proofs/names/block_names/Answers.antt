@@ -1,6 +1,6 @@
 use Rattle.std.proofs.Common.{◌<◌, ◌≤◌, length, [], ◌++◌, append_assoc, append-nil, arith, ap, ◌∙◌}
-use Rattle.template_tree_parts.specs.Within.{joined}
-use Rattle.template_tree_parts.proofs.Picked.{all_done, one_more}
+use Rattle.template_compiler_tree_parts.specs.Within.{joined}
+use Rattle.template_compiler_tree_parts.proofs.Picked.{all_done, one_more}
 use Rattle.template_compiler_sources.specs.Own.{own_name}
 use Rattle.template_compiler_sources.specs.Waiting.{texts_in}
 use Rattle.template_compiler_sources.proofs.Blocks.{names_of}

@@ -1,10 +1,10 @@
 use Rattle.std.proofs.Common.{[], ◌∷◌, ◌++◌, append-nil, sym, ap, ◌∙◌}
-use Rattle.template_tree.specs.declared.span.Spanned.{Spanned}
-use Rattle.template_tree_statements.specs.View.{statement_of}
-use Rattle.template_tree_statements.specs.declared.statements.Block.{Block as BlockNode}
-use Rattle.template_tree_statements.specs.declared.statements.Stmt.{Stmt}
-use Rattle.template_tree_parts.proofs.Others.{no_block}
-use Rattle.template_tree_parts.proofs.BodyTrees.{block_tree}
+use Rattle.template_compiler_tree.specs.declared.span.Spanned.{Spanned}
+use Rattle.template_compiler_tree_statements.specs.View.{statement_of}
+use Rattle.template_compiler_tree_statements.specs.declared.statements.Block.{Block as BlockNode}
+use Rattle.template_compiler_tree_statements.specs.declared.statements.Stmt.{Stmt}
+use Rattle.template_compiler_tree_parts.proofs.Others.{no_block}
+use Rattle.template_compiler_tree_parts.proofs.BodyTrees.{block_tree}
 use Rattle.template_compiler_sources.specs.Own.{own_name}
 use Rattle.template_compiler_sources.specs.Waiting.{texts_in}
 use Rattle.template_compiler_sources.proofs.Blocks.{none_picked}

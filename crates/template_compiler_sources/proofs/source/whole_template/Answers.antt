@@ -1,8 +1,8 @@
 use Rattle.std.proofs.Common.{rules, []}
-use Rattle.template_tree.specs.NodePlaces.{at}
+use Rattle.template_compiler_tree.specs.NodePlaces.{at}
 use Rattle.template_compiler_grammar.specs.Nodes.{placed}
 use Rattle.template_compiler_grammar.specs.TreeStatements.{places_of_statements}
-use Rattle.template_tree_statements.specs.declared.statements.Stmt.{the_lemmas}
+use Rattle.template_compiler_tree_statements.specs.declared.statements.Stmt.{the_lemmas}
 use Rattle.template_compiler_statement_makers.specs.Listed.{statements_in}
 use Rattle.template_compiler_statement_makers.proofs.Rows.{nodes_row}
 use Rattle.template_compiler_tokens.specs.Places.{stretch}

@@ -1,7 +1,7 @@
 use Rattle.std.proofs.Common.{◌≡◌, ◌∷◌, [], ◌++◌, length, ap, ◌∙◌}
 use Rattle.std.proofs.lemmas.List.{length-set}
-use Rattle.template_code.specs.Code.{jump}
-use Rattle.template_code.specs.Listing.{code_in}
+use Rattle.template_compiler_code.specs.Code.{jump}
+use Rattle.template_compiler_code.specs.Listing.{code_in}
 use Rattle.template_compiler_emission.proofs.Putting.{same_then}
 use Rattle.template_compiler_statement_codegen.proofs.Leading.{one_told}
 use Rattle.template_compiler_statement_codegen.proofs.breaks.tell_breaks.Goals as goal

@@ -1,6 +1,6 @@
 -- The jumps that are left, led to the end, make what all of them make of the first code.
 use Rattle.std.proofs.Common.{◌≡◌, length, vec_len}
-use Rattle.template_code.specs.Listing.{code_in}
+use Rattle.template_compiler_code.specs.Listing.{code_in}
 use Rattle.template_compiler_emission.specs.Puts.{Keeps}
 use Rattle.template_compiler_statement_codegen.specs.Breaks.{led}
 use Rattle.template_compiler_statement_codegen.proofs.breaks.tell_breaks.Given as goal

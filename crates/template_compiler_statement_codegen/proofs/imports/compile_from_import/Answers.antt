@@ -1,7 +1,7 @@
 use Rattle.std.proofs.Common.{List, sym, subst}
 use Rattle.std.proofs.lemmas.Result.{on_ok_weaker}
-use Rattle.template_tree_statements.specs.View.{imports_in}
-use Rattle.template_walk.specs.Runnable.{AreImports}
+use Rattle.template_compiler_tree_statements.specs.View.{imports_in}
+use Rattle.template_compiler_walk.specs.Runnable.{AreImports}
 use Rattle.template_compiler_emission.specs.Puts.{Puts}
 use Rattle.template_compiler_emission.proofs.Putting.{puts_then}
 use Rattle.template_compiler_statement_codegen.specs.Imports.{stores_code}

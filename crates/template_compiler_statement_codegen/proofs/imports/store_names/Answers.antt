@@ -1,6 +1,6 @@
 use Rattle.std.proofs.Common.{◌≡◌, ◌+◌, ◌-◌, ◌<◌, length, drop, sym, subst, arith}
-use Rattle.template_tree_statements.specs.View.{imports_in}
-use Rattle.template_walk.specs.Runnable.{IsTarget}
+use Rattle.template_compiler_tree_statements.specs.View.{imports_in}
+use Rattle.template_compiler_walk.specs.Runnable.{IsTarget}
 use Rattle.template_compiler_emission.specs.Puts.{Puts}
 use Rattle.template_compiler_statement_codegen.specs.Imports.{stores_code}
 use Rattle.template_compiler_statement_codegen.proofs.Importing.{name_at, stores_none, stores_one}

@@ -1,6 +1,6 @@
 -- Those from a place on are stored.
 use Rattle.std.proofs.Common.{◌≤◌, length, drop}
-use Rattle.template_tree_statements.specs.View.{imports_in}
+use Rattle.template_compiler_tree_statements.specs.View.{imports_in}
 use Rattle.template_compiler_emission.specs.Puts.{Puts}
 use Rattle.template_compiler_statement_codegen.specs.Imports.{stores_code}
 use Rattle.template_compiler_statement_codegen.proofs.imports.store_names.Given as goal

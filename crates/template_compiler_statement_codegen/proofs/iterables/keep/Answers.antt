@@ -1,7 +1,7 @@
 use Rattle.std.proofs.Common.{ap}
 use Rattle.std.proofs.lemmas.Result.{on_ok_weaker}
 use Rattle.template_values_model.specs.Val.{Val}
-use Rattle.template_code.specs.Code.{load_const}
+use Rattle.template_compiler_code.specs.Code.{load_const}
 use Rattle.template_compiler_emission.proofs.Putting.{puts_then}
 use Rattle.template_compiler_expression_codegen.proofs.Putting.{puts_as}
 use Rattle.template_compiler_statement_codegen.proofs.iterables.keep.Goals as goal

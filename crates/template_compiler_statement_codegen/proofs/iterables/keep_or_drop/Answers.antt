@@ -1,4 +1,4 @@
-use Rattle.template_code.specs.Listing.{code_in}
+use Rattle.template_compiler_code.specs.Listing.{code_in}
 use Rattle.template_compiler_emission.specs.declared.leaps.Leap.TheVariants.{Always, IfFalse}
 use Rattle.template_compiler_emission.proofs.Putting.{puts_either}
 use Rattle.template_compiler_expression_codegen.proofs.Putting.{landed_at}

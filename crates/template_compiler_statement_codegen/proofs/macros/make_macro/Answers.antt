@@ -1,9 +1,9 @@
 use Rattle.std.proofs.Common.{ℕ, Bool, List, ap, subst, ◌∙◌}
 use Rattle.std.proofs.lemmas.Result.{on_ok_weaker}
 use Rattle.template_values_model.specs.Val.{Val}
-use Rattle.template_tree.specs.View.{expressions_in}
-use Rattle.template_tree.specs.declared.expressions.Expr.{Expr}
-use Rattle.template_code.specs.Code.{load_const, build_macro}
+use Rattle.template_compiler_tree.specs.View.{expressions_in}
+use Rattle.template_compiler_tree.specs.declared.expressions.Expr.{Expr}
+use Rattle.template_compiler_code.specs.Code.{load_const, build_macro}
 use Rattle.template_compiler_codegen.specs.Statements.{macro_flags}
 use Rattle.template_compiler_emission.specs.Puts.{Puts}
 use Rattle.template_compiler_emission.proofs.Putting.{puts_then}

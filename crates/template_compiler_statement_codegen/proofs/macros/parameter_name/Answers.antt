@@ -1,7 +1,7 @@
 use Rattle.std.proofs.Common.{sym, ap}
-use Rattle.template_tree.specs.View.{expression_of}
-use Rattle.template_tree.specs.declared.expressions.Expr.{Expr}
-use Rattle.template_walk.specs.Statements.{name_text}
+use Rattle.template_compiler_tree.specs.View.{expression_of}
+use Rattle.template_compiler_tree.specs.declared.expressions.Expr.{Expr}
+use Rattle.template_compiler_walk.specs.Statements.{name_text}
 use Rattle.template_compiler_statement_codegen.proofs.Declaring.{nameless}
 use Rattle.template_compiler_statement_codegen.proofs.macros.parameter_name.Goals as goal
 

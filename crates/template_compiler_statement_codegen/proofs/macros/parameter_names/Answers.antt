@@ -1,9 +1,9 @@
 use Rattle.std.proofs.Common.{◌≡◌, ◌<◌, List, [], ◌∷◌, ◌++◌, length, take, ap, sym, ◌∙◌, refl, arith}
 use Rattle.std.proofs.lemmas.List.{take_more, take_all}
 use Rattle.template_values_model.specs.Val.{Val, list, vals_of}
-use Rattle.template_tree.specs.View.{expression_of, expressions_in}
-use Rattle.template_tree.specs.declared.expressions.Expr.{Expr}
-use Rattle.template_walk.specs.Statements.{name_text, name_texts}
+use Rattle.template_compiler_tree.specs.View.{expression_of, expressions_in}
+use Rattle.template_compiler_tree.specs.declared.expressions.Expr.{Expr}
+use Rattle.template_compiler_walk.specs.Statements.{name_text, name_texts}
 use Rattle.template_compiler_statement_codegen.proofs.macros.parameter_names.Goals as goal
 
 texts_push : (es : List Expr) (e : Expr) → name_texts (expressions_in (es ++ e ∷ [])) ≡ name_texts (expressions_in es) ++ name_text (expression_of e) ∷ []

@@ -1,7 +1,7 @@
 use Rattle.std.proofs.Common.{◌≡◌, ◌+◌, ◌-◌, ◌<◌, ℕ, List, length, take, ap, subst, sym, ◌∙◌, arith}
 use Rattle.std.proofs.lemmas.List.{take_all}
-use Rattle.template_tree.specs.View.{expression_of}
-use Rattle.template_tree.specs.declared.expressions.Expr.{Expr}
+use Rattle.template_compiler_tree.specs.View.{expression_of}
+use Rattle.template_compiler_tree.specs.declared.expressions.Expr.{Expr}
 use Rattle.template_compiler_statement_codegen.specs.Macros.{backwards}
 use Rattle.template_compiler_statement_codegen.proofs.Declaring.{Stores, backwards_more, fewer_defaults, stores_all, stores_end, stores_next, target_at}
 use Rattle.template_compiler_statement_codegen.proofs.macros.store_parameters.Goals as goal

@@ -1,8 +1,8 @@
 use Rattle.std.proofs.Common.{sym, ap, ◌∙◌}
-use Rattle.template_tree.specs.CallView.{called}
-use Rattle.template_tree.specs.Kinds.{Called}
-use Rattle.template_tree.specs.View.{arguments_in, expression_of}
-use Rattle.template_tree.specs.declared.calls.CallType.{CallType}
+use Rattle.template_compiler_tree.specs.CallView.{called}
+use Rattle.template_compiler_tree.specs.Kinds.{Called}
+use Rattle.template_compiler_tree.specs.View.{arguments_in, expression_of}
+use Rattle.template_compiler_tree.specs.declared.calls.CallType.{CallType}
 use Rattle.template_compiler_statement_codegen.proofs.Writing.{call_printed, printed_called}
 use Rattle.template_compiler_statement_codegen.proofs.prints.call_printing.Goals as goal
 

@@ -1,7 +1,7 @@
 use Rattle.std.proofs.Common.{sym, ap, ◌∙◌}
 use Rattle.std.proofs.lemmas.Result.{on_ok_weaker}
-use Rattle.template_tree.specs.View.{expression_of}
-use Rattle.template_walk.specs.Statements.{prints_value, prints_block, prints_super, prints_rounds}
+use Rattle.template_compiler_tree.specs.View.{expression_of}
+use Rattle.template_compiler_walk.specs.Statements.{prints_value, prints_block, prints_super, prints_rounds}
 use Rattle.template_compiler_statement_codegen.specs.Printing.{printed_as}
 use Rattle.template_compiler_statement_codegen.specs.declared.prints.Printing.{Printing}
 use Rattle.template_compiler_statement_codegen.proofs.Writing.{puts_printed, rounds_run}

@@ -1,10 +1,10 @@
 use Rattle.std.proofs.Common.{refl, sym, ap, ◌∙◌}
-use Rattle.template_tree.specs.Tree.{Expression}
-use Rattle.template_tree.specs.View.{expression_of}
-use Rattle.template_tree.specs.declared.calls.Call.{Call as CallNode}
-use Rattle.template_tree.specs.declared.expressions.Expr.{Expr}
-use Rattle.template_tree.specs.declared.span.Spanned.{Spanned}
-use Rattle.template_walk.specs.Statements.{printed_of}
+use Rattle.template_compiler_tree.specs.Tree.{Expression}
+use Rattle.template_compiler_tree.specs.View.{expression_of}
+use Rattle.template_compiler_tree.specs.declared.calls.Call.{Call as CallNode}
+use Rattle.template_compiler_tree.specs.declared.expressions.Expr.{Expr}
+use Rattle.template_compiler_tree.specs.declared.span.Spanned.{Spanned}
+use Rattle.template_compiler_walk.specs.Statements.{printed_of}
 use Rattle.template_compiler_expression_codegen.specs.Calls.{call_of}
 use Rattle.template_compiler_expression_codegen.proofs.Trees.{call_is}
 use Rattle.template_compiler_statement_codegen.proofs.Writing.{chain_printed}

@@ -1,5 +1,5 @@
 use Rattle.std.proofs.Common.{◌≡◌, ◌+◌, ◌-◌, [], ◌∷◌, ◌++◌, take, ap, ◌∙◌, arith}
-use Rattle.template_code.specs.Listing.{code_in}
+use Rattle.template_compiler_code.specs.Listing.{code_in}
 use Rattle.template_compiler_emission.proofs.Putting.{same_then}
 use Rattle.template_compiler_statement_codegen.specs.Rounds.{closed_by}
 use Rattle.template_compiler_statement_codegen.specs.declared.rounds.Closing.TheVariants.{Frame}

@@ -1,6 +1,6 @@
 -- What is still open is closed behind what stands.
 use Rattle.std.proofs.Common.{◌≡◌, ◌++◌, ◌≤◌, length, take}
-use Rattle.template_code.specs.Listing.{code_in}
+use Rattle.template_compiler_code.specs.Listing.{code_in}
 use Rattle.template_compiler_emission.specs.Puts.{Keeps}
 use Rattle.template_compiler_statement_codegen.specs.Rounds.{closed_by}
 use Rattle.template_compiler_statement_codegen.proofs.rounds.close_all.Given as goal

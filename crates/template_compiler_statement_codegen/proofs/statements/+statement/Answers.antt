@@ -1,31 +1,31 @@
 use Rattle.std.proofs.Common.{◌≡◌, ℕ, ◌+◌, ◌*◌, ◌<◌, List, [], ◌∷◌, ◌++◌, length, get_or, vec_len, true, false, ap, sym, subst, ◌∙◌, arith, refl, rules}
 use Rattle.std.proofs.lemmas.Result.{on_ok_weaker}
-use Rattle.template_tree_statements.specs.View.{assignments_in, statement_of}
-use Rattle.template_tree.specs.Tree.{Statement, auto_escape, filter_block, with_block}
-use Rattle.template_tree_statements.specs.declared.statements.AutoEscape.{AutoEscape as AutoEscapeNode}
-use Rattle.template_tree_statements.specs.declared.statements.CallBlock.{CallBlock as CallBlockNode, out-CallBlock}
-use Rattle.template_tree_statements.specs.declared.statements.FilterBlock.{FilterBlock as FilterBlockNode}
-use Rattle.template_tree_statements.specs.declared.statements.ForLoop.{ForLoop as ForLoopNode}
-use Rattle.template_tree_statements.specs.declared.statements.IfCond.{IfCond as IfCondNode}
-use Rattle.template_tree_statements.specs.declared.statements.Macro.{Macro as MacroNode}
-use Rattle.template_tree_statements.specs.declared.statements.SetBlock.{SetBlock as SetBlockNode}
-use Rattle.template_tree_statements.specs.declared.statements.Stmt.{Stmt}
-use Rattle.template_tree_statements.specs.declared.statements.WithBlock.{WithBlock as WithBlockNode}
-use Rattle.template_tree.specs.View.{arguments_in, expression_of, expressions_in, optional_in}
-use Rattle.template_tree.specs.CallView.{called}
-use Rattle.template_tree.specs.declared.calls.CallType.{CallType}
-use Rattle.template_tree.specs.declared.expressions.Expr.{Expr}
-use Rattle.template_walk.specs.Runnable.{AreRunnable, AreRunnableStatements, AreTargets, IsRunnableStatement}
-use Rattle.template_code.specs.Code.{push_loop}
-use Rattle.template_code.specs.Listing.{code_in}
+use Rattle.template_compiler_tree_statements.specs.View.{assignments_in, statement_of}
+use Rattle.template_compiler_tree.specs.Tree.{Statement, auto_escape, filter_block, with_block}
+use Rattle.template_compiler_tree_statements.specs.declared.statements.AutoEscape.{AutoEscape as AutoEscapeNode}
+use Rattle.template_compiler_tree_statements.specs.declared.statements.CallBlock.{CallBlock as CallBlockNode, out-CallBlock}
+use Rattle.template_compiler_tree_statements.specs.declared.statements.FilterBlock.{FilterBlock as FilterBlockNode}
+use Rattle.template_compiler_tree_statements.specs.declared.statements.ForLoop.{ForLoop as ForLoopNode}
+use Rattle.template_compiler_tree_statements.specs.declared.statements.IfCond.{IfCond as IfCondNode}
+use Rattle.template_compiler_tree_statements.specs.declared.statements.Macro.{Macro as MacroNode}
+use Rattle.template_compiler_tree_statements.specs.declared.statements.SetBlock.{SetBlock as SetBlockNode}
+use Rattle.template_compiler_tree_statements.specs.declared.statements.Stmt.{Stmt}
+use Rattle.template_compiler_tree_statements.specs.declared.statements.WithBlock.{WithBlock as WithBlockNode}
+use Rattle.template_compiler_tree.specs.View.{arguments_in, expression_of, expressions_in, optional_in}
+use Rattle.template_compiler_tree.specs.CallView.{called}
+use Rattle.template_compiler_tree.specs.declared.calls.CallType.{CallType}
+use Rattle.template_compiler_tree.specs.declared.expressions.Expr.{Expr}
+use Rattle.template_compiler_walk.specs.Runnable.{AreRunnable, AreRunnableStatements, AreTargets, IsRunnableStatement}
+use Rattle.template_compiler_code.specs.Code.{push_loop}
+use Rattle.template_compiler_code.specs.Listing.{code_in}
 use Rattle.template_compiler_codegen.specs.Statements.{no_ways, statements_code, target_code}
 use Rattle.template_compiler_emission.specs.declared.leaps.Leap.TheVariants.{Always, IfFalse}
 use Rattle.template_compiler_emission.specs.Puts.{Puts}
 use Rattle.template_compiler_emission.proofs.Putting.{puts_then}
 use Rattle.template_compiler_expression_codegen.proofs.Begun.{puts_block_called, puts_with_caller}
 use Rattle.template_compiler_expression_codegen.proofs.Putting.{landed_at, puts_as}
-use Rattle.template_tree.specs.declared.span.Spanned.{Spanned}
-use Rattle.template_tree_parts.specs.Listed.{statements_in}
+use Rattle.template_compiler_tree.specs.declared.span.Spanned.{Spanned}
+use Rattle.template_compiler_tree_parts.specs.Listed.{statements_in}
 use Rattle.template_compiler_statement_codegen.specs.Breaks.{breaks_in}
 use Rattle.template_compiler_statement_codegen.specs.Macros.{backwards, macro_of, parameters_code}
 use Rattle.template_compiler_statement_codegen.specs.Listed.{body_deep, condition_deep, condition_of}

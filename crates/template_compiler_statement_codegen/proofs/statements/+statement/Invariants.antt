@@ -1,7 +1,7 @@
 -- What is left of a body; a chain of `elif` goes on to smaller conditions. Bodies are smaller than their statement.
 use Rattle.std.proofs.Common.{◌+◌, ◌*◌, ◌≤◌, max, true}
-use Rattle.template_tree_statements.specs.declared.statements.Stmt.{size-Stmt}
-use Rattle.template_walk.specs.Runnable.{IsRunnableStatement}
+use Rattle.template_compiler_tree_statements.specs.declared.statements.Stmt.{size-Stmt}
+use Rattle.template_compiler_walk.specs.Runnable.{IsRunnableStatement}
 use Rattle.template_compiler_statement_codegen.specs.Listed.{body_deep, condition_deep, condition_of}
 use Rattle.template_compiler_statement_codegen.proofs.Bodies.{RemainsFrom}
 use Rattle.template_compiler_statement_codegen.proofs.Elifs.{RemainsAt}

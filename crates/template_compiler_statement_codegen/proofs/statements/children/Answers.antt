@@ -1,8 +1,8 @@
 use Rattle.std.proofs.Common.{ap, subst, sym, ◌∙◌}
-use Rattle.template_tree_statements.specs.View.{statement_of}
-use Rattle.template_tree_statements.specs.declared.statements.Stmt.{Stmt}
-use Rattle.template_tree_parts.specs.Listed.{statements_in}
-use Rattle.template_tree_parts.proofs.Trees.{whole_tree}
+use Rattle.template_compiler_tree_statements.specs.View.{statement_of}
+use Rattle.template_compiler_tree_statements.specs.declared.statements.Stmt.{Stmt}
+use Rattle.template_compiler_tree_parts.specs.Listed.{statements_in}
+use Rattle.template_compiler_tree_parts.proofs.Trees.{whole_tree}
 use Rattle.template_compiler_statement_codegen.specs.Listed.{IsRunnableTree, body_in}
 use Rattle.template_compiler_statement_codegen.proofs.Nodes.{call_no_tree}
 use Rattle.template_compiler_statement_codegen.proofs.statements.children.Goals as goal

@@ -1,5 +1,5 @@
 use Rattle.std.proofs.Common.{false}
-use Rattle.template_tree_parts.specs.Listed.{statements_in}
+use Rattle.template_compiler_tree_parts.specs.Listed.{statements_in}
 use Rattle.template_compiler_statement_codegen.proofs.Wholes.{looser_statements, puts_whole_body}
 use Rattle.template_compiler_statement_codegen.proofs.statements.compile_statements.Goals as goal
 

@@ -1,8 +1,8 @@
 use Rattle.std.proofs.Common.{subst}
 use Rattle.std.proofs.lemmas.Result.{on_ok_weaker}
-use Rattle.template_tree.specs.Tree.{Statements}
-use Rattle.template_tree_statements.specs.View.{statement_of}
-use Rattle.template_tree_parts.specs.Listed.{statements_in}
+use Rattle.template_compiler_tree.specs.Tree.{Statements}
+use Rattle.template_compiler_tree_statements.specs.View.{statement_of}
+use Rattle.template_compiler_tree_parts.specs.Listed.{statements_in}
 use Rattle.template_compiler_codegen.specs.Statements.{no_ways, statements_code}
 use Rattle.template_compiler_emission.specs.Puts.{Puts}
 use Rattle.template_compiler_statement_codegen.proofs.Wholes.{tree_runs}

@@ -1,12 +1,12 @@
 use Rattle.std.proofs.Common.{◌<◌, length, ap, sym, subst, ◌∙◌, arith}
-use Rattle.template_tree.specs.Tree.{Expression, list_literal}
-use Rattle.template_tree.specs.View.{expression_of, expressions_in}
-use Rattle.template_tree.specs.declared.expressions.Expr.{Expr}
-use Rattle.template_tree.specs.declared.span.Spanned.{Spanned}
-use Rattle.template_tree.specs.declared.expressions.List.{List as ListNode}
-use Rattle.template_walk.specs.Runnable.{IsTarget}
-use Rattle.template_walk.specs.Statements.{number_of}
-use Rattle.template_code.specs.Code.{unpack_list}
+use Rattle.template_compiler_tree.specs.Tree.{Expression, list_literal}
+use Rattle.template_compiler_tree.specs.View.{expression_of, expressions_in}
+use Rattle.template_compiler_tree.specs.declared.expressions.Expr.{Expr}
+use Rattle.template_compiler_tree.specs.declared.span.Spanned.{Spanned}
+use Rattle.template_compiler_tree.specs.declared.expressions.List.{List as ListNode}
+use Rattle.template_compiler_walk.specs.Runnable.{IsTarget}
+use Rattle.template_compiler_walk.specs.Statements.{number_of}
+use Rattle.template_compiler_code.specs.Code.{unpack_list}
 use Rattle.template_compiler_codegen.specs.Expressions.{one}
 use Rattle.template_compiler_emission.proofs.Putting.{puts_nothing, puts_then}
 use Rattle.template_compiler_expression_codegen.proofs.Items.{number_is}

@@ -1,9 +1,9 @@
 -- The targets so far, behind the instruction that unpacks. Targets in a list are smaller than the list.
 use Rattle.std.proofs.Common.{◌+◌, ◌*◌, take}
-use Rattle.template_tree.specs.View.{expressions_in}
-use Rattle.template_tree.specs.declared.expressions.Expr.{size-Expr}
-use Rattle.template_walk.specs.Statements.{number_of}
-use Rattle.template_code.specs.Code.{unpack_list}
+use Rattle.template_compiler_tree.specs.View.{expressions_in}
+use Rattle.template_compiler_tree.specs.declared.expressions.Expr.{size-Expr}
+use Rattle.template_compiler_walk.specs.Statements.{number_of}
+use Rattle.template_compiler_code.specs.Code.{unpack_list}
 use Rattle.template_compiler_codegen.specs.Expressions.{one, then_code}
 use Rattle.template_compiler_codegen.specs.Statements.{targets_code}
 use Rattle.template_compiler_emission.specs.Puts.{Puts}

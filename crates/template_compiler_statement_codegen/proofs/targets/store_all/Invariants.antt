@@ -1,6 +1,6 @@
 -- The assignments so far.
 use Rattle.std.proofs.Common.{take}
-use Rattle.template_tree_statements.specs.View.{assignments_in}
+use Rattle.template_compiler_tree_statements.specs.View.{assignments_in}
 use Rattle.template_compiler_codegen.specs.Statements.{assignments_code}
 use Rattle.template_compiler_emission.specs.Puts.{Puts}
 use Rattle.template_compiler_statement_codegen.proofs.targets.store_all.Given as goal

@@ -1,5 +1,5 @@
 use Rattle.std.proofs.Common.{rules}
-use Rattle.template_tree_statements.specs.declared.statements.Stmt.{the_lemmas}
+use Rattle.template_compiler_tree_statements.specs.declared.statements.Stmt.{the_lemmas}
 use Rattle.template_compiler_statement_makers.proofs.Rows.{nodes_row}
 use Rattle.template_compiler_statement_makers.proofs.makers.block.Goals as goal
 

@@ -1,7 +1,7 @@
 use Rattle.std.proofs.Common.{rules, ◌≡◌, ◌-◌, [], codes, refl, sym, ap, ◌∙◌, subst, arith}
 use Rattle.template_compiler_tokens.specs.Steps.{all}
 use Rattle.template_compiler_tokens.proofs.Loops.{then_goes}
-use Rattle.template_tree_statements.specs.declared.statements.Stmt.TheVariants.{Block, IfCond}
+use Rattle.template_compiler_tree_statements.specs.declared.statements.Stmt.TheVariants.{Block, IfCond}
 use Rattle.template_compiler_grammar.specs.TemplateGrammar.{macro_around}
 use Rattle.template_compiler_grammar.specs.TemplateNodes.{auto_escape_node, call_block_node, filter_block_node, macro_node, with_node}
 use Rattle.template_compiler_grammar.specs.TemplateReader.{autoescape_by, block_by, branch_by, branch_step, call_by, else_by, filter_block_by, for_by, here, here_by, if_by, macro_by, opened_by, set_by, statement_step, statements_at, statements_by, with_by}

@@ -1,7 +1,7 @@
 use Rattle.std.proofs.Common.{Ok, Err, inl, refl, sym, ap, ◌∙◌}
 use Rattle.std.specs.Prelude.{string_bytes}
 use Rattle.template_callables.specs.Answers.{asked_by}
-use Rattle.template_process.specs.Process.{tells, value}
+use Rattle.template_compiler_process.specs.Process.{tells, value}
 use Rattle.template_machine_meaning.specs.Calls.{called_plan}
 use Rattle.template_machine_meaning.specs.Functions.{filter_named, found_called, test_named, value_called}
 use Rattle.template_machine_meaning.specs.Keys.{Around}

@@ -1,5 +1,5 @@
 use Rattle.std.proofs.Common.{Ok, inl, refl, sym, ap, subst, ◌∙◌}
-use Rattle.template_process.specs.Process.{value}
+use Rattle.template_compiler_process.specs.Process.{value}
 use Rattle.template_machine_meaning.specs.Calls.{called_plan, said}
 use Rattle.template_machine_meaning.specs.Functions.{function_numbered, invokes}
 use Rattle.template_machine_meaning.specs.Keys.{Around}

@@ -1,6 +1,6 @@
 use Rattle.std.proofs.Common.{◌+◌, ◌-◌, Ok, inl, sym, ap, subst, ◌∙◌, arith}
 use Rattle.template_callables.specs.Answers.{asked_by}
-use Rattle.template_process.specs.Process.{fails}
+use Rattle.template_compiler_process.specs.Process.{fails}
 use Rattle.template_machine_meaning.specs.Calls.{beyond}
 use Rattle.template_machine_meaning.specs.Keys.{Around}
 use Rattle.template_machine_meaning.specs.Plans.{Plan, replies}

@@ -1,6 +1,6 @@
 use Rattle.std.proofs.Common.{◌≡◌, Err, suc, refl, sym, ap, subst, ◌∙◌}
-use Rattle.template_process.specs.Process.{fails}
-use Rattle.template_code.specs.Code as codes
+use Rattle.template_compiler_process.specs.Process.{fails}
+use Rattle.template_compiler_code.specs.Code as codes
 use Rattle.template_machine_meaning.specs.Replies.{told}
 use Rattle.template_machine_meaning.specs.Surroundings.{Programs, text_reply, written_reply}
 use Rattle.template_machine_meaning.proofs.RunsKept.{world_stays}

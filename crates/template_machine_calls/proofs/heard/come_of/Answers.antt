@@ -1,7 +1,7 @@
 use Rattle.std.proofs.Common.{inl, sym, ap, subst, ◌∙◌}
 use Rattle.template_callables.specs.Answers.{Answers, asked_by}
 use Rattle.template_callables.specs.declared.answer.Answer.{Answer}
-use Rattle.template_process.specs.Process.{value}
+use Rattle.template_compiler_process.specs.Process.{value}
 use Rattle.template_machine_meaning.specs.Plans.{replies}
 use Rattle.template_machine_meaning.specs.Replies.{changed}
 use Rattle.template_machine_calls.specs.Left.{left_by}

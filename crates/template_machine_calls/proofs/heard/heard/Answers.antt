@@ -1,7 +1,7 @@
 use Rattle.std.proofs.Common.{Option, sym, ap, subst, ◌∙◌}
 use Rattle.template_callables.specs.Callbacks.{AnswersUnder}
 use Rattle.template_callables.specs.declared.answer.Answer.{Answer}
-use Rattle.template_process.specs.Process.{fails}
+use Rattle.template_compiler_process.specs.Process.{fails}
 use Rattle.template_machine_meaning.specs.Plans.{replies}
 use Rattle.template_machine_meaning.specs.Replies.{told}
 use Rattle.template_machine_calls.proofs.Saying.{said_none, said_some}

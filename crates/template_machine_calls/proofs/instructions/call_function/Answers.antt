@@ -1,7 +1,7 @@
 use Rattle.std.proofs.Common.{Err, refl, ap}
-use Rattle.template_process.specs.Process as events
-use Rattle.template_code.specs.Code as codes
-use Rattle.template_code.specs.Steps.{on_taken, giving}
+use Rattle.template_compiler_process.specs.Process as events
+use Rattle.template_compiler_code.specs.Code as codes
+use Rattle.template_compiler_code.specs.Steps.{on_taken, giving}
 use Rattle.template_machine_meaning.specs.Calls.{call_plan}
 use Rattle.template_machine_meaning.specs.Functions.{name_called}
 use Rattle.template_machine_meaning.specs.World.{looked_up}

@@ -1,8 +1,8 @@
 use Rattle.std.proofs.Common.{ap, sym, ◌∙◌}
-use Rattle.template_code.specs.Code as codes
-use Rattle.template_code.specs.View.{code_of}
+use Rattle.template_compiler_code.specs.Code as codes
+use Rattle.template_compiler_code.specs.View.{code_of}
 use Rattle.template_machine_calls.specs.Hosted.{hosted}
-use Rattle.template_walk.specs.Statements.{is_super_name}
+use Rattle.template_compiler_walk.specs.Statements.{is_super_name}
 use Rattle.template_machine_loop.specs.Programs.{task_of}
 use Rattle.template_machine_loop.proofs.Calling.{none_calls, calls_at, called_name}
 use Rattle.template_machine_loop.proofs.calls.called.Goals as goal

@@ -1,6 +1,6 @@
 use Rattle.std.proofs.Common.{◌≡◌, ℕ, ◌-◌, Some, sym, ap, ap₂, ◌∙◌, arith}
-use Rattle.template_code.specs.Counting as counting
-use Rattle.template_code.specs.Listing.{code_in}
+use Rattle.template_compiler_code.specs.Counting as counting
+use Rattle.template_compiler_code.specs.Listing.{code_in}
 use Rattle.template_machine_loop.proofs.Places.{at_place, macro-by, there}
 use Rattle.template_machine_loop.proofs.counting.macro_at.Goals as goal
 

@@ -1,6 +1,6 @@
 use Rattle.std.proofs.Common.{◌≤◌, ◌<◌, ◌+◌, suc, length, IfSome, Some, option_map, sym, ap, subst, ◌∙◌, arith}
-use Rattle.template_code.specs.Listing.{code_in}
-use Rattle.template_code.specs.declared.numbered.Part.TheVariants as parts
+use Rattle.template_compiler_code.specs.Listing.{code_in}
+use Rattle.template_compiler_code.specs.declared.numbered.Part.TheVariants as parts
 use Rattle.template_machine_loop.proofs.Places.{placed, rounds-by}
 use Rattle.template_machine_loop.proofs.counting.rounds_at.Goals as goal
 

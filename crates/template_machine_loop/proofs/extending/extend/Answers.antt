@@ -1,7 +1,7 @@
 use Rattle.std.proofs.Common.{[], ◌∷◌, refl, sym, ◌∙◌}
 use Rattle.std.specs.Cow.{cow_str_bytes}
 use Rattle.template_values_errors.specs.declared.ErrorKind.TheVariants.{InvalidOperation, TemplateNotFound}
-use Rattle.template_process.specs.Process.{done}
+use Rattle.template_compiler_process.specs.Process.{done}
 use Rattle.template_machine_meaning.specs.Blocks.{load_plan}
 use Rattle.template_machine_meaning.proofs.RunsKept.{world_stays}
 use Rattle.template_machine_loop.specs.Found.{IsRefused}

@@ -1,5 +1,5 @@
 use Rattle.std.proofs.Common.{sym}
-use Rattle.template_code.specs.Streams.{stream_in}
+use Rattle.template_compiler_code.specs.Streams.{stream_in}
 use Rattle.template_machine_tables.specs.Streams.{home_of}
 use Rattle.template_machine_loop.specs.Programs.{programs_under, roots_of}
 use Rattle.template_machine_loop.proofs.Finding.{no_block_runs, nothing_behind, behind_absent, behind_found, block_stands}

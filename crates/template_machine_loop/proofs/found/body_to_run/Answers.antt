@@ -1,6 +1,6 @@
 use Rattle.std.proofs.Common.{[], ◌∷◌, sym, ◌∙◌}
 use Rattle.template_values_errors.specs.declared.ErrorKind.TheVariants.{InvalidOperation, UnknownBlock}
-use Rattle.template_code.specs.Streams.{stream_in}
+use Rattle.template_compiler_code.specs.Streams.{stream_in}
 use Rattle.template_machine_tables.specs.Streams.{home_of}
 use Rattle.template_machine_loop.specs.Programs.{programs_under, roots_of}
 use Rattle.template_machine_loop.proofs.Finding.{block_unknown, block_absent, block_required, block_found, block_stands, counted, refuses_body_as}

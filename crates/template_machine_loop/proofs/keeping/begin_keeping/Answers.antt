@@ -1,6 +1,6 @@
 use Rattle.std.proofs.Common.{refl}
-use Rattle.template_code.specs.Code as codes
-use Rattle.template_code.specs.View.{is_kept}
+use Rattle.template_compiler_code.specs.Code as codes
+use Rattle.template_compiler_code.specs.View.{is_kept}
 use Rattle.template_machine_loop.proofs.Onward.{performed_onward, spares_onward}
 use Rattle.template_machine_loop.proofs.keeping.begin_keeping.Goals as goal
 

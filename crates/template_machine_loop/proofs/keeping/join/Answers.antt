@@ -1,7 +1,7 @@
 use Rattle.std.proofs.Common.{None, Err, refl, sym, subst}
-use Rattle.template_code.specs.Code as codes
-use Rattle.template_code.specs.Listing.{code_in}
-use Rattle.template_tree.specs.declared.operators.BinOpKind.TheVariants.{Concat}
+use Rattle.template_compiler_code.specs.Code as codes
+use Rattle.template_compiler_code.specs.Listing.{code_in}
+use Rattle.template_compiler_tree.specs.declared.operators.BinOpKind.TheVariants.{Concat}
 use Rattle.template_machine_meaning.specs.Surroundings.{answer}
 use Rattle.template_machine_meaning.specs.World.{World}
 use Rattle.template_machine_going.specs.Goings.{Goes}

@@ -1,7 +1,7 @@
 use Rattle.std.proofs.Common.{length, inr, refl, sym, ap, ◌∙◌, arith}
 use Rattle.std.proofs.lemmas.Bool.{eq-eqb, ne_eqb}
-use Rattle.template_code.specs.Counting.{macro_at}
-use Rattle.template_code.specs.Listing.{code_in}
+use Rattle.template_compiler_code.specs.Counting.{macro_at}
+use Rattle.template_compiler_code.specs.Listing.{code_in}
 use Rattle.template_machine_loop.specs.Counting.{place_of}
 use Rattle.template_machine_loop.specs.Programs.{code_at, roots_of}
 use Rattle.template_machine_loop.proofs.Beginnings.{finds, misfit, no_code, no_macro, no_place, no_room, unbound, unbound_spares}

@@ -1,5 +1,5 @@
 use Rattle.std.proofs.Common.{map, reverse, sym, arith}
-use Rattle.template_code.specs.Code.{single}
+use Rattle.template_compiler_code.specs.Code.{single}
 use Rattle.template_machine_operands.specs.Operands.{operands_in}
 use Rattle.template_machine_loop.proofs.Beginnings.{handed_all, handed_none, handed_on}
 use Rattle.template_machine_loop.proofs.macros.operands_of.Goals as goal

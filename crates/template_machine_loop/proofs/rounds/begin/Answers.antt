@@ -1,5 +1,5 @@
 use Rattle.std.proofs.Common.{refl, sym, ◌∙◌}
-use Rattle.template_code.specs.Listing.{code_in}
+use Rattle.template_compiler_code.specs.Listing.{code_in}
 use Rattle.template_machine_loops.specs.Rounds.{rounds_in}
 use Rattle.template_machine_loop.specs.Programs.{roots_of}
 use Rattle.template_machine_loop.proofs.Beginnings.{rounds_begin, rounds_codeless, rounds_placeless, rounds_roomless, ungone, IsRefusedEach}

@@ -1,6 +1,6 @@
 use Rattle.std.proofs.Common.{if◌then◌else◌, sym, ap, ◌∙◌}
-use Rattle.template_walk.specs.Statements.{is_super_name}
-use Rattle.template_code.specs.View.{code_of}
+use Rattle.template_compiler_walk.specs.Statements.{is_super_name}
+use Rattle.template_compiler_code.specs.View.{code_of}
 use Rattle.template_machine_loop.specs.declared.tasks.Task.TheVariants.{Calls, Enters}
 use Rattle.template_machine_loop.specs.Programs.{task_of}
 use Rattle.template_machine_loop.proofs.tasks.task_of.Goals as goal

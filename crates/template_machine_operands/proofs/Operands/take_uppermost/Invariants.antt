@@ -1,5 +1,5 @@
 use Rattle.std.proofs.Common.{◌≡◌, length}
-use Rattle.template_code.specs.Steps.{values_in}
+use Rattle.template_compiler_code.specs.Steps.{values_in}
 use Rattle.template_machine_operands.specs.Operands.{operands_in}
 use Rattle.template_machine_operands.proofs.Operands.take_uppermost.Given as goal
 

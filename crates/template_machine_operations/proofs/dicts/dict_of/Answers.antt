@@ -1,7 +1,7 @@
 use Rattle.std.proofs.Common.{◌≡◌, List, Option, ap, subst, sym, ◌∙◌}
 use Rattle.template_values_model.specs.Val.{Val}
 use Rattle.template_values_core.specs.Shape.{pairs_in}
-use Rattle.template_walk.specs.Containers.{map_made}
+use Rattle.template_compiler_walk.specs.Containers.{map_made}
 use Rattle.template_machine_meaning.specs.Functions.{base_in, dict_of}
 use Rattle.template_machine_meaning.specs.Replies.{kinded}
 use Rattle.template_machine_operations.specs.Answers.{Answers}

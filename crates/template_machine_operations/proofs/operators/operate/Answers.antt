@@ -1,5 +1,5 @@
 use Rattle.std.proofs.Common.{sym, subst, ◌∙◌}
-use Rattle.template_walk.specs.Operators.{operated}
+use Rattle.template_compiler_walk.specs.Operators.{operated}
 use Rattle.template_machine_meaning.specs.Replies.{guarded, kinded}
 use Rattle.template_machine_operations.specs.Answers.{Answers}
 use Rattle.template_machine_operations.proofs.Answering.{gives_answers}

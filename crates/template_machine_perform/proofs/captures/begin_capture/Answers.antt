@@ -1,5 +1,5 @@
 use Rattle.std.proofs.Common.{true, false, ap}
-use Rattle.template_code.specs.View.{is_kept}
+use Rattle.template_compiler_code.specs.View.{is_kept}
 use Rattle.template_machine_perform.proofs.Lifting.{unchanged_keeps}
 use Rattle.template_machine_perform.proofs.Catching.{begun_out}
 use Rattle.template_machine_perform.proofs.captures.begin_capture.Goals as goal

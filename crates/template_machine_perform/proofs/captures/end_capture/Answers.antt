@@ -1,4 +1,4 @@
-use Rattle.template_code.specs.Code as codes
+use Rattle.template_compiler_code.specs.Code as codes
 use Rattle.template_machine_meaning.proofs.RunsKept.{world_stays}
 use Rattle.template_machine_operands.specs.Operands.{operands_in}
 use Rattle.template_machine_steps.specs.Performs.{spot}

@@ -1,5 +1,5 @@
 use Rattle.std.proofs.Common.{suc, sym, subst}
-use Rattle.template_code.specs.Code as codes
+use Rattle.template_compiler_code.specs.Code as codes
 use Rattle.template_machine_meaning.specs.Surroundings.{answer}
 use Rattle.template_machine_meaning.proofs.RunsKept.{world_stays}
 use Rattle.template_machine_going.specs.Acts.{Acts}

@@ -1,6 +1,6 @@
 use Rattle.std.proofs.Common.{inr, ◌∷◌, refl, sym, ap, ◌∙◌}
 use Rattle.template_values_core.specs.Answers.{text_in}
-use Rattle.template_code.specs.Code as codes
+use Rattle.template_compiler_code.specs.Code as codes
 use Rattle.template_machine_meaning.specs.Surroundings.{escape_named}
 use Rattle.template_machine_meaning.proofs.RunsKept.{world_stays}
 use Rattle.template_machine_operands.specs.Operands.{operands_in}

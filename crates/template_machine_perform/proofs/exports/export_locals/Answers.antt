@@ -1,6 +1,6 @@
 use Rattle.std.proofs.Common.{◌≡◌, Ok, subst}
 use Rattle.template_values_core.specs.Shape.{pairs_in}
-use Rattle.template_code.specs.Code as codes
+use Rattle.template_compiler_code.specs.Code as codes
 use Rattle.template_machine_meaning.specs.Replies.{kinded}
 use Rattle.template_machine_meaning.proofs.RunsKept.{world_stays}
 use Rattle.template_machine_operands.specs.Operands.{operands_in}

@@ -1,4 +1,4 @@
-use Rattle.template_code.specs.Code as codes
+use Rattle.template_compiler_code.specs.Code as codes
 use Rattle.template_machine_meaning.specs.World.{empty_frame}
 use Rattle.template_machine_meaning.specs.Surroundings.{pushed}
 use Rattle.template_machine_acts.proofs.Framing.{open_frame_acts}

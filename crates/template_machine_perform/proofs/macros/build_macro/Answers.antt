@@ -1,6 +1,6 @@
 use Rattle.std.proofs.Common.{◌∷◌, ap, ◌∙◌}
-use Rattle.template_code.specs.Code as codes
-use Rattle.template_code.specs.Code.{single}
+use Rattle.template_compiler_code.specs.Code as codes
+use Rattle.template_compiler_code.specs.Code.{single}
 use Rattle.template_machine_meaning.proofs.RunsKept.{world_stays}
 use Rattle.template_machine_operands.specs.Operands.{operands_in}
 use Rattle.template_machine_steps.proofs.Stepping.{lost_out, want_out}

@@ -1,6 +1,6 @@
 use Rattle.std.proofs.Common.{sym, ap, ◌∙◌}
-use Rattle.template_code.specs.Code as codes
-use Rattle.template_code.specs.View.{code_of}
+use Rattle.template_compiler_code.specs.Code as codes
+use Rattle.template_compiler_code.specs.View.{code_of}
 use Rattle.template_machine_steps.specs.Performs.{ruled}
 use Rattle.template_machine_perform.proofs.Lifting.{straight_leads, leads_at}
 use Rattle.template_machine_perform.proofs.Left.{operands_left}

@@ -1,5 +1,5 @@
 use Rattle.std.proofs.Common.{[]}
-use Rattle.template_code.specs.Code as codes
+use Rattle.template_compiler_code.specs.Code as codes
 use Rattle.template_machine_perform.proofs.Texts.{raw_out}
 use Rattle.template_machine_perform.proofs.Lifting.{no_programs, spared_tells, steps_write}
 use Rattle.template_machine_perform.proofs.Straying.{none_there}

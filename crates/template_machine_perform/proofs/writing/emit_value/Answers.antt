@@ -1,6 +1,6 @@
 use Rattle.std.proofs.Common.{◌∷◌, refl, subst}
 use Rattle.template_values_forms.specs.Escaped.{escaped}
-use Rattle.template_code.specs.Code.{single}
+use Rattle.template_compiler_code.specs.Code.{single}
 use Rattle.template_machine_meaning.specs.Records.{known_of}
 use Rattle.template_machine_meaning.specs.Replies.{guarded, kinded}
 use Rattle.template_machine_meaning.specs.Undefined.{forbids_printing}

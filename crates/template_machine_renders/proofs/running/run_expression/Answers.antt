@@ -1,4 +1,4 @@
-use Rattle.template_code.specs.Listing.{code_in}
+use Rattle.template_compiler_code.specs.Listing.{code_in}
 use Rattle.template_machine_loop.specs.Programs.{programs_under, roots_of}
 use Rattle.template_machine_renders.proofs.Uppermost.{evaluates_none, evaluates_stopped, evaluates_uppermost}
 use Rattle.template_machine_renders.proofs.running.run_expression.Goals as goal

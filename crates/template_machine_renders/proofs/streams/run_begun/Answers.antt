@@ -1,9 +1,9 @@
 use Rattle.std.proofs.Common.{List, None, Some, refl, sym, ap, subst, ◌∙◌}
-use Rattle.template_code.specs.Code.{Code}
-use Rattle.template_code.specs.Listing.{code_in}
-use Rattle.template_code.specs.Steps.{values_in}
-use Rattle.template_code_shapes.specs.Checked.{kind_in, stream_in}
-use Rattle.template_code_shapes.specs.Streams.{IsGood}
+use Rattle.template_compiler_code.specs.Code.{Code}
+use Rattle.template_compiler_code.specs.Listing.{code_in}
+use Rattle.template_compiler_code.specs.Steps.{values_in}
+use Rattle.template_compiler_code_shapes.specs.Checked.{kind_in, stream_in}
+use Rattle.template_compiler_code_shapes.specs.Streams.{IsGood}
 use Rattle.template_machine_operands.specs.Operands.{operands_in}
 use Rattle.template_machine_operands.specs.declared.Operands.{Operands}
 use Rattle.template_machine_loop.specs.Programs.{programs_under, roots_of}

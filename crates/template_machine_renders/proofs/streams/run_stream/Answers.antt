@@ -1,7 +1,7 @@
 use Rattle.std.proofs.Common.{List, Some, sym, ap, subst, ◌∙◌}
-use Rattle.template_code.specs.Code.{Code}
-use Rattle.template_code.specs.Listing.{code_in}
-use Rattle.template_code_shapes.specs.Checked.{stream_in}
+use Rattle.template_compiler_code.specs.Code.{Code}
+use Rattle.template_compiler_code.specs.Listing.{code_in}
+use Rattle.template_compiler_code_shapes.specs.Checked.{stream_in}
 use Rattle.template_machine_meaning.specs.Plans.{Caller, put_back}
 use Rattle.template_machine_meaning.specs.Keeps.{KeepsWorld}
 use Rattle.template_machine_meaning.specs.World.{World}

@@ -1,10 +1,10 @@
 use Rattle.std.proofs.Common.{◌*◌, [], ◌∷◌, refl, ap, ◌∙◌}
 use Rattle.template_values_core.specs.Shape.{pairs_in}
-use Rattle.template_walk.specs.Containers.{map_made}
-use Rattle.template_process.specs.Process as events
-use Rattle.template_code.specs.Code as codes
-use Rattle.template_code.specs.Code.{single}
-use Rattle.template_code.specs.Steps.{taken, on_taken, giving, paired}
+use Rattle.template_compiler_walk.specs.Containers.{map_made}
+use Rattle.template_compiler_process.specs.Process as events
+use Rattle.template_compiler_code.specs.Code as codes
+use Rattle.template_compiler_code.specs.Code.{single}
+use Rattle.template_compiler_code.specs.Steps.{taken, on_taken, giving, paired}
 use Rattle.template_machine_meaning.specs.Replies.{kinded}
 use Rattle.template_machine_meaning.proofs.RunsKept.{world_stays}
 use Rattle.template_machine_acts.specs.Comings.{behind_it}

@@ -1,9 +1,9 @@
 use Rattle.std.proofs.Common.{◌∷◌, refl, ap, ◌∙◌}
-use Rattle.template_walk.specs.Containers.{tuple_made}
-use Rattle.template_process.specs.Process as events
-use Rattle.template_code.specs.Code as codes
-use Rattle.template_code.specs.Code.{single}
-use Rattle.template_code.specs.Steps.{handed, on_taken, giving}
+use Rattle.template_compiler_walk.specs.Containers.{tuple_made}
+use Rattle.template_compiler_process.specs.Process as events
+use Rattle.template_compiler_code.specs.Code as codes
+use Rattle.template_compiler_code.specs.Code.{single}
+use Rattle.template_compiler_code.specs.Steps.{handed, on_taken, giving}
 use Rattle.template_machine_meaning.specs.Replies.{kinded}
 use Rattle.template_machine_meaning.proofs.RunsKept.{world_stays}
 use Rattle.template_machine_acts.specs.Comings.{behind_it}

@@ -1,8 +1,8 @@
 use Rattle.std.proofs.Common.{[], ◌∷◌, refl, ap, ◌∙◌}
-use Rattle.template_process.specs.Process as events
-use Rattle.template_code.specs.Code as codes
-use Rattle.template_code.specs.Code.{single}
-use Rattle.template_code.specs.Steps.{taken, on_taken, giving}
+use Rattle.template_compiler_process.specs.Process as events
+use Rattle.template_compiler_code.specs.Code as codes
+use Rattle.template_compiler_code.specs.Code.{single}
+use Rattle.template_compiler_code.specs.Steps.{taken, on_taken, giving}
 use Rattle.template_machine_meaning.specs.Spreads.{merged_keywords}
 use Rattle.template_machine_meaning.proofs.RunsKept.{world_stays}
 use Rattle.template_machine_acts.specs.Comings.{behind_it}

@@ -1,5 +1,5 @@
 use Rattle.std.proofs.Common.{◌≡◌, ◌-◌, ◌++◌, map, drop}
-use Rattle.template_code.specs.Code.{single}
+use Rattle.template_compiler_code.specs.Code.{single}
 use Rattle.template_machine_operands.specs.Operands.{operands_in}
 use Rattle.template_machine_steps.proofs.containers.push_items.Given as goal
 

@@ -1,6 +1,6 @@
 use Rattle.std.proofs.Common.{map, ◌++◌, refl, ◌∙◌}
-use Rattle.template_code.specs.Code as codes
-use Rattle.template_code.specs.Code.{single}
+use Rattle.template_compiler_code.specs.Code as codes
+use Rattle.template_compiler_code.specs.Code.{single}
 use Rattle.template_machine_meaning.specs.Surroundings.{unpacked, unpacked_into}
 use Rattle.template_machine_meaning.proofs.RunsKept.{world_stays}
 use Rattle.template_machine_acts.specs.Comings.{behind_it}

@@ -1,8 +1,8 @@
 use Rattle.std.proofs.Common.{suc, [], ◌∷◌, refl, ap, ◌∙◌}
-use Rattle.template_process.specs.Process.{spread, asks, on_all}
-use Rattle.template_code.specs.Code as codes
-use Rattle.template_code.specs.Code.{counted}
-use Rattle.template_code.specs.Steps.{taken, on_taken}
+use Rattle.template_compiler_process.specs.Process.{spread, asks, on_all}
+use Rattle.template_compiler_code.specs.Code as codes
+use Rattle.template_compiler_code.specs.Code.{counted}
+use Rattle.template_compiler_code.specs.Steps.{taken, on_taken}
 use Rattle.template_machine_meaning.specs.Spreads.{items_of_each}
 use Rattle.template_machine_meaning.proofs.RunsKept.{world_stays}
 use Rattle.template_machine_acts.specs.Comings.{behind_it}

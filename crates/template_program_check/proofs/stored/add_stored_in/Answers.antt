@@ -1,6 +1,6 @@
 use Rattle.std.proofs.Common.{◌||◌, ◌∙◌, ap, arith}
 use Rattle.std.specs.BTreeSet.{contains_text}
-use Rattle.template_code.specs.Listing.{code_in}
+use Rattle.template_compiler_code.specs.Listing.{code_in}
 use Rattle.template_program_check.specs.Names.{is_stored_at, is_stored_in_one}
 use Rattle.template_program_check.proofs.Walking.{stored_next, stored_none}
 use Rattle.template_program_check.proofs.stored.add_stored_in.Goals as goal

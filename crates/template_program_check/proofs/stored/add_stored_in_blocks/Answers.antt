@@ -1,6 +1,6 @@
 use Rattle.std.proofs.Common.{◌||◌}
 use Rattle.std.specs.BTreeSet.{contains_text}
-use Rattle.template_code.specs.Streams.{streams_in}
+use Rattle.template_compiler_code.specs.Streams.{streams_in}
 use Rattle.template_program_check.specs.Names.{is_stored_in_blocks}
 use Rattle.template_program_check.proofs.Walking.{stored_blocks_next, stored_blocks_none}
 use Rattle.template_program_check.proofs.stored.add_stored_in_blocks.Goals as goal

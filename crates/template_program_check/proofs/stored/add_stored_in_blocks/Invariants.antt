@@ -1,7 +1,7 @@
 -- With those that are left the names are all.
 use Rattle.std.proofs.Common.{◌≡◌, ℕ, ◌||◌, List, drop}
 use Rattle.std.specs.BTreeSet.{contains_text}
-use Rattle.template_code.specs.Streams.{streams_in}
+use Rattle.template_compiler_code.specs.Streams.{streams_in}
 use Rattle.template_program_check.specs.Names.{is_stored_in_blocks}
 use Rattle.template_program_check.proofs.stored.add_stored_in_blocks.Given as goal
 

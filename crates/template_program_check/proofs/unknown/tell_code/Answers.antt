@@ -1,6 +1,6 @@
 use Rattle.std.proofs.Common.{arith, string_bytes}
 use Rattle.std.specs.BTreeSet.{contains_text}
-use Rattle.template_code.specs.Listing.{code_in}
+use Rattle.template_compiler_code.specs.Listing.{code_in}
 use Rattle.template_program_check.proofs.Walking.{code_next, code_none}
 use Rattle.template_program_check.proofs.unknown.tell_code.Goals as goal
 

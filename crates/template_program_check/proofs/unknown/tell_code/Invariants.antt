@@ -1,7 +1,7 @@
 -- What is left ends as all does.
 use Rattle.std.proofs.Common.{ℕ, List, drop, string_bytes}
 use Rattle.std.specs.BTreeSet.{contains_text}
-use Rattle.template_code.specs.Listing.{code_in}
+use Rattle.template_compiler_code.specs.Listing.{code_in}
 use Rattle.template_program_check.specs.Unknown.{TellsCode}
 use Rattle.template_program_check.proofs.unknown.tell_code.Given as goal
 

@@ -1,6 +1,6 @@
 use Rattle.std.proofs.Common.{Err, Ok, inr}
-use Rattle.template_environment.specs.Extras.{user_answers}
-use Rattle.template_environment.specs.Reading.{brought_of, registry_of}
+use Rattle.template_machine_environment.specs.Extras.{user_answers}
+use Rattle.template_machine_environment.specs.Reading.{brought_of, registry_of}
 use Rattle.template_program_expression.proofs.Told.{beginning_written, line_written, nothing_written, told_of}
 use Rattle.template_program_expression.proofs.evaluating.evaluate.Goals as goal
 

@@ -1,7 +1,7 @@
 use Rattle.std.proofs.lemmas.Result.{err_from_is_err_and}
-use Rattle.template_process.specs.Fuel.{under}
-use Rattle.template_environment.specs.Evaluations.{evaluation_of, fuel_under}
-use Rattle.template_environment.specs.Extras.{user_answers}
+use Rattle.template_compiler_process.specs.Fuel.{under}
+use Rattle.template_machine_environment.specs.Evaluations.{evaluation_of, fuel_under}
+use Rattle.template_machine_environment.specs.Extras.{user_answers}
 use Rattle.template_program_expression.proofs.Told.{counts, fault_told, value_told}
 use Rattle.template_program_expression.proofs.evaluating.told.Goals as goal
 

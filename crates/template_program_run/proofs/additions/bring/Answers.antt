@@ -1,5 +1,5 @@
 use Rattle.std.proofs.Common.{◌∙◌, ap}
-use Rattle.template_environment_settings.specs.Reading.{brought_of}
+use Rattle.template_machine_environment_settings.specs.Reading.{brought_of}
 use Rattle.template_program_run.specs.Brought.{program_answers}
 use Rattle.template_program_run.proofs.Bringing.{builtins_added, nothing_added}
 use Rattle.template_program_run.proofs.additions.bring.Goals as goal

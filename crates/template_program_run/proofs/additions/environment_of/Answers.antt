@@ -3,10 +3,10 @@ use Rattle.std.proofs.lemmas.Result.{err_from_is_err_and}
 use Rattle.template_compiler_syntax.specs.Syntax.{Syntax}
 use Rattle.template_machine_surroundings.specs.declared.escape.EscapeRule.{EscapeRule}
 use Rattle.template_machine_surroundings.specs.declared.escape.EscapeRule.TheVariants.{ByName}
-use Rattle.template_environment_settings.specs.Sources.{IsAccepted, IsRefusedWith, Source}
-use Rattle.template_environment_settings.specs.Extras.{Extras, brought_by}
-use Rattle.template_environment_settings.specs.Reading.{registry_of, rule_for}
-use Rattle.template_environment_settings.specs.Standing.{Settings, source_at}
+use Rattle.template_machine_environment_settings.specs.Sources.{IsAccepted, IsRefusedWith, Source}
+use Rattle.template_machine_environment_settings.specs.Extras.{Extras, brought_by}
+use Rattle.template_machine_environment_settings.specs.Reading.{registry_of, rule_for}
+use Rattle.template_machine_environment_settings.specs.Standing.{Settings, source_at}
 use Rattle.template_program_run.specs.Brought.{program_answers}
 use Rattle.template_program_run.specs.Environments.{IsSetFor, callback_under}
 use Rattle.template_program_run.specs.History.{source_under}

@@ -1,7 +1,7 @@
 use Rattle.std.proofs.Common.{◌∙◌, ap, inr, option_map, subst, sym}
 use Rattle.std.proofs.lemmas.Result.{err_from_is_err_and}
-use Rattle.template_environment_settings.specs.Extras.{Extras, brought_by}
-use Rattle.template_environment_settings.specs.Standing.{Settings}
+use Rattle.template_machine_environment_settings.specs.Extras.{Extras, brought_by}
+use Rattle.template_machine_environment_settings.specs.Standing.{Settings}
 use Rattle.template_program_run.specs.Brought.{program_answers}
 use Rattle.template_program_run.specs.Environments.{IsSetFor}
 use Rattle.template_program_run.specs.Served.{syntax_under}

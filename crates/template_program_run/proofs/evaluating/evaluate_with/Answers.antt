@@ -1,6 +1,6 @@
 use Rattle.std.proofs.Common.{ℕ, ◌∙◌, inr, subst}
-use Rattle.template_environment_settings.specs.Extras.{Brought}
-use Rattle.template_environment_settings.specs.Reading.{brought_of, registry_of}
+use Rattle.template_machine_environment_settings.specs.Extras.{Brought}
+use Rattle.template_machine_environment_settings.specs.Reading.{brought_of, registry_of}
 use Rattle.template_program_expression.specs.Evaluations.{Evaluates}
 use Rattle.template_program_run.specs.Brought.{program_answers}
 use Rattle.template_program_run.specs.Served.{served_under}

@@ -1,7 +1,7 @@
 use Rattle.std.proofs.Common.{refl, Ok, Err, ap}
-use Rattle.template_environment_settings.specs.Compiled.{standing_of}
-use Rattle.template_environment_settings.specs.Reading.{brought_of, registry_of}
-use Rattle.template_environment_settings.specs.Views.{compiled_in, environment_of}
+use Rattle.template_machine_environment_settings.specs.Compiled.{standing_of}
+use Rattle.template_machine_environment_settings.specs.Reading.{brought_of, registry_of}
+use Rattle.template_machine_environment_settings.specs.Views.{compiled_in, environment_of}
 use Rattle.template_program_run.specs.Brought.{program_answers}
 use Rattle.template_program_run.proofs.Rendering.{rendered_done, rendered_failed}
 use Rattle.template_program_run.proofs.running.render.Goals as goal

@@ -1,5 +1,5 @@
 use Rattle.std.proofs.Common.{◌≡◌, ℕ, List, Some, ap, option_copied, string_bytes, subst, sym}
-use Rattle.template_environment_settings.specs.Plain.{IsPlain, text_kept}
+use Rattle.template_machine_environment_settings.specs.Plain.{IsPlain, text_kept}
 use Rattle.template_program_parts.specs.Context.{text_pairs}
 use Rattle.template_program_run.specs.Answers.{AnswersWith}
 use Rattle.template_program_run.specs.Given.{AreJson, given_in}

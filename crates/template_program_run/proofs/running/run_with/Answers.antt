@@ -1,10 +1,10 @@
 use Rattle.std.proofs.Common.{◌≡◌, ◌∙◌, ap, sym, subst, rules, List, ℕ}
 use Rattle.template_machine_surroundings.specs.Rule.{IsEscapeOf}
-use Rattle.template_environment_settings.specs.Compiled.{standing_of}
-use Rattle.template_environment_settings.specs.Extras.{Brought}
-use Rattle.template_environment_settings.specs.Isolation.{AskNoNames}
-use Rattle.template_environment_settings.specs.Reading.{brought_of, registry_of}
-use Rattle.template_environment_settings.specs.Views.{compiled_in, environment_of, source_of}
+use Rattle.template_machine_environment_settings.specs.Compiled.{standing_of}
+use Rattle.template_machine_environment_settings.specs.Extras.{Brought}
+use Rattle.template_machine_environment_settings.specs.Isolation.{AskNoNames}
+use Rattle.template_machine_environment_settings.specs.Reading.{brought_of, registry_of}
+use Rattle.template_machine_environment_settings.specs.Views.{compiled_in, environment_of, source_of}
 use Rattle.template_program_parts.specs.Context.{text_pairs}
 use Rattle.template_program_run.specs.Answers.{Rendered, TellsNames}
 use Rattle.template_program_run.specs.Brought.{program_answers}

@@ -1,9 +1,9 @@
 use Rattle.std.proofs.Common.{rules, Err, refl}
 use Rattle.std.specs.BTreeSet.{IsOrdered}
 use Rattle.std.specs.String.{string_cmp}
-use Rattle.template_environment_settings.specs.Compiled.{standing_of}
-use Rattle.template_environment_settings.specs.Reading.{brought_of, registry_of}
-use Rattle.template_environment_settings.specs.Views.{compiled_in}
+use Rattle.template_machine_environment_settings.specs.Compiled.{standing_of}
+use Rattle.template_machine_environment_settings.specs.Reading.{brought_of, registry_of}
+use Rattle.template_machine_environment_settings.specs.Views.{compiled_in}
 use Rattle.template_program_run.specs.Brought.{program_answers}
 use Rattle.template_program_run.proofs.NeededNames.{has_names}
 use Rattle.template_program_run.proofs.running.tell_names.Goals as goal

@@ -1,6 +1,6 @@
 use Rattle.std.proofs.Common.{◌≡◌, ℕ, List, take}
-use Rattle.template_environment_settings.specs.Reading.{brought_of, extras_of, registry_of}
-use Rattle.template_environment_settings.specs.Standing.{settings_of, source_at}
+use Rattle.template_machine_environment_settings.specs.Reading.{brought_of, extras_of, registry_of}
+use Rattle.template_machine_environment_settings.specs.Standing.{settings_of, source_at}
 use Rattle.template_program_parts.specs.Context.{text_pairs}
 use Rattle.template_program_run.specs.Additions.{AllAreAccepted}
 use Rattle.template_program_run.specs.Brought.{brought_if, program_answers}

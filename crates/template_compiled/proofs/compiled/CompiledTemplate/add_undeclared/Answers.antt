@@ -1,9 +1,9 @@
 use Rattle.std.proofs.Common.{Result, Ok, Err, OnErr, sym, ap, subst, ◌∙◌, ◌≡◌}
-use Rattle.template_tree.specs.Tree.{Statements}
-use Rattle.template_tree_parts.specs.Listed.{statements_in}
+use Rattle.template_compiler_tree.specs.Tree.{Statements}
+use Rattle.template_compiler_tree_parts.specs.Listed.{statements_in}
 use Rattle.template_compiler_statement_codegen.specs.Listed.{IsRunnableTree, body_in}
-use Rattle.template_names_statements.specs.Found.{Adds, AddsSome}
-use Rattle.template_names_needed.specs.Needed.{needed_by}
+use Rattle.template_compiler_names_statements.specs.Found.{Adds, AddsSome}
+use Rattle.template_compiler_names_needed.specs.Needed.{needed_by}
 use Rattle.template_compiled.specs.Names.{uses}
 use Rattle.template_compiled.specs.Sources.{tree_in}
 use Rattle.template_compiled.proofs.Trees.{tree_runs}

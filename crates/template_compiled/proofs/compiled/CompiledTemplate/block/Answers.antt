@@ -1,7 +1,7 @@
 use Rattle.std.proofs.Common.{◌≡◌, ap, ◌∙◌, rules}
-use Rattle.template_walk.specs.Blocks.{blocks_in}
+use Rattle.template_compiler_walk.specs.Blocks.{blocks_in}
 use Rattle.template_compiled.specs.Sources.{tree_in}
-use Rattle.template_code.specs.Streams.{stream_among, streams_in}
+use Rattle.template_compiler_code.specs.Streams.{stream_among, streams_in}
 use Rattle.template_compiled.specs.Streams.{streams_of}
 use Rattle.template_compiled.proofs.Bodies.{first_named}
 use Rattle.template_compiled.proofs.compiled.CompiledTemplate.block.Goals as goal

@@ -1,6 +1,6 @@
 use Rattle.std.proofs.Common.{◌*◌, min, ap, ◌∙◌}
 use Rattle.std.specs.List.{sum_by}
-use Rattle.template_code.specs.Texts.{raw_length}
+use Rattle.template_compiler_code.specs.Texts.{raw_length}
 use Rattle.template_compiled.proofs.compiled.CompiledTemplate.buffer_size_hint.Goals as goal
 
 pub returns : goal.returns

@@ -1,15 +1,15 @@
 use Rattle.std.proofs.Common.{◌≡◌, false, List, ◌++◌, length, ap, sym, subst, ◌∙◌, rules}
-use Rattle.template_tree.specs.Tree.{Statements}
-use Rattle.template_tree_statements.specs.View.{statement_of}
-use Rattle.template_walk.specs.Runnable.{AreRunnableStatements}
-use Rattle.template_code.specs.Code.{Code}
+use Rattle.template_compiler_tree.specs.Tree.{Statements}
+use Rattle.template_compiler_tree_statements.specs.View.{statement_of}
+use Rattle.template_compiler_walk.specs.Runnable.{AreRunnableStatements}
+use Rattle.template_compiler_code.specs.Code.{Code}
 use Rattle.template_compiler_codegen.specs.Statements.{no_ways, statements_code}
 use Rattle.template_compiler_generator.specs.Numbers.{numbered_in}
 use Rattle.template_compiler_statement_codegen.specs.Listed.{body_in}
 use Rattle.template_compiler_sources.specs.Source.{IsSource}
 use Rattle.template_compiler_syntax.specs.Syntax.{Syntax}
 use Rattle.template_compiled.specs.Sources.{read_by}
-use Rattle.template_code.specs.Streams.{streams_in}
+use Rattle.template_compiler_code.specs.Streams.{streams_in}
 use Rattle.template_compiled.specs.Streams.{streams_of}
 use Rattle.template_compiled.proofs.Accepting.{kept}
 use Rattle.template_compiled.proofs.Trees.{body_runs, source_runs}

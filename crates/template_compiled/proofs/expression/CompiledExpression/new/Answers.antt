@@ -1,6 +1,6 @@
 use Rattle.std.proofs.Common.{List, ◌++◌, length, ap, ◌∙◌}
-use Rattle.template_tree.specs.View.{expression_of}
-use Rattle.template_code.specs.Code.{Code}
+use Rattle.template_compiler_tree.specs.View.{expression_of}
+use Rattle.template_compiler_code.specs.Code.{Code}
 use Rattle.template_compiler_codegen.specs.Expressions.{expression_code}
 use Rattle.template_compiler_generator.specs.Numbers.{numbered_in}
 use Rattle.template_compiled.proofs.Alone.{kept_alone, source_runs}

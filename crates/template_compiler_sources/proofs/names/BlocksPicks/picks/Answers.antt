@@ -1,5 +1,5 @@
 use Rattle.std.proofs.Common.{sym}
-use Rattle.template_tree_parts.proofs.Others.{no_block}
+use Rattle.template_compiler_tree_parts.proofs.Others.{no_block}
 use Rattle.template_compiler_sources.proofs.names.BlocksPicks.picks.Goals as goal
 
 pub returns-in_default : goal.returns-in_default

@@ -1,5 +1,5 @@
 use Rattle.std.proofs.Common.{◌≡◌, drop}
-use Rattle.template_code.specs.Streams.{heads_of, streams_in}
+use Rattle.template_compiler_code.specs.Streams.{heads_of, streams_in}
 use Rattle.template_machine_tables.specs.Streams.{home_of}
 use Rattle.template_machine_meaning.specs.Bodies.{with_bodies}
 use Rattle.template_machine_meaning.specs.Keeps.{KeepsBodies}

@@ -1,8 +1,8 @@
 use Rattle.std.proofs.Common.{List, ap, inl, inr, refl, subst}
 use Rattle.template_values_errors.specs.declared.ErrorKind.{ErrorKind}
-use Rattle.template_environment_settings.specs.Compiled.{standing_of}
-use Rattle.template_environment_settings.specs.Reading.{brought_of, registry_of}
-use Rattle.template_environment_settings.specs.Views.{compiled_in, source_of}
+use Rattle.template_machine_environment_settings.specs.Compiled.{standing_of}
+use Rattle.template_machine_environment_settings.specs.Reading.{brought_of, registry_of}
+use Rattle.template_machine_environment_settings.specs.Views.{compiled_in, source_of}
 use Rattle.template_machine_surroundings.specs.Rule.{IsEscapeOf}
 use Rattle.template_program_parts.specs.declared.outcome.Outcome.TheVariants.{Template}
 use Rattle.template_program_run.specs.Answers.{Rendered}

@@ -1,4 +1,0 @@
-use Rattle.template_code_shapes.proofs.verifying.verify.Goals as goal
-
-pub invariant_of-result : goal.invariant_of-result
-invariant_of-result c = record { good = c.in-Ok.ensures.good }

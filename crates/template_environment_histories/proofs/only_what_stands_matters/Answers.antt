@@ -1,5 +1,0 @@
-use Rattle.template_environment_histories.proofs.Deciding as laws
-use Rattle.template_environment_histories.proofs.only_what_stands_matters.Goals as goal
-
-pub returns : goal.returns
-returns g c = laws.leads_through_from

@@ -1,5 +1,0 @@
-use Rattle.template_environment_histories.proofs.Deciding as laws
-use Rattle.template_environment_histories.proofs.refused_make_no_difference.Goals as goal
-
-pub returns : goal.returns
-returns g c = laws.refused_make_no_difference _ _

@@ -1,6 +1,0 @@
-use Rattle.std.proofs.Common.{[]}
-use Rattle.template_names.proofs.Laws.{on_ok}
-use Rattle.template_names.proofs.state.Names.find_alone.Goals as goal
-
-pub returns-else-self : goal.returns-else-self
-returns-else-self c = on_ok c.find_plain.result (λ goes. goes []) c.find_plain.ensures

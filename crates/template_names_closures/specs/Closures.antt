@@ -1,2 +1,0 @@
--- The names that a macro encloses when it is made, and whether it takes a caller.
-pub use Rattle.template_names.specs.Enclosed.{encloses, enclosed_names, uses_caller}

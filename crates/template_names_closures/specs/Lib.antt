@@ -1,4 +1,0 @@
-pub mod Bodies
-pub mod Closures
-pub mod Units
-pub use Rattle.template_names.specs.Among

@@ -1,2 +1,0 @@
--- What those above compare names by.
-pub use Rattle.template_names.proofs.Laws.{turned}

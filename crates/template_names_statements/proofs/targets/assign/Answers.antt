@@ -1,8 +1,0 @@
-use Rattle.std.proofs.Common.{refl}
-use Rattle.template_names.proofs.Laws.{goes_then_on}
-use Rattle.template_names_statements.proofs.targets.assign.Goals as goal
-
-pub returns : goal.returns
-returns c =
-    goes_then_on _ _ c.args.names.now c.use_expression.new.names c.assign_target.new.names c.assign_target.result c.in_ok-use_expression.ensures
-    c.assign_target.ensures (λ q. refl) (λ q. refl)

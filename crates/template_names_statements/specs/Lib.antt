@@ -1,7 +1,0 @@
-pub mod Choices
-pub mod Parts
-pub mod Stores
-pub use Rattle.template_names.specs.Among
-pub use Rattle.template_names.specs.Dotted
-pub use Rattle.template_names.specs.Goes
-pub mod Found

@@ -1,5 +1,0 @@
-use Rattle.template_process.proofs.Fuels as laws
-use Rattle.template_process.proofs.enough_is_enough.Goals as goal
-
-pub returns : goal.returns
-returns g c = laws.enough _

@@ -1,5 +1,0 @@
-use Rattle.template_walk.proofs.Rising as laws
-use Rattle.template_walk.proofs.rounds_rise.Goals as goal
-
-pub returns : goal.returns
-returns c = laws.rounds_rise
