@@ -79,7 +79,7 @@ pub use block_heads::{BlockHead, read_block, read_block_end};
 pub use body_heads::{read_auto_escape, read_branch, read_filter_block, read_with};
 pub use loop_heads::read_for;
 pub use loops::{read_break, read_continue};
-pub use macros::{CallHead, MacroHead, macro_block, read_call, read_macro};
+pub use macros::{CallHead, MacroHead, call_block, macro_block, read_call, read_macro};
 pub use sets::{SetHead, read_set};
 pub use templates::{read_extends, read_from, read_import, read_include};
 pub use values::{read_do, read_print};
