@@ -7,4 +7,4 @@ pub mod Listing
 pub mod Refusals
 pub mod Bodies
 mod Blocks
-mod Good
+pub mod Good
