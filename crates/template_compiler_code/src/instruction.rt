@@ -3,11 +3,13 @@
 ghost use Rattle.std.specs.Prelude.{◌≡◌, IfOk, IfErr};
 ghost use Rattle.std.specs.Cow.{cow_str_bytes};
 ghost use Rattle.template_values_errors.specs.Memory.{NoMemory};
+ghost use Rattle.template_compiler_code.specs.Code.{operator_in};
 ghost use Rattle.template_compiler_code.specs.View.{code_of};
 ghost use Rattle.template_compiler_code.specs.Prices.{price_of};
 
 use std::alloc::Global;
 use std::borrow::CowStr;
+use template_compiler_tree::BinOpKind;
 use template_values_core::Value;
 use template_values_errors::Error;
 
@@ -218,6 +220,31 @@ impl<'source> Instruction<'source> {
             | Instruction::BuildMacro(_, _, _)
             | Instruction::Return => 0,
             _ => 1,
+        }
+    }
+
+    /// The operator of an instruction that takes two operands, and gives what the operator makes of them; others have none.
+    #[inline(always)]
+    pub fn operator(&self) -> Option<BinOpKind>
+        ensures { result ≡ operator_in (code_of self.now) }
+    {
+        match self {
+            Instruction::Add => Some(BinOpKind::Add),
+            Instruction::Sub => Some(BinOpKind::Sub),
+            Instruction::Mul => Some(BinOpKind::Mul),
+            Instruction::Div => Some(BinOpKind::Div),
+            Instruction::IntDiv => Some(BinOpKind::FloorDiv),
+            Instruction::Rem => Some(BinOpKind::Rem),
+            Instruction::Pow => Some(BinOpKind::Pow),
+            Instruction::Eq => Some(BinOpKind::Eq),
+            Instruction::Ne => Some(BinOpKind::Ne),
+            Instruction::Gt => Some(BinOpKind::Gt),
+            Instruction::Gte => Some(BinOpKind::Gte),
+            Instruction::Lt => Some(BinOpKind::Lt),
+            Instruction::Lte => Some(BinOpKind::Lte),
+            Instruction::StringConcat => Some(BinOpKind::Concat),
+            Instruction::In => Some(BinOpKind::In),
+            _ => None,
         }
     }
 

@@ -1,14 +1,15 @@
 //! Instructions that only take and give operands.
 ghost use Rattle.std.specs.Prelude.{◌≡◌, ℕ, None};
+ghost use Rattle.template_compiler_code.specs.Code.{operator_in};
 ghost use Rattle.template_compiler_code.specs.View.{code_of, comparison_of};
 ghost use Rattle.template_machine_meaning.specs.Surroundings.{Programs};
 ghost use Rattle.template_machine_operands.specs.Operands.{operands_in};
 ghost use Rattle.template_machine_steps.specs.Performs.{Leads, ruled};
-ghost use Rattle.template_machine_perform.specs.Performs.{straight, operator_in, IsOfOperands};
+ghost use Rattle.template_machine_perform.specs.Performs.{straight, IsOfOperands};
 
 use std::alloc::Global;
 use template_compiler_code::{CompareOp, Instruction};
-use template_compiler_tree::{BinOpKind, CompareOpKind};
+use template_compiler_tree::CompareOpKind;
 use template_machine_operands::Operands;
 use template_machine_state::State;
 use template_machine_steps::{
@@ -49,30 +50,6 @@ fn comparison_of(op: CompareOp) -> CompareOpKind
     }
 }
 
-// The operator of an instruction that has one.
-fn operator_of(instruction: &Instruction<'_>) -> Option<BinOpKind>
-    ensures { result ≡ operator_in (code_of instruction.now) }
-{
-    match instruction {
-        Instruction::Add => Some(BinOpKind::Add),
-        Instruction::Sub => Some(BinOpKind::Sub),
-        Instruction::Mul => Some(BinOpKind::Mul),
-        Instruction::Div => Some(BinOpKind::Div),
-        Instruction::IntDiv => Some(BinOpKind::FloorDiv),
-        Instruction::Rem => Some(BinOpKind::Rem),
-        Instruction::Pow => Some(BinOpKind::Pow),
-        Instruction::Eq => Some(BinOpKind::Eq),
-        Instruction::Ne => Some(BinOpKind::Ne),
-        Instruction::Gt => Some(BinOpKind::Gt),
-        Instruction::Gte => Some(BinOpKind::Gte),
-        Instruction::Lt => Some(BinOpKind::Lt),
-        Instruction::Lte => Some(BinOpKind::Lte),
-        Instruction::StringConcat => Some(BinOpKind::Concat),
-        Instruction::In => Some(BinOpKind::In),
-        _ => None,
-    }
-}
-
 // Does what an instruction does that only takes and gives operands, and looks into records alone of what surrounds them.
 #[inline(never)]
 pub(crate) fn perform_on_operands(
@@ -87,7 +64,7 @@ pub(crate) fn perform_on_operands(
         Leads (ruled program limit mode) (code_of instruction.now) (operands_in operands.old) state.now
         result (operands_in operands.new) state.now }
 {
-    match operator_of(instruction) {
+    match instruction.operator() {
         Some(op) => straight(operate(alloc, mode, op, operands, state)),
         None => perform_without_operator(alloc, mode, instruction, state, operands),
     }

@@ -1,7 +1,7 @@
 use Rattle.std.proofs.Common.{refl}
 use Rattle.template_compiler_code.specs.Code as codes
+use Rattle.template_compiler_code.proofs.Operators.{with_operator}
 use Rattle.template_machine_perform.proofs.Lifting.{straight_leads}
-use Rattle.template_machine_perform.proofs.Left.{with_operator}
 use Rattle.template_machine_perform.proofs.operands.perform_on_operands.Goals as goal
 
 pub returns-in-Some : goal.returns-in-Some
