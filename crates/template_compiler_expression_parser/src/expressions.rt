@@ -2,7 +2,8 @@
 ghost use Rattle.std.specs.Prelude.{◌≡◌, true, false, Some, Ok, bytes_eq, codes, suc};
 ghost use Rattle.std.specs.Cow.{cow_str_bytes};
 ghost use Rattle.template_compiler_expression_parts.specs.Parsed.{Parsed, ParsedAs, ParsedOptional, Stepped, SteppedTo, WentOn, paired_in, unnamed_by, written_in};
-ghost use Rattle.template_compiler_stream.specs.Signs.{level_of, symbol_of};
+ghost use Rattle.template_compiler_stream.specs.Signs.{level_of};
+ghost use Rattle.template_compiler_tokens.specs.Signs.{symbol_of};
 ghost use Rattle.template_compiler_expression_parser.specs.Ahead.{HasNoFilter, HasNoLink, HasNoOperator, begins_sign, choices_from, comparison_from, is_filter_sign, is_link_sign, is_link_word, is_part_sign, is_sum_sign, negative_from, operators_from, sum_from};
 ghost use Rattle.template_compiler_grammar.specs.ReaderParts.{colon_end, paren_end};
 ghost use Rattle.template_compiler_grammar.specs.Reader.{link_behind, argument_by, arguments_by, arguments_step, binary_by, bound_by, deeper, else_behind, expression_by, filter_by, filter_step, if_behind, is_by, items_step, link_step, list_by, map_by, negation_by, not_in_link, operand_by, operand_step, optional_arguments_by, paren_by, part_step, parts_by, pairs_step, power_behind, power_by, primary_by, slice_by, step_by, subscript_by, terms_by, test_arguments_by, test_by, through_next, unary_by, up_to};
@@ -21,7 +22,8 @@ use template_compiler_expression_parts::{
     Behind, Pairs, Written, attribute, before_colon, compared, deeper, in_braces, in_brackets,
     in_order, in_parens, literal, name, separated, tested,
 };
-use template_compiler_stream::{Level, Refusal, Sign, TokenStream};
+use template_compiler_stream::{Level, Refusal, TokenStream};
+use template_compiler_tokens::Sign;
 use template_compiler_tree::{
     BinOpKind, CallArg, CompareOp, CompareOpKind, Expr, Span, UnaryOpKind,
 };

@@ -9,7 +9,8 @@ ghost use Rattle.std.specs.Prelude.{◌≡◌};
 
 use crate::expressions::{binary, expression, filter};
 use std::alloc::Global;
-use template_compiler_stream::{Level, Refusal, Sign, TokenStream};
+use template_compiler_stream::{Level, Refusal, TokenStream};
+use template_compiler_tokens::Sign;
 use template_compiler_tree::Expr;
 
 /// Reads an expression.

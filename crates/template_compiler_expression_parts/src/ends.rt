@@ -9,7 +9,8 @@ ghost use Rattle.template_compiler_tokens.specs.Steps.{and_then};
 ghost use Rattle.template_compiler_tokens.specs.Token.{Token};
 
 use crate::behind::Written;
-use template_compiler_stream::{Fault, Refusal, Sign, TokenStream};
+use template_compiler_stream::{Fault, Refusal, TokenStream};
+use template_compiler_tokens::Sign;
 use template_compiler_tree::{CallArg, Expr};
 
 /// The most arguments of a call, a filter or a test.

@@ -3,7 +3,8 @@ use crate::report::Report;
 use serde_json::Value as Json;
 use std::alloc::Global;
 use template_compiler_sources::{error_of, read_expression_tokens};
-use template_compiler_stream::{First, Level, Sign, TokenStream};
+use template_compiler_stream::{First, Level, TokenStream};
+use template_compiler_tokens::Sign;
 use template_values_errors::ErrorKind;
 
 /// What each of the calls answers, with a `;` behind it, but for those that answer nothing.

@@ -1,80 +1,12 @@
 //! Signs and brackets.
 ghost use Rattle.std.specs.Prelude.{◌≡◌, option_map};
 ghost use Rattle.template_compiler_tokens.specs.Lexical.{long_sign as the_long_sign, short_sign as the_short_sign};
-ghost use Rattle.template_compiler_tokens.specs.Token.{symbol};
-ghost use Rattle.template_compiler_tokens.specs.View.{token_of};
+ghost use Rattle.template_compiler_tokens.specs.Signs.{symbol_of};
 ghost use Rattle.template_compiler_scanner.specs.Scans.{ScansSign};
-ghost use Rattle.template_compiler_scanner.specs.Signs.{symbol_of};
 
 use crate::bytes::byte_at;
-use template_compiler_tokens::Token;
+use template_compiler_tokens::{Sign, Token};
 use template_values_errors::ErrorKind;
-
-/// A sign or a bracket.
-#[derive(Clone, Copy)]
-pub(crate) enum Sign {
-    Plus,
-    Minus,
-    Mul,
-    Div,
-    FloorDiv,
-    Pow,
-    Mod,
-    Dot,
-    Comma,
-    Colon,
-    Tilde,
-    Assign,
-    Pipe,
-    Eq,
-    Ne,
-    Gt,
-    Gte,
-    Lt,
-    Lte,
-    BracketOpen,
-    BracketClose,
-    ParenOpen,
-    ParenClose,
-    BraceOpen,
-    BraceClose,
-}
-
-impl Sign {
-    // Its token.
-    #[inline(always)]
-    fn token<'source>(self) -> Token<'source>
-        ensures { token_of result ≡ symbol (symbol_of self) }
-    {
-        match self {
-            Sign::Plus => Token::Plus,
-            Sign::Minus => Token::Minus,
-            Sign::Mul => Token::Mul,
-            Sign::Div => Token::Div,
-            Sign::FloorDiv => Token::FloorDiv,
-            Sign::Pow => Token::Pow,
-            Sign::Mod => Token::Mod,
-            Sign::Dot => Token::Dot,
-            Sign::Comma => Token::Comma,
-            Sign::Colon => Token::Colon,
-            Sign::Tilde => Token::Tilde,
-            Sign::Assign => Token::Assign,
-            Sign::Pipe => Token::Pipe,
-            Sign::Eq => Token::Eq,
-            Sign::Ne => Token::Ne,
-            Sign::Gt => Token::Gt,
-            Sign::Gte => Token::Gte,
-            Sign::Lt => Token::Lt,
-            Sign::Lte => Token::Lte,
-            Sign::BracketOpen => Token::BracketOpen,
-            Sign::BracketClose => Token::BracketClose,
-            Sign::ParenOpen => Token::ParenOpen,
-            Sign::ParenClose => Token::ParenClose,
-            Sign::BraceOpen => Token::BraceOpen,
-            Sign::BraceClose => Token::BraceClose,
-        }
-    }
-}
 
 // The sign of two bytes.
 #[tactic(auto, unfolding(template_compiler_tokens::specs::Lexical::long_sign))]

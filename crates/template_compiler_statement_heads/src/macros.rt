@@ -14,7 +14,8 @@ use template_compiler_statement_parts::{
     Parameters, ReadsExpressions, expect_tag_end, is_reserved, read_deeper_parameters,
     read_optional_parameters,
 };
-use template_compiler_stream::{Fault, Refusal, Sign, TokenStream};
+use template_compiler_stream::{Fault, Refusal, TokenStream};
+use template_compiler_tokens::Sign;
 use template_compiler_tree::{Call, Span, Spanned};
 use template_compiler_tree_statements::{CallBlock, Macro, Stmt};
 

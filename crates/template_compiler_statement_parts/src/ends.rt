@@ -4,7 +4,8 @@ ghost use Rattle.template_compiler_grammar.specs.ReaderParts.{paren_end};
 ghost use Rattle.template_compiler_statement_parts.specs.Parsed.{ParsedAs, passing};
 ghost use Rattle.template_compiler_grammar.specs.TemplateReaderParts.{block_end_by, end_name_by, expect_assign, expect_tag, expect_word, print_end, tag_end};
 
-use template_compiler_stream::{Fault, Refusal, Sign, TokenStream};
+use template_compiler_stream::{Fault, Refusal, TokenStream};
+use template_compiler_tokens::Sign;
 
 /// Passes the end of a print.
 ///

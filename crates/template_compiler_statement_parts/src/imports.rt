@@ -10,7 +10,8 @@ ghost use Rattle.template_compiler_grammar.specs.Views.{placed_imports_in};
 use crate::growth::put;
 use crate::names::read_stored;
 use std::alloc::Global;
-use template_compiler_stream::{Refusal, Sign, TokenStream};
+use template_compiler_stream::{Refusal, TokenStream};
+use template_compiler_tokens::Sign;
 use template_compiler_tree::Expr;
 
 /// Reads the names that are imported, each perhaps with an alias.

@@ -11,7 +11,8 @@ ghost use Rattle.template_compiler_tokens.specs.Steps.{all};
 use crate::expressions::ReadsExpressions;
 use crate::{expect_paren_end, put, read_stored};
 use std::alloc::Global;
-use template_compiler_stream::{Fault, Refusal, Sign, TokenStream};
+use template_compiler_stream::{Fault, Refusal, TokenStream};
+use template_compiler_tokens::Sign;
 use template_compiler_tree::Expr;
 
 /// Arguments, and the defaults of the last of them.

@@ -14,7 +14,8 @@ use crate::ends::expect_paren_end;
 use crate::growth::put;
 use crate::names::read_stored;
 use std::alloc::{AllocError, Global};
-use template_compiler_stream::{Fault, Refusal, Sign, TokenStream};
+use template_compiler_stream::{Fault, Refusal, TokenStream};
+use template_compiler_tokens::Sign;
 use template_compiler_tree::{Expr, Span};
 
 /// Reads a target; one of `set` may have dots, as an attribute of a namespace.

@@ -11,7 +11,8 @@ ghost use Rattle.template_compiler_tokens.specs.Steps.{all};
 use crate::expressions::ReadsExpressions;
 use crate::{expect_assign, put, read_target};
 use std::alloc::{AllocError, Global};
-use template_compiler_stream::{Refusal, Sign, TokenStream};
+use template_compiler_stream::{Refusal, TokenStream};
+use template_compiler_tokens::Sign;
 use template_compiler_tree::{Expr, Span};
 
 /// Reads an expression, or several with commas between them, which are a tuple.

@@ -5,7 +5,8 @@ ghost use Rattle.template_compiler_statement_parts.specs.Tags.{next_tag};
 ghost use Rattle.template_compiler_grammar.specs.TemplateReaderParts.{begins_tag, begins_values, context_by, missing_by, word_by};
 
 use crate::ends::expect_word;
-use template_compiler_stream::{Refusal, Sign, TokenStream};
+use template_compiler_stream::{Refusal, TokenStream};
+use template_compiler_tokens::Sign;
 
 /// The word of the tag that stands next.
 #[inline(always)]

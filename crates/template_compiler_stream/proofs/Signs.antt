@@ -5,9 +5,10 @@ use Rattle.std.proofs.lemmas.Bool.Decides.{nat_tests}
 use Rattle.template_compiler_stream.specs.Left.{passed}
 use Rattle.template_compiler_tokens.specs.Token as token
 use Rattle.template_compiler_tokens.specs.Token.{Symbol, symbol}
-use Rattle.template_compiler_stream.specs.declared.sign.Sign.{Sign}
-use Rattle.template_compiler_stream.specs.declared.sign.Sign.TheVariants.{Plus, Minus, Mul, Div, FloorDiv, Pow, Mod, Dot, Comma, Colon, Tilde, Assign, Pipe, Eq, Ne, Gt, Gte, Lt, Lte, BracketOpen, BracketClose, ParenOpen, ParenClose, BraceOpen, BraceClose}
-use Rattle.template_compiler_stream.specs.Signs.{symbol_of, next_symbol, number_of, begins_symbol}
+use Rattle.template_compiler_tokens.specs.declared.sign.Sign.{Sign}
+use Rattle.template_compiler_tokens.specs.declared.sign.Sign.TheVariants.{Plus, Minus, Mul, Div, FloorDiv, Pow, Mod, Dot, Comma, Colon, Tilde, Assign, Pipe, Eq, Ne, Gt, Gte, Lt, Lte, BracketOpen, BracketClose, ParenOpen, ParenClose, BraceOpen, BraceClose}
+use Rattle.template_compiler_tokens.specs.Signs.{symbol_of, number_of}
+use Rattle.template_compiler_stream.specs.Signs.{next_symbol, begins_symbol}
 
 sign_from : Symbol → Sign
 sign_from token.plus = Plus

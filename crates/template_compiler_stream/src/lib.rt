@@ -6,5 +6,5 @@ mod sign;
 mod stream;
 
 pub use refusal::{Fault, Refusal};
-pub use sign::{Level, Sign};
+pub use sign::Level;
 pub use stream::{First, TokenStream, until};

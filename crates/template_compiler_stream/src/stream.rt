@@ -8,7 +8,8 @@ ghost use Rattle.template_compiler_stream.specs.Refusals.{fault_of};
 ghost use Rattle.template_compiler_stream.specs.Left.{Peeks, Shows, ahead, behind, ended, passed};
 ghost use Rattle.template_compiler_stream.specs.Spans.{ShownAt, TakenAt};
 ghost use Rattle.template_compiler_tokens.specs.Places.{last_span, next_span, no_span, token_count, until};
-ghost use Rattle.template_compiler_stream.specs.Signs.{assigned_behind, begins_alone, begins_symbol, is_symbol, level_of, second_word, next_number, next_operator, next_comparison, next_symbol, next_word, number_in, symbol_of, word_in};
+ghost use Rattle.template_compiler_stream.specs.Signs.{assigned_behind, begins_alone, begins_symbol, is_symbol, level_of, second_word, next_number, next_operator, next_comparison, next_symbol, next_word, number_in, word_in};
+ghost use Rattle.template_compiler_tokens.specs.Signs.{symbol_of};
 ghost use Rattle.template_compiler_tokens.specs.View.{token_of};
 ghost use Rattle.template_compiler_stream.specs.Skips.{PutsText, SkipsDotted, SkipsKeyword, SkipsSign, SkipsText, SkipsWord};
 
@@ -16,13 +17,12 @@ mod tags;
 
 use crate::refusal::Fault;
 use crate::sign::{
-    Level, Sign, begins_argument, closes, comparison_of, ends_bound, is_end, is_plain, operator_of,
-    sign_of,
+    Level, begins_argument, closes, comparison_of, ends_bound, is_end, is_plain, operator_of,
 };
 use std::alloc::AllocError;
 use std::marker::Model;
 use std::mem;
-use template_compiler_tokens::Token;
+use template_compiler_tokens::{Sign, Token, sign_of};
 use template_compiler_tree::{BinOpKind, CompareOpKind, Span};
 
 /// The next token, as it was taken.

@@ -11,3 +11,4 @@ pub mod Bytes
 pub mod SourcePlaces
 pub mod Stretches
 pub mod Starts
+pub mod Signs

@@ -1,7 +1,7 @@
 use Rattle.std.proofs.Common.{refl, sym}
 use Rattle.template_compiler_tokens.specs.Lexical.{no_sign}
 use Rattle.template_compiler_tokens.specs.View.{token_of}
-use Rattle.template_compiler_scanner.specs.Signs.{symbol_of}
+use Rattle.template_compiler_tokens.specs.Signs.{symbol_of}
 use Rattle.template_compiler_scanner.proofs.Tokens.{long_found, short_found}
 use Rattle.template_compiler_scanner.proofs.signs.scan_sign.Goals as goal
 

@@ -1,5 +1,5 @@
 use Rattle.std.proofs.Common.{◌∙◌}
-use Rattle.template_compiler_stream.specs.Signs.{symbol_of}
+use Rattle.template_compiler_tokens.specs.Signs.{symbol_of}
 use Rattle.template_compiler_stream.proofs.Signs.{begins_as}
 use Rattle.template_compiler_stream.proofs.stream.TokenStream.begins.Goals as goal
 
