@@ -12,8 +12,8 @@ use Rattle.template_compiler_tokens.specs.Token.{Token, variable_end}
 use Rattle.template_compiler_syntax.specs.Places.{StandsAt, IsLineEnd, stretch, newline_len, is_first_on_line, less_final}
 use Rattle.template_compiler_syntax.specs.declared.edges.Edge.{Edge}
 use Rattle.template_compiler_syntax.specs.declared.edges.Edge.TheVariants.{Nothing, Beside}
-use Rattle.template_compiler_syntax.specs.declared.edges.Sign.{Sign}
-use Rattle.template_compiler_syntax.specs.declared.edges.Sign.TheVariants.{Plain, Minus, Plus}
+use Rattle.template_compiler_syntax.specs.declared.edges.Trim.{Trim}
+use Rattle.template_compiler_syntax.specs.declared.edges.Trim.TheVariants.{Plain, Minus, Plus}
 use Rattle.template_compiler_syntax.specs.Segments.{IsNextStart, inside_from, start_sign, IsEnd, bare_end, signed_end, EndsAt, print_end, block_end, line_end, HasInside, ended, blank, token as a_token, no_token, Piece, data_piece, endless_piece, IsSegment, print_segment, block_segment, raw_segment, comment_segment, line_statement_segment, line_comment_segment, IsEndless, endless_print, endless_block, endless_line_statement, endless_raw, endless_comment, HasPieces, no_start, next_start, endless_start}
 use Rattle.template_compiler_syntax.specs.Stripping.{stripped_from, stripped_to, with_data, with_stripped, next_edge, stripped}
 use Rattle.template_compiler_syntax.specs.Flat.{tokens_of, template_text, IsTokens, source_tokens}
@@ -52,7 +52,7 @@ stands_within : (s : List ℕ) (i : ℕ) (text : List ℕ) → IsSet text → St
 stands_within s i text set stands =
     omega (arith, set_long text set, ap length stands, length-take (length text) (drop i s), length-drop i s)
 
-end_room : (s end : List ℕ) {i next : ℕ} {last : Sign} → IsSet end → IsEnd s end i last next → (suc i ≤ next) × (i < length s)
+end_room : (s end : List ℕ) {i next : ℕ} {last : Trim} → IsSet end → IsEnd s end i last next → (suc i ≤ next) × (i < length s)
 end_room s end {i = i} set (bare_end stands e) =
     let long = set_long end set in let within = stands_within s i end set stands in (omega arith, omega arith)
 end_room s end {i = i} set (signed_end none stands l signed e) =
@@ -72,7 +72,7 @@ line_room s i next over e =
       ]
     ]
 
-over_room : (x : Syntax) (s : List ℕ) {k : StartMarker} {i next : ℕ} {last : Sign} → IsFilled x → EndsAt x s k i last next →
+over_room : (x : Syntax) (s : List ℕ) {k : StartMarker} {i next : ℕ} {last : Trim} → IsFilled x → EndsAt x s k i last next →
     suc (room (length s - next)) ≤ suc (length s - i)
 over_room x s {i = i} {next = next} filled (print_end black end) =
     let at = end_room s x.variable_end filled.variable_end end in room_behind (length s) i next (at.0) (at.1)
@@ -81,7 +81,7 @@ over_room x s {i = i} {next = next} filled (block_end black end) =
 over_room x s {i = i} {next = next} filled (line_end over e) = line_room s i next over e
 
 -- the tokens of a segment
-inside_room : (x : Syntax) (s : List ℕ) {k : StartMarker} {d i next : ℕ} {last : Sign} {tokens : List Token} → IsFilled x →
+inside_room : (x : Syntax) (s : List ℕ) {k : StartMarker} {d i next : ℕ} {last : Trim} {tokens : List Token} → IsFilled x →
     HasInside x s k d i tokens (Some (last, next)) → suc (weight tokens + room (length s - next)) ≤ suc (length s - i)
 inside_room x s filled (ended over) = omega (arith, over_room x s filled over)
 inside_room x s {i = i} filled (blank none white inside) = let rest = inside_room x s filled inside in omega arith

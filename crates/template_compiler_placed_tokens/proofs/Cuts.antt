@@ -7,7 +7,7 @@ use Rattle.std.specs.Str.{IsUtf8, IsCharBoundary}
 use Rattle.template_compiler_syntax.specs.Syntax.{Syntax, IsSet, start_text}
 use Rattle.template_compiler_syntax.specs.declared.StartMarker.{StartMarker}
 use Rattle.template_compiler_syntax.specs.declared.StartMarker.TheVariants.{Variable, Block, Comment, LineStatement, LineComment}
-use Rattle.template_compiler_syntax.specs.declared.edges.Sign.{Sign}
+use Rattle.template_compiler_syntax.specs.declared.edges.Trim.{Trim}
 use Rattle.template_compiler_syntax.specs.Places.{StandsAt, IsLineEnd, newline_len, sign_at, sign_width}
 use Rattle.template_compiler_syntax.specs.Segments.{IsEnd, bare_end, signed_end, EndsAt, line_end, inside_from}
 use Rattle.std.specs.Prelude.{Option, None, Some, IfSome, ◌==◌}
@@ -37,7 +37,7 @@ stands_cut s text i source utf8 set stands =
     IsCharBoundary-from_rest s i (length text) (omega arith)
     (IsCharBoundary-from_take (drop i s) (length text) rest fits (subst IsUtf8 (sym stands) utf8))
 
-pub end_cut : {s end : List ℕ} {i next : ℕ} {last : Sign} → IsUtf8 s → IsUtf8 end → IsSet end → IsEnd s end i last next → IsCharBoundary s next
+pub end_cut : {s end : List ℕ} {i next : ℕ} {last : Trim} → IsUtf8 s → IsUtf8 end → IsSet end → IsEnd s end i last next → IsCharBoundary s next
 end_cut {s = s} {end = end} {i = i} source utf8 set (bare_end stands n) = subst (λ m. IsCharBoundary s m) (sym n) (stands_cut s end i source utf8 set stands)
 end_cut {s = s} {end = end} {i = i} source utf8 set (signed_end none stands l sign n) =
     subst (λ m. IsCharBoundary s m) (sym n) (stands_cut s end (i + 1) source utf8 set stands)
@@ -69,15 +69,15 @@ newline_behind s i source within over =
       ]
     ]
 
-pub line_cut : {x : Syntax} {s : List ℕ} {i next : ℕ} {last : Sign} → IsUtf8 s → i ≤ length s → EndsAt x s LineStatement i last next → IsCharBoundary s next
+pub line_cut : {x : Syntax} {s : List ℕ} {i next : ℕ} {last : Trim} → IsUtf8 s → i ≤ length s → EndsAt x s LineStatement i last next → IsCharBoundary s next
 line_cut {s = s} {i = i} source within (line_end over n) = subst (λ m. IsCharBoundary s m) (sym n) (newline_behind s i source within over)
 
-pub delimited_cut : (s end : List ℕ) (i : ℕ) (r : Option (Sign × ℕ)) → FindsDelimitedEnd s end i r → IsUtf8 end → IsSet end →
+pub delimited_cut : (s end : List ℕ) (i : ℕ) (r : Option (Trim × ℕ)) → FindsDelimitedEnd s end i r → IsUtf8 end → IsSet end →
     IfSome r (λ p. IsUtf8 s → IsCharBoundary s (p.1))
 delimited_cut s end i None none utf8 set = tt
 delimited_cut s end i (Some p) found utf8 set = λ source. end_cut source utf8 set (found.1)
 
-pub line_end_cut : (x : Syntax) (s : List ℕ) (i : ℕ) (r : Option (Sign × ℕ)) → i ≤ length s → FindsEnd x s LineStatement i r →
+pub line_end_cut : (x : Syntax) (s : List ℕ) (i : ℕ) (r : Option (Trim × ℕ)) → i ≤ length s → FindsEnd x s LineStatement i r →
     IfSome r (λ p. IsUtf8 s → IsCharBoundary s (p.1))
 line_end_cut x s i None within none = tt
 line_end_cut x s i (Some p) within over = λ source. line_cut source within over

@@ -6,8 +6,8 @@ use Rattle.std.specs.Char.{is_ascii_whitespace}
 use Rattle.template_compiler_syntax.specs.declared.StartMarker.{StartMarker}
 use Rattle.template_compiler_syntax.specs.declared.StartMarker.TheVariants.{Variable, Block, Comment, LineStatement, LineComment}
 use Rattle.template_compiler_syntax.specs.Syntax.{Syntax}
-use Rattle.template_compiler_syntax.specs.declared.edges.Sign.{Sign}
-use Rattle.template_compiler_syntax.specs.declared.edges.Sign.TheVariants.{Plain}
+use Rattle.template_compiler_syntax.specs.declared.edges.Trim.{Trim}
+use Rattle.template_compiler_syntax.specs.declared.edges.Trim.TheVariants.{Plain}
 use Rattle.template_compiler_syntax.specs.Places.{sign_at, newline_len}
 use Rattle.template_compiler_syntax.specs.Segments.{IsEnd, EndsAt, print_end, block_end, IsOver, Ending, HasInside, ended, blank}
 use Rattle.template_compiler_tokens.specs.Token.{Token}
@@ -20,25 +20,25 @@ use Rattle.template_compiler_placed_tokens.specs.Finds.{FindsDelimitedEnd, Finds
 pub sign_past : (s : List ℕ) (i : ℕ) → length s ≤ i → sign_at s i ≡ Plain
 sign_past s i past = rw (get_or_past s i 0 past) refl
 
-pub print_ends : {x : Syntax} {s : List ℕ} {i next : ℕ} {last : Sign} → EndsAt x s Variable i last next →
+pub print_ends : {x : Syntax} {s : List ℕ} {i next : ℕ} {last : Trim} → EndsAt x s Variable i last next →
     (is_ascii_whitespace (slice_index s i) ≡ false) × IsEnd s (x.variable_end) i last next
 print_ends (print_end black end) = (black, end)
 
-pub block_ends : {x : Syntax} {s : List ℕ} {i next : ℕ} {last : Sign} → EndsAt x s Block i last next →
+pub block_ends : {x : Syntax} {s : List ℕ} {i next : ℕ} {last : Trim} → EndsAt x s Block i last next →
     (is_ascii_whitespace (slice_index s i) ≡ false) × IsEnd s (x.block_end) i last next
 block_ends (block_end black end) = (black, end)
 
-pub no_comment_end : {x : Syntax} {s : List ℕ} {i next : ℕ} {last : Sign} → EndsAt x s Comment i last next → ⊥
+pub no_comment_end : {x : Syntax} {s : List ℕ} {i next : ℕ} {last : Trim} → EndsAt x s Comment i last next → ⊥
 no_comment_end over = elim over [ ]
 
-pub no_line_comment_end : {x : Syntax} {s : List ℕ} {i next : ℕ} {last : Sign} → EndsAt x s LineComment i last next → ⊥
+pub no_line_comment_end : {x : Syntax} {s : List ℕ} {i next : ℕ} {last : Trim} → EndsAt x s LineComment i last next → ⊥
 no_line_comment_end over = elim over [ ]
 
-pub finds_print_end : (x : Syntax) (s : List ℕ) (i : ℕ) (r : Option (Sign × ℕ)) → FindsDelimitedEnd s (x.variable_end) i r → FindsEnd x s Variable i r
+pub finds_print_end : (x : Syntax) (s : List ℕ) (i : ℕ) (r : Option (Trim × ℕ)) → FindsDelimitedEnd s (x.variable_end) i r → FindsEnd x s Variable i r
 finds_print_end x s i None none = λ h. (let ends = print_ends (h.2) in none (h.0) (h.1) (ends.0) (ends.1))
 finds_print_end x s i (Some p) end = print_end (end.0) (end.1)
 
-pub finds_block_end : (x : Syntax) (s : List ℕ) (i : ℕ) (r : Option (Sign × ℕ)) → FindsDelimitedEnd s (x.block_end) i r → FindsEnd x s Block i r
+pub finds_block_end : (x : Syntax) (s : List ℕ) (i : ℕ) (r : Option (Trim × ℕ)) → FindsDelimitedEnd s (x.block_end) i r → FindsEnd x s Block i r
 finds_block_end x s i None none = λ h. (let ends = block_ends (h.2) in none (h.0) (h.1) (ends.0) (ends.1))
 finds_block_end x s i (Some p) end = block_end (end.0) (end.1)
 
@@ -60,14 +60,14 @@ white_no_block_end x s i white h = false≢true (sym ((block_ends (h.2)).0) ∙ 
 pub line_goes_on : (x : Syntax) (s : List ℕ) (i : ℕ) → newline_len s i ≡ 0 → i < length s → FindsEnd x s LineStatement i None
 line_goes_on x s i none within h = elim (line_has_end (h.2)) [ inl newline ↦ omega arith | inr past ↦ omega arith ]
 
-pub at_kind : (x : Syntax) (s : List ℕ) (i : ℕ) {k l : StartMarker} (r : Option (Sign × ℕ)) → k ≡ l → FindsEnd x s l i r → FindsEnd x s k i r
+pub at_kind : (x : Syntax) (s : List ℕ) (i : ℕ) {k l : StartMarker} (r : Option (Trim × ℕ)) → k ≡ l → FindsEnd x s l i r → FindsEnd x s k i r
 at_kind x s i r e h = subst (λ m. FindsEnd x s m i r) (sym e) h
 
 -- what stands inside from a place on stands there from another one on
 abbrev pub Lifts : Syntax → List ℕ → StartMarker → ℕ → ℕ → ℕ → Type 0
 Lifts x s k d i from = (tokens : List Token) (ending : Ending) → HasInside x s k d i tokens ending → HasInside x s k d from tokens ending
 
-pub place_ended : (x : Syntax) (s b : List ℕ) (k : StartMarker) (d i from next : ℕ) (last : Sign) → b ≡ s → d ≡ 0 → Lifts x b k d i from →
+pub place_ended : (x : Syntax) (s b : List ℕ) (k : StartMarker) (d i from next : ℕ) (last : Trim) → b ≡ s → d ≡ 0 → Lifts x b k d i from →
     EndsAt x b k i last next → HasInside x s k d from [] (Some (last, next))
 place_ended x s b k d i from next last e zero' lifts over =
     subst (λ t. HasInside x t k d from [] (Some (last, next))) e

@@ -7,8 +7,8 @@ use Rattle.std.specs.Str.{IsUtf8, IsCharBoundary}
 use Rattle.template_compiler_syntax.specs.declared.StartMarker.{StartMarker}
 use Rattle.template_compiler_syntax.specs.declared.StartMarker.TheVariants.{Variable, Block, Comment, LineStatement, LineComment}
 use Rattle.template_compiler_syntax.specs.Syntax.{Syntax, IsSet}
-use Rattle.template_compiler_syntax.specs.declared.edges.Sign.{Sign}
-use Rattle.template_compiler_syntax.specs.declared.edges.Sign.TheVariants.{Plain}
+use Rattle.template_compiler_syntax.specs.declared.edges.Trim.{Trim}
+use Rattle.template_compiler_syntax.specs.declared.edges.Trim.TheVariants.{Plain}
 use Rattle.template_compiler_syntax.specs.Places.{sign_of, newline_len}
 use Rattle.template_compiler_syntax.specs.Segments.{IsEnd, EndsAt, bare_end, signed_end, line_end}
 use Rattle.template_compiler_syntax.proofs.Searches.{newline_at}
@@ -30,7 +30,7 @@ plain_sign b text other =
     let plus : (b == 43) ≡ false = false_from_ne_true (b == 43) (λ t. other.plus (eqb-true b 43 t)) in
     rw (minus, plus) refl
 
-no_end_by : {s text : List ℕ} {i next : ℕ} {last : Sign} → IsSet text → IsOther (slice_index s i) text → IsEnd s text i last next → ⊥
+no_end_by : {s text : List ℕ} {i next : ℕ} {last : Trim} → IsSet text → IsOther (slice_index s i) text → IsEnd s text i last next → ⊥
 no_end_by {s = s} {text = text} {i = i} set other (bare_end stands n) = other.first (stands_first s text i set stands)
 no_end_by {s = s} {text = text} {i = i} set other (signed_end none stands l sign n) = sign (l ∙ plain_sign (slice_index s i) text other)
 
@@ -53,7 +53,7 @@ ends_not x s text LineStatement i is black within other =
     ]
 
 -- the end delimiter was looked for, or found none
-pub finds_delimited : (x : Syntax) (s text : List ℕ) (k : StartMarker) (i : ℕ) (r : Option (Sign × ℕ)) → (k ≡ Variable) ⊎ (k ≡ Block) → IsEndText x k text →
+pub finds_delimited : (x : Syntax) (s text : List ℕ) (k : StartMarker) (i : ℕ) (r : Option (Trim × ℕ)) → (k ≡ Variable) ⊎ (k ≡ Block) → IsEndText x k text →
     FindsDelimitedEnd s text i r → FindsEnd x s k i r
 finds_delimited x s text Variable i r kind is found = finds_print_end x s i r (subst (λ t. FindsDelimitedEnd s t i r) is.0 found)
 finds_delimited x s text Block i r kind is found = finds_block_end x s i r (subst (λ t. FindsDelimitedEnd s t i r) is.0 found)
@@ -61,7 +61,7 @@ finds_delimited x s text Comment i r kind is found = elim kind [ inl e ↦ absur
 finds_delimited x s text LineStatement i r kind is found = elim kind [ inl e ↦ absurd cc | inr e ↦ absurd cc ]
 finds_delimited x s text LineComment i r kind is found = elim kind [ inl e ↦ absurd cc | inr e ↦ absurd cc ]
 
-pub finds_delimited_cut : (x : Syntax) (s text : List ℕ) (k : StartMarker) (i : ℕ) (r : Option (Sign × ℕ)) → (k ≡ Variable) ⊎ (k ≡ Block) → IsEndText x k text →
+pub finds_delimited_cut : (x : Syntax) (s text : List ℕ) (k : StartMarker) (i : ℕ) (r : Option (Trim × ℕ)) → (k ≡ Variable) ⊎ (k ≡ Block) → IsEndText x k text →
     FindsDelimitedEnd s text i r → IsUtf8 text → IfSome r (λ p. IsUtf8 s → IsCharBoundary s (p.1))
 finds_delimited_cut x s text Variable i r kind is found utf8 = delimited_cut s text i r found utf8 (is.1)
 finds_delimited_cut x s text Block i r kind is found utf8 = delimited_cut s text i r found utf8 (is.1)
@@ -69,15 +69,15 @@ finds_delimited_cut x s text Comment i r kind is found utf8 = elim kind [ inl e 
 finds_delimited_cut x s text LineStatement i r kind is found utf8 = elim kind [ inl e ↦ absurd cc | inr e ↦ absurd cc ]
 finds_delimited_cut x s text LineComment i r kind is found utf8 = elim kind [ inl e ↦ absurd cc | inr e ↦ absurd cc ]
 
-pub open_end : (x : Syntax) (s : List ℕ) (k : StartMarker) (d i : ℕ) (r : Option (Sign × ℕ)) → d ≡ 0 → FindsEnd x s k i r → FindsOpenEnd x s k d i r
+pub open_end : (x : Syntax) (s : List ℕ) (k : StartMarker) (d i : ℕ) (r : Option (Trim × ℕ)) → d ≡ 0 → FindsEnd x s k i r → FindsOpenEnd x s k d i r
 open_end x s k d i None e none = λ _. none
 open_end x s k d i (Some p) e over = (e, over)
 
 -- a line statement ends without a sign
-plain_line : {x : Syntax} {s : List ℕ} {i next : ℕ} {last : Sign} → EndsAt x s LineStatement i last next → last ≡ Plain
+plain_line : {x : Syntax} {s : List ℕ} {i next : ℕ} {last : Trim} → EndsAt x s LineStatement i last next → last ≡ Plain
 plain_line (line_end over n) = refl
 
-pub plain_end : (x : Syntax) (s : List ℕ) (k : StartMarker) (d i next : ℕ) (last : Sign) → k ≡ LineStatement → d ≡ 0 → FindsEnd x s LineStatement i (Some (last, next)) →
+pub plain_end : (x : Syntax) (s : List ℕ) (k : StartMarker) (d i next : ℕ) (last : Trim) → k ≡ LineStatement → d ≡ 0 → FindsEnd x s LineStatement i (Some (last, next)) →
     FindsPlainEnd x s k d i (Some next)
 plain_end x s k d i next last kind e over =
     (e, subst (λ m. EndsAt x s m i Plain next) (sym kind) (subst (λ l. EndsAt x s LineStatement i l next) (plain_line over) over))

@@ -1,6 +1,6 @@
 -- What is known of start markers stays known further on.
 use Rattle.std.proofs.Common.{ℕ, ◌≤◌, List, [], Some, arith}
-use Rattle.template_compiler_syntax.specs.declared.edges.Sign.{Sign}
+use Rattle.template_compiler_syntax.specs.declared.edges.Trim.{Trim}
 use Rattle.template_compiler_syntax.specs.Segments.{bare_end, signed_end, EndsAt, print_end, block_end, line_end, HasInside, ended, blank}
 use Rattle.template_compiler_syntax.specs.declared.StartMarker.{StartMarker}
 use Rattle.template_compiler_syntax.specs.Syntax.{Syntax}
@@ -24,7 +24,7 @@ knows_later x s from next finder h knows = record {
   line_comment = known_later x s from next _ _ h (knows.line_comment);
 }
 
-pub ends_ahead : {x : Syntax} {s : List ℕ} {k : StartMarker} {i next : ℕ} {last : Sign} → EndsAt x s k i last next → i ≤ next
+pub ends_ahead : {x : Syntax} {s : List ℕ} {k : StartMarker} {i next : ℕ} {last : Trim} → EndsAt x s k i last next → i ≤ next
 ends_ahead (print_end black (bare_end stands n)) = omega arith
 ends_ahead (print_end black (signed_end none stands l sign n)) = omega arith
 ends_ahead (block_end black (bare_end stands n)) = omega arith
@@ -32,6 +32,6 @@ ends_ahead (block_end black (signed_end none stands l sign n)) = omega arith
 ends_ahead (line_end over n) = omega arith
 
 -- what follows a segment's end stands no further back
-pub inside_ahead : {x : Syntax} {s : List ℕ} {k : StartMarker} {d i : ℕ} {p : Sign × ℕ} → HasInside x s k d i [] (Some p) → i ≤ p.1
+pub inside_ahead : {x : Syntax} {s : List ℕ} {k : StartMarker} {d i : ℕ} {p : Trim × ℕ} → HasInside x s k d i [] (Some p) → i ≤ p.1
 inside_ahead (ended over) = ends_ahead over
 inside_ahead (blank none white rest) = let more = inside_ahead rest in omega arith

@@ -7,12 +7,12 @@ use Rattle.template_compiler_syntax.specs.Syntax.{Syntax}
 use Rattle.template_compiler_tokens.specs.Token.{Token, TokenFault, bad}
 use Rattle.template_compiler_tokens.specs.Lexical.{IsToken}
 use Rattle.template_compiler_tokens.proofs.OneToken.{one_token}
-use Rattle.template_compiler_syntax.specs.declared.edges.Sign.{Sign}
+use Rattle.template_compiler_syntax.specs.declared.edges.Trim.{Trim}
 use Rattle.template_compiler_syntax.specs.Segments.{EndsAt, IsOver, is_bad, Ending, HasInside, ended, blank, token, no_token}
 use Rattle.template_compiler_syntax.proofs.One.{one_over}
 use Rattle.template_compiler_placed_tokens.specs.Left.{placed_in}
 
-over_at : {x : Syntax} {s : List ℕ} {k : StartMarker} {i j next : ℕ} {last : Sign} → i ≡ j →
+over_at : {x : Syntax} {s : List ℕ} {k : StartMarker} {i j next : ℕ} {last : Trim} → i ≡ j →
     EndsAt x s k i last next → IsOver x s k j
 over_at {x = x} {s = s} {k = k} {next = next} {last = last} e over =
     (last, next, subst (λ n. EndsAt x s k n last next) e over)

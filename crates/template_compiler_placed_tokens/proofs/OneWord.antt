@@ -15,7 +15,7 @@ use Rattle.template_compiler_tokens.specs.Numbers.{number_at}
 use Rattle.template_compiler_tokens.specs.Lexical.{is_name_start, is_name_part, BeginsAs, Begins, IsToken, token_at, class_of, Class, name_class, number_class, text_class, sign_class}
 use Rattle.template_compiler_tokens.proofs.Ends.{number_or_none}
 use Rattle.template_compiler_tokens.proofs.OneToken.{one_token, some_token}
-use Rattle.template_compiler_syntax.specs.declared.edges.Sign.{Sign}
+use Rattle.template_compiler_syntax.specs.declared.edges.Trim.{Trim}
 use Rattle.template_compiler_syntax.specs.Segments.{Ending, HasInside, ended, blank, token, only, open_brackets}
 use Rattle.template_compiler_syntax.proofs.One.{one_inside}
 use Rattle.template_compiler_syntax.proofs.Pieces.{some_inside}
@@ -96,16 +96,16 @@ lowered x s k d i from tokens ending lifts h =
     let same = one_inside one_token (lifts (here.0) (here.1) (here.2)) h in
     subst (λ ts. HasInside x s k d i ts ending) (same.0) (subst (λ e. HasInside x s k d i (here.0) e) (same.1) (here.2))
 
-first_word : {x : Syntax} {s : List ℕ} {k : StartMarker} {d i : ℕ} {t : spec.Token} {p : Sign × ℕ} → is_ascii_whitespace (slice_index s i) ≡ false →
+first_word : {x : Syntax} {s : List ℕ} {k : StartMarker} {d i : ℕ} {t : spec.Token} {p : Trim × ℕ} → is_ascii_whitespace (slice_index s i) ≡ false →
     HasInside x s k d i (t ∷ []) (Some p) → (n : ℕ) × IsToken s i t n × HasInside x s k (open_brackets t d) n [] (Some p)
 first_word black (blank none white rest) = absurd (false≢true (sym black ∙ white))
 first_word black (token {n = n} none white t good rest) = (n, t, rest)
 
-no_end_here : {x : Syntax} {s : List ℕ} {k : StartMarker} {i : ℕ} {p : Sign × ℕ} → IsTokenPlace x s k 0 i → HasInside x s k 0 i [] (Some p) → ⊥
+no_end_here : {x : Syntax} {s : List ℕ} {k : StartMarker} {i : ℕ} {p : Trim × ℕ} → IsTokenPlace x s k 0 i → HasInside x s k 0 i [] (Some p) → ⊥
 no_end_here place (ended {next = next} {last = last} over) = place.none refl (last, next, over)
 no_end_here place (blank none white rest) = false≢true (sym (place.black) ∙ white)
 
-pub ends_at_once : (x : Syntax) (s : List ℕ) (from next : ℕ) (last : Sign) (word : List ℕ) → HasInside x s Block 0 from [] (Some (last, next)) →
+pub ends_at_once : (x : Syntax) (s : List ℕ) (from next : ℕ) (last : Trim) (word : List ℕ) → HasInside x s Block 0 from [] (Some (last, next)) →
     FindsWord x s from word None
 ends_at_once x s from next last word h = λ other after has. (let same = (one_inside one_token h has).0 in cc)
 
@@ -130,7 +130,7 @@ no_only_word x s rest from i word b e black lifts h may = λ last next has.
     let begins = begun_at (first.1) in
     false≢true (sym h ∙ may (begins.0) (subst (λ r. Begins r (identifier word) (begins.0)) (sym e) (begins.1)))
 
-pub word_here : (x : Syntax) (s rest : List ℕ) (from i width : ℕ) (word : List ℕ) (r : Option (Sign × ℕ)) → rest ≡ drop i s → IsTokenPlace x s Block 0 i →
+pub word_here : (x : Syntax) (s rest : List ℕ) (from i width : ℕ) (word : List ℕ) (r : Option (Trim × ℕ)) → rest ≡ drop i s → IsTokenPlace x s Block 0 i →
     Lifts x s Block 0 i from → Begins rest (identifier word) width → FindsEndBehind x s (i + width) r → FindsWord x s from word r
 word_here x s rest from i width word None e place lifts named none = λ last next h.
     let first = first_word (place.black) (lowered x s Block 0 i from (only word) (Some (last, next)) lifts h) in

@@ -12,7 +12,7 @@ use Rattle.template_compiler_tokens.specs.View.{token_of}
 use Rattle.template_compiler_tokens.specs.declared.token.Token.{Token}
 use Rattle.template_compiler_tokens.specs.declared.token.Token.TheVariants.{Plus}
 use Rattle.template_compiler_scanner.specs.Scans.{Scans}
-use Rattle.template_compiler_syntax.specs.declared.edges.Sign.{Sign}
+use Rattle.template_compiler_syntax.specs.declared.edges.Trim.{Trim}
 use Rattle.template_compiler_syntax.specs.Segments.{EndsAt, is_bad, open_brackets}
 use Rattle.template_compiler_placed_tokens.specs.Left.{placed, inside_tokens}
 use Rattle.template_compiler_placed_tokens.specs.Finds.{IsTokenPlace, IsNextEnd}
@@ -56,7 +56,7 @@ not_scanned x s rest k d i from kind e place same (inl fault) =
     )
 
 -- the segment's end is the next of the tokens
-pub next_end : (x : Syntax) (s b : List ℕ) (k : StartMarker) (d i from next : ℕ) (last : Sign) → b ≡ s → d ≡ 0 → from ≤ i → IsCharBoundary b i →
+pub next_end : (x : Syntax) (s b : List ℕ) (k : StartMarker) (d i from next : ℕ) (last : Trim) → b ≡ s → d ≡ 0 → from ≤ i → IsCharBoundary b i →
     inside_tokens x b k d from ≡ inside_tokens x b k d i → EndsAt x b k i last next → IsNextEnd x s k d from i next last
 next_end x s b k d i from next last e none low cut same over =
     subst (λ t. IsNextEnd x t k d from i next last) e (record {

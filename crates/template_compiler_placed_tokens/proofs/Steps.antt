@@ -12,8 +12,8 @@ use Rattle.template_compiler_tokens.specs.Lexical.{IsToken}
 use Rattle.template_compiler_tokens.proofs.OneToken.{one_token, some_token}
 use Rattle.template_compiler_syntax.specs.declared.edges.Edge.{Edge}
 use Rattle.template_compiler_syntax.specs.declared.edges.Edge.TheVariants.{Nothing, Beside}
-use Rattle.template_compiler_syntax.specs.declared.edges.Sign.{Sign}
-use Rattle.template_compiler_syntax.specs.declared.edges.Sign.TheVariants.{Plain, Minus, Plus}
+use Rattle.template_compiler_syntax.specs.declared.edges.Trim.{Trim}
+use Rattle.template_compiler_syntax.specs.declared.edges.Trim.TheVariants.{Plain, Minus, Plus}
 use Rattle.template_compiler_syntax.specs.Places.{stretch, IsFirst, IsNowhere, IsLineEnd, newline_len, is_first_on_line}
 use Rattle.template_compiler_syntax.specs.Segments.{HasNoStart, IsNextStart, start_sign, inside_from, EndsAt, IsOver, open_brackets, is_bad, Ending, HasInside, ended, blank, token, no_token, HoldsInside, only, IsRawEnd, comment_sign, IsCommentEnd, Piece, data_piece, endless_piece, IsSegment, print_segment, block_segment, raw_segment, comment_segment, line_statement_segment, line_comment_segment, IsEndless, endless_print, endless_block, endless_line_statement, endless_raw, endless_comment, HasPieces, no_start, next_start, endless_start}
 use Rattle.template_compiler_syntax.specs.Stripping.{stripped, stripped_from, stripped_to, with_data, with_stripped, next_edge, less_blanks, past_newline}
@@ -66,7 +66,7 @@ module _ (x : Syntax) (s : List ℕ) where
       ap (λ e. inside_of x s k d i ++ behind_ending x s k e) ends
 
   -- the segment ends
-  pub inside_over : (k : StartMarker) (i next : ℕ) (last : Sign) → EndsAt x s k i last next →
+  pub inside_over : (k : StartMarker) (i next : ℕ) (last : Trim) → EndsAt x s k i last next →
       inside_tokens x s k 0 i ≡ placed (end_token k) i next ∷ data_tokens x s (Beside k last) next
   inside_over k i next last over = inside_is (ended over)
 
@@ -273,7 +273,7 @@ module _ (x : Syntax) (s : List ℕ) where
 
     -- the block's only word is not `raw`
     pub at_block : {i : ℕ} → IsNextStart x s i i Block →
-        ((last : Sign) (next : ℕ) → HoldsInside x s Block i (only (codes "raw")) (Some (last, next)) → ⊥) →
+        ((last : Trim) (next : ℕ) → HoldsInside x s Block i (only (codes "raw")) (Some (last, next)) → ⊥) →
         data_tokens x s Nothing i ≡ placed_start x s Block i ∷ inside_tokens x s Block 0 (inside_from x s Block i)
     at_block {i = i} start other =
         let inside = some_inside one_token some_token takes_bytes x s Block 0 (inside_from x s Block i) in
@@ -287,7 +287,7 @@ module _ (x : Syntax) (s : List ℕ) where
             ap (λ ts. placed_start x s Block i ∷ ts) (sym (ended_inside h))
 
     -- raw data, and what follows its end
-    pub at_raw : {i from to next : ℕ} {inner last : Sign} (text : List ℕ) → IsNextStart x s i i Block →
+    pub at_raw : {i from to next : ℕ} {inner last : Trim} (text : List ℕ) → IsNextStart x s i i Block →
         HoldsInside x s Block i (only (codes "raw")) (Some (inner, from)) → IsFirst (IsRawEnd x s) from to →
         HoldsInside x s Block to (only (codes "endraw")) (Some (last, next)) →
         text ≡ stretch s (stripped_from x s (Beside Block inner) from to)
@@ -305,7 +305,7 @@ module _ (x : Syntax) (s : List ℕ) where
           | inr some ↦ inr (some.0, whole ∙ some.1, some.2)
         ]
 
-    pub at_endless_raw : {i from : ℕ} {inner : Sign} → IsNextStart x s i i Block →
+    pub at_endless_raw : {i from : ℕ} {inner : Trim} → IsNextStart x s i i Block →
         HoldsInside x s Block i (only (codes "raw")) (Some (inner, from)) → IsNowhere (IsRawEnd x s) from →
         data_tokens x s Nothing i ≡ placed (bad bad_syntax) i i ∷ []
     at_endless_raw start h none = at_endless start (endless_raw h none)

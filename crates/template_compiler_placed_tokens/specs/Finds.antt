@@ -7,8 +7,8 @@ use Rattle.template_compiler_syntax.specs.Syntax.{Syntax}
 use Rattle.template_compiler_syntax.specs.declared.StartMarker.TheVariants.{Block}
 use Rattle.template_compiler_tokens.specs.Token.{Token}
 use Rattle.template_compiler_tokens.specs.Lexical.{is_name_start}
-use Rattle.template_compiler_syntax.specs.declared.edges.Sign.{Sign}
-use Rattle.template_compiler_syntax.specs.declared.edges.Sign.TheVariants.{Plain}
+use Rattle.template_compiler_syntax.specs.declared.edges.Trim.{Trim}
+use Rattle.template_compiler_syntax.specs.declared.edges.Trim.TheVariants.{Plain}
 use Rattle.template_compiler_syntax.specs.declared.edges.Edge.TheVariants.{Beside}
 use Rattle.template_compiler_syntax.specs.Segments.{IsEnd, EndsAt, IsOver, Ending, HasInside, HoldsInside, only, IsRawEnd}
 use Rattle.template_compiler_syntax.specs.Places.{IsFirst, IsNowhere}
@@ -17,22 +17,22 @@ use Rattle.template_compiler_placed_tokens.specs.declared.inside.Found.{Found}
 use Rattle.template_compiler_placed_tokens.specs.declared.inside.Found.TheVariants.{End, Token as Other}
 
 -- the end delimiter stands at the place, perhaps with a sign, and ends there; or it doesn't
-abbrev pub FindsDelimiter : List ℕ → List ℕ → ℕ → Option (Sign × ℕ) → Type 0
-FindsDelimiter s end i None = (last : Sign) (next : ℕ) → IsEnd s end i last next → ⊥
+abbrev pub FindsDelimiter : List ℕ → List ℕ → ℕ → Option (Trim × ℕ) → Type 0
+FindsDelimiter s end i None = (last : Trim) (next : ℕ) → IsEnd s end i last next → ⊥
 FindsDelimiter s end i (Some p) = IsEnd s end i (p.0) (p.1)
 
 -- the same at a token's place, where no white space stands
-abbrev pub FindsDelimitedEnd : List ℕ → List ℕ → ℕ → Option (Sign × ℕ) → Type 0
-FindsDelimitedEnd s end i None = (last : Sign) (next : ℕ) → is_ascii_whitespace (slice_index s i) ≡ false → IsEnd s end i last next → ⊥
+abbrev pub FindsDelimitedEnd : List ℕ → List ℕ → ℕ → Option (Trim × ℕ) → Type 0
+FindsDelimitedEnd s end i None = (last : Trim) (next : ℕ) → is_ascii_whitespace (slice_index s i) ≡ false → IsEnd s end i last next → ⊥
 FindsDelimitedEnd s end i (Some p) = (is_ascii_whitespace (slice_index s i) ≡ false) × IsEnd s end i (p.0) (p.1)
 
 -- the segment ends at the place; or it doesn't
-abbrev pub FindsEnd : Syntax → List ℕ → StartMarker → ℕ → Option (Sign × ℕ) → Type 0
+abbrev pub FindsEnd : Syntax → List ℕ → StartMarker → ℕ → Option (Trim × ℕ) → Type 0
 FindsEnd x s k i None = IsOver x s k i → ⊥
 FindsEnd x s k i (Some p) = EndsAt x s k i (p.0) (p.1)
 
 -- the same where so many brackets are open: it ends where none is
-abbrev pub FindsOpenEnd : Syntax → List ℕ → StartMarker → ℕ → ℕ → Option (Sign × ℕ) → Type 0
+abbrev pub FindsOpenEnd : Syntax → List ℕ → StartMarker → ℕ → ℕ → Option (Trim × ℕ) → Type 0
 FindsOpenEnd x s k d i None = d ≡ 0 → IsOver x s k i → ⊥
 FindsOpenEnd x s k d i (Some p) = (d ≡ 0) × EndsAt x s k i (p.0) (p.1)
 
@@ -47,7 +47,7 @@ pub record IsTokenPlace (x : Syntax) (s : List ℕ) (k : StartMarker) (d i : ℕ
   pub black : is_ascii_whitespace (slice_index s i) ≡ false
 
 -- the segment's end stands at the place, and is the next of the tokens
-pub record IsNextEnd (x : Syntax) (s : List ℕ) (k : StartMarker) (d from i next : ℕ) (last : Sign) : Type 0 where
+pub record IsNextEnd (x : Syntax) (s : List ℕ) (k : StartMarker) (d from i next : ℕ) (last : Trim) : Type 0 where
   pub low : from ≤ i
   pub high : i ≤ next
   pub cut : IsCharBoundary s i
@@ -66,16 +66,16 @@ abbrev pub IsName : List ℕ → Type 0
 IsName word = is_name_start (slice_index word 0) ≡ true
 
 -- the block has no further word, and ends so; or it has one
-abbrev pub FindsEndBehind : Syntax → List ℕ → ℕ → Option (Sign × ℕ) → Type 0
-FindsEndBehind x s from None = (last : Sign) (next : ℕ) → HasInside x s Block 0 from [] (Some (last, next)) → ⊥
+abbrev pub FindsEndBehind : Syntax → List ℕ → ℕ → Option (Trim × ℕ) → Type 0
+FindsEndBehind x s from None = (last : Trim) (next : ℕ) → HasInside x s Block 0 from [] (Some (last, next)) → ⊥
 FindsEndBehind x s from (Some p) = HasInside x s Block 0 from [] (Some (p.0, p.1))
 
 -- this is the block's only word, and the block ends so; or it isn't
-abbrev pub FindsWord : Syntax → List ℕ → ℕ → List ℕ → Option (Sign × ℕ) → Type 0
-FindsWord x s from word None = (last : Sign) (next : ℕ) → HasInside x s Block 0 from (only word) (Some (last, next)) → ⊥
+abbrev pub FindsWord : Syntax → List ℕ → ℕ → List ℕ → Option (Trim × ℕ) → Type 0
+FindsWord x s from word None = (last : Trim) (next : ℕ) → HasInside x s Block 0 from (only word) (Some (last, next)) → ⊥
 FindsWord x s from word (Some p) = HasInside x s Block 0 from (only word) (Some (p.0, p.1))
 
 -- the first block from the place on that ends raw data, and how it ends; or there is none
-abbrev pub FindsRawEnd : Syntax → List ℕ → ℕ → Option (ℕ × Sign × ℕ) → Type 0
+abbrev pub FindsRawEnd : Syntax → List ℕ → ℕ → Option (ℕ × Trim × ℕ) → Type 0
 FindsRawEnd x s from None = IsNowhere (IsRawEnd x s) from
 FindsRawEnd x s from (Some p) = IsFirst (IsRawEnd x s) from (p.0) × HoldsInside x s Block (p.0) (only (codes "endraw")) (Some (p.1, p.2))

@@ -13,7 +13,7 @@ use crate::stage::Stage;
 use crate::starts::inside_from;
 use crate::words::{find_raw_end, only_word};
 use template_compiler_syntax::{
-    Edge, Sign, StartFinder, StartMarker, SyntaxConfig, comment_sign, data_start, data_text,
+    Edge, StartFinder, StartMarker, SyntaxConfig, Trim, comment_sign, data_start, data_text,
     find_line_end, find_text, is_first_on_line, newline_len, start_sign,
 };
 use template_compiler_tokens::Token;
@@ -199,7 +199,7 @@ fn enter_raw<'source>(
     source: &'source str,
     syntax: &SyntaxConfig,
     start: usize,
-    inner: Sign,
+    inner: Trim,
     from: usize,
 ) -> Result<Step<'source>, ErrorKind>
     requires usable { IsUsable syntax.now }
@@ -237,7 +237,7 @@ pub struct RawData<'source> {
     /// Where it begins.
     pub begin: usize,
     /// The sign of the end of the block that ends it.
-    pub last: Sign,
+    pub last: Trim,
     /// The place behind that block.
     pub next: usize,
 }
@@ -247,7 +247,7 @@ pub struct RawData<'source> {
 pub fn raw_data<'source>(
     source: &'source str,
     syntax: &SyntaxConfig,
-    inner: Sign,
+    inner: Trim,
     from: usize,
 ) -> Option<RawData<'source>>
     requires usable { IsUsable syntax.now }
@@ -310,7 +310,7 @@ fn enter_line_comment<'source>(
     let bytes = source.as_bytes();
     let inside = inside_from(source, syntax, StartMarker::LineComment, start);
     let end = find_line_end(bytes, inside);
-    let edge = Edge::Beside(StartMarker::LineComment, Sign::Plain);
+    let edge = Edge::Beside(StartMarker::LineComment, Trim::Plain);
     if is_first_on_line(bytes, start) {
         Ok(Step::Passes(edge, end + newline_len(bytes, end)))
     } else {

@@ -6,7 +6,7 @@ ghost use Rattle.template_compiler_syntax.specs.Syntax.{Syntax};
 ghost use Rattle.template_compiler_placed_tokens.specs.Finds.{FindsDelimiter, FindsDelimitedEnd, FindsEnd, FindsOpenEnd, FindsPlainEnd};
 ghost use Rattle.template_compiler_placed_tokens.specs.Ends.{IsEndText, IsSegmentEnd};
 
-use template_compiler_syntax::{Sign, StartMarker, SyntaxConfig, newline_len, stands_at};
+use template_compiler_syntax::{StartMarker, SyntaxConfig, Trim, newline_len, stands_at};
 
 /// Whether white space that parts tokens stands at the place.
 pub fn is_white_at(bytes: &[u8], place: usize) -> bool
@@ -87,7 +87,7 @@ pub(crate) fn black_end_at(
     end: SegmentEnd,
     depth: usize,
     place: usize,
-) -> Option<(Sign, usize)>
+) -> Option<(Trim, usize)>
     requires within { place ≤ length bytes.now }
     requires end { IsSegmentEnd end }
     requires black { white (slice_index bytes.now place) ≡ false }
@@ -107,7 +107,7 @@ pub(crate) fn blank_end_at(
     end: SegmentEnd,
     depth: usize,
     place: usize,
-) -> Option<(Sign, usize)>
+) -> Option<(Trim, usize)>
     requires within { place ≤ length bytes.now }
     requires blank { white (slice_index bytes.now place) ≡ true }
     ensures found { FindsOpenEnd end.entry.syntax.now bytes.now end.entry.kind depth place result }
@@ -117,7 +117,7 @@ pub(crate) fn blank_end_at(
         return None;
     }
     match newline_end_at(bytes, end, depth, place) {
-        Some(next) => Some((Sign::Plain, next)),
+        Some(next) => Some((Trim::Plain, next)),
         None => None,
     }
 }
@@ -155,7 +155,7 @@ fn newline_end_at(bytes: &[u8], end: SegmentEnd, depth: usize, place: usize) -> 
 
 // The same at any place.
 #[inline(always)]
-fn open_end_at(bytes: &[u8], end: SegmentEnd, depth: usize, place: usize) -> Option<(Sign, usize)>
+fn open_end_at(bytes: &[u8], end: SegmentEnd, depth: usize, place: usize) -> Option<(Trim, usize)>
     requires within { place ≤ length bytes.now }
     requires end { IsSegmentEnd end }
     ensures found { FindsOpenEnd end.entry.syntax.now bytes.now end.entry.kind depth place result }
@@ -170,7 +170,7 @@ fn open_end_at(bytes: &[u8], end: SegmentEnd, depth: usize, place: usize) -> Opt
 
 // The sign of the segment's end that stands at the place, and the place behind that end.
 #[inline(always)]
-fn end_at(bytes: &[u8], end: SegmentEnd, place: usize) -> Option<(Sign, usize)>
+fn end_at(bytes: &[u8], end: SegmentEnd, place: usize) -> Option<(Trim, usize)>
     requires within { place ≤ length bytes.now }
     requires end { IsSegmentEnd end }
     ensures found { FindsEnd end.entry.syntax.now bytes.now end.entry.kind place result }
@@ -187,7 +187,7 @@ fn end_at(bytes: &[u8], end: SegmentEnd, place: usize) -> Option<(Sign, usize)>
 
 // The end delimiter at a token's place. Few places have one, and so white space is asked for behind it.
 #[inline(always)]
-fn delimited_end_at(bytes: &[u8], end: &[u8], place: usize) -> Option<(Sign, usize)>
+fn delimited_end_at(bytes: &[u8], end: &[u8], place: usize) -> Option<(Trim, usize)>
     requires { place ≤ length bytes.now }
     ensures { FindsDelimitedEnd bytes.now end.now place result }
 {
@@ -203,33 +203,33 @@ fn delimited_end_at(bytes: &[u8], end: &[u8], place: usize) -> Option<(Sign, usi
     }
 }
 
-fn line_end_at(bytes: &[u8], place: usize) -> Option<(Sign, usize)>
+fn line_end_at(bytes: &[u8], place: usize) -> Option<(Trim, usize)>
     requires { place ≤ length bytes.now }
     ensures { (x : Syntax) → FindsEnd x bytes.now StartMarker.LineStatement place result }
 {
     let width = newline_len(bytes, place);
     if width > 0 {
-        Some((Sign::Plain, place + width))
+        Some((Trim::Plain, place + width))
     } else if place < bytes.len() {
         None
     } else {
-        Some((Sign::Plain, place))
+        Some((Trim::Plain, place))
     }
 }
 
 #[inline(always)]
-fn delimiter_at(bytes: &[u8], end: &[u8], place: usize) -> Option<(Sign, usize)>
+fn delimiter_at(bytes: &[u8], end: &[u8], place: usize) -> Option<(Trim, usize)>
     requires { place ≤ length bytes.now }
     ensures { FindsDelimiter bytes.now end.now place result }
 {
     if stands_at(bytes, place, end) {
-        return Some((Sign::Plain, place + end.len()));
+        return Some((Trim::Plain, place + end.len()));
     }
     if place >= bytes.len() {
         return None;
     }
-    match Sign::at(bytes, place) {
-        Sign::Plain => None,
+    match Trim::at(bytes, place) {
+        Trim::Plain => None,
         sign => {
             if stands_at(bytes, place + 1, end) {
                 Some((sign, place + 1 + end.len()))

@@ -12,7 +12,7 @@ use crate::ends::{SegmentEnd, black_end_at, blank_end_at, is_white_at};
 use crate::stage::Stage;
 use std::alloc::Global;
 use template_compiler_scanner::scan_token;
-use template_compiler_syntax::{Edge, Sign, StartMarker, SyntaxConfig};
+use template_compiler_syntax::{Edge, StartMarker, SyntaxConfig, Trim};
 use template_compiler_tokens::Token;
 use template_values_errors::ErrorKind;
 
@@ -20,7 +20,7 @@ use template_values_errors::ErrorKind;
 #[derive(Clone, Copy)]
 pub enum Found {
     /// The segment's end at the first place, with this sign; what follows the segment stands at the second.
-    End(usize, Sign, usize),
+    End(usize, Trim, usize),
     /// A token, or what is none, at the place.
     Token(usize),
 }

@@ -11,7 +11,7 @@ ghost use Rattle.template_compiler_syntax.specs.Segments.{inside_from as the_ins
 use crate::inside::{Found, next_place};
 use crate::starts::inside_from;
 use template_compiler_scanner::leading_name;
-use template_compiler_syntax::{Sign, StartMarker, SyntaxConfig, find_text};
+use template_compiler_syntax::{StartMarker, SyntaxConfig, Trim, find_text};
 
 /// The sign of a block's end, and the place behind it, if this name is the block's only word. Its inside begins at the place.
 #[inline(always)]
@@ -20,7 +20,7 @@ pub fn only_word(
     syntax: &SyntaxConfig,
     from: usize,
     word: &str,
-) -> Option<(Sign, usize)>
+) -> Option<(Trim, usize)>
     requires cut { IsCharBoundary source.now from }
     requires name { IsName word.now }
     ensures found { FindsWord syntax.now source.now from word.now result }
@@ -49,7 +49,7 @@ fn begins_with_name(text: &str, name: &str) -> bool
 
 // The end of a block behind white space.
 #[inline(always)]
-fn end_behind(source: &str, syntax: &SyntaxConfig, from: usize) -> Option<(Sign, usize)>
+fn end_behind(source: &str, syntax: &SyntaxConfig, from: usize) -> Option<(Trim, usize)>
     requires { IsCharBoundary source.now from }
     ensures found { FindsEndBehind syntax.now source.now from result }
     ensures cut { IfSome result (λ p. IsCharBoundary source.now p.1) }
@@ -72,7 +72,7 @@ pub(crate) fn find_raw_end(
     source: &str,
     syntax: &SyntaxConfig,
     from: usize,
-) -> Option<(usize, Sign, usize)>
+) -> Option<(usize, Trim, usize)>
     requires { from ≤ length source.now }
     ensures found { FindsRawEnd syntax.now source.now from result }
     ensures cut { IfSome result (λ p. IsCharBoundary source.now p.0 × IsCharBoundary source.now p.2) }
@@ -89,7 +89,7 @@ pub(crate) fn find_raw_end(
 }
 
 #[inline(always)]
-fn raw_end_at(source: &str, syntax: &SyntaxConfig, place: usize) -> Option<(Sign, usize)>
+fn raw_end_at(source: &str, syntax: &SyntaxConfig, place: usize) -> Option<(Trim, usize)>
     requires stands { StandsAt source.now place syntax.now.block_start }
     requires set { IsSet syntax.now.block_start }
     ensures found { FindsWord syntax.now source.now (the_inside_from syntax.now source.now StartMarker.Block place)

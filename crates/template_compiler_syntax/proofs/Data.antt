@@ -9,7 +9,7 @@ use Rattle.template_compiler_syntax.specs.declared.StartMarker.TheVariants.{Vari
 use Rattle.template_compiler_syntax.specs.Syntax.{Syntax}
 use Rattle.template_compiler_syntax.specs.declared.edges.Edge.{Edge}
 use Rattle.template_compiler_syntax.specs.declared.edges.Edge.TheVariants.{Nothing, Beside}
-use Rattle.template_compiler_syntax.specs.declared.edges.Sign.TheVariants.{Plain, Minus, Plus}
+use Rattle.template_compiler_syntax.specs.declared.edges.Trim.TheVariants.{Plain, Minus, Plus}
 use Rattle.template_compiler_syntax.specs.Places.{stretch, is_blank, blanks_from, is_first_on_line, newline_len}
 use Rattle.template_compiler_syntax.specs.Stripping.{stripped_from, stripped_to, past_newline, less_start, less_blanks, strips_blanks, is_minus}
 use Rattle.template_compiler_syntax.proofs.Searches.{newline_at}

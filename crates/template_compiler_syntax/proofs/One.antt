@@ -9,8 +9,8 @@ use Rattle.template_compiler_syntax.specs.Syntax.{Syntax, IsUsable, start_text}
 use Rattle.template_compiler_tokens.specs.Token.{Token, TokenFault, bad}
 use Rattle.template_compiler_tokens.specs.Lexical.{IsToken}
 use Rattle.template_compiler_syntax.specs.Places.{StandsAt, IsFirst, IsLineEnd, newline_len, is_first_on_line}
-use Rattle.template_compiler_syntax.specs.declared.edges.Sign.{Sign}
-use Rattle.template_compiler_syntax.specs.declared.edges.Sign.TheVariants.{Plain}
+use Rattle.template_compiler_syntax.specs.declared.edges.Trim.{Trim}
+use Rattle.template_compiler_syntax.specs.declared.edges.Trim.TheVariants.{Plain}
 use Rattle.template_compiler_syntax.specs.Segments.{HasStart, IsNextStart, HasNoStart, inside_from, IsEnd, bare_end, signed_end, EndsAt, print_end, block_end, line_end, IsOver, is_bad, Ending, HasInside, ended, blank, token, no_token, HoldsInside, only, IsRawEnd, comment_sign, IsCommentEnd, Piece, IsSegment, print_segment, block_segment, raw_segment, comment_segment, line_statement_segment, line_comment_segment, IsEndless, endless_print, endless_block, endless_line_statement, endless_raw, endless_comment, HasPieces, no_start, next_start, endless_start}
 
 -- at a place stands one token, with one end
@@ -27,7 +27,7 @@ one_first P from i j first second =
       ]
     ]
 
-one_end : {s end : List ℕ} {i j next next' : ℕ} {last last' : Sign} → i ≡ j →
+one_end : {s end : List ℕ} {i j next next' : ℕ} {last last' : Trim} → i ≡ j →
     IsEnd s end i last next → IsEnd s end j last' next' → (last ≡ last') × (next ≡ next')
 one_end e (bare_end stands n) (bare_end stands' n') = (refl, cc)
 one_end {s = s} {end = end} e (bare_end stands n) (signed_end none stands' l signed n') =
@@ -36,13 +36,13 @@ one_end {s = s} {end = end} e (signed_end none stands l signed n) (bare_end stan
     absurd (none (subst (λ k. StandsAt s k end) (sym e) stands'))
 one_end e (signed_end none stands l signed n) (signed_end none' stands' l' signed' n') = (cc, cc)
 
-pub one_over : {x : Syntax} {s : List ℕ} {k : StartMarker} {i j next next' : ℕ} {last last' : Sign} → i ≡ j →
+pub one_over : {x : Syntax} {s : List ℕ} {k : StartMarker} {i j next next' : ℕ} {last last' : Trim} → i ≡ j →
     EndsAt x s k i last next → EndsAt x s k j last' next' → (last ≡ last') × (next ≡ next')
 one_over e (print_end white end) (print_end white' end') = one_end e end end'
 one_over e (block_end white end) (block_end white' end') = one_end e end end'
 one_over e (line_end over n) (line_end over' n') = (refl, cc)
 
-over_at : {x : Syntax} {s : List ℕ} {k : StartMarker} {i j next : ℕ} {last : Sign} → i ≡ j →
+over_at : {x : Syntax} {s : List ℕ} {k : StartMarker} {i j next : ℕ} {last : Trim} → i ≡ j →
     EndsAt x s k i last next → IsOver x s k j
 over_at {x = x} {s = s} {k = k} {next = next} {last = last} e over =
     (last, next, subst (λ n. EndsAt x s k n last next) e over)
@@ -54,15 +54,15 @@ white_apart s e white none = absurd (false≢true (sym none ∙ (ap (λ k. is_as
 bad_apart : {t : Token} {fault : TokenFault} {a : Type 0} → is_bad t ≡ false → t ≡ bad fault → a
 bad_apart good e = absurd (false≢true (sym good ∙ ap is_bad e))
 
-got : Ending → Sign × ℕ
+got : Ending → Trim × ℕ
 got None = (Plain, 0)
 got (Some ending) = ending
 
-some_parts : {last last' : Sign} {next next' : ℕ} → ◌≡◌ {A = Ending} (Some (last, next)) (Some (last', next')) → (last ≡ last') × (next ≡ next')
+some_parts : {last last' : Trim} {next next' : ℕ} → ◌≡◌ {A = Ending} (Some (last, next)) (Some (last', next')) → (last ≡ last') × (next ≡ next')
 unfolding got
 some_parts e = (ap (λ o. (got o).0) e, ap (λ o. (got o).1) e)
 
-none_some : {p : Sign × ℕ} → None ≡ Some p → ⊥
+none_some : {p : Trim × ℕ} → None ≡ Some p → ⊥
 none_some e = cc
 
 module _ (one : HasOneToken) where
@@ -96,7 +96,7 @@ module _ (one : HasOneToken) where
       HasInside x s k d i ts e → HasInside x s k d i ts' e' → (ts ≡ ts') × (e ≡ e')
   one_inside first second = one_inside_at refl refl first second
 
-  one_raw : {x : Syntax} {s : List ℕ} {inner inner' : Sign} {from from' to to' : ℕ} {ending ending' : Ending} →
+  one_raw : {x : Syntax} {s : List ℕ} {inner inner' : Trim} {from from' to to' : ℕ} {ending ending' : Ending} →
       ◌≡◌ {A = Ending} (Some (inner, from)) (Some (inner', from')) → IsFirst (IsRawEnd x s) from to → IsFirst (IsRawEnd x s) from' to' →
       HoldsInside x s Block to (only (codes "endraw")) ending → HoldsInside x s Block to' (only (codes "endraw")) ending' →
       (inner ≡ inner') × (from ≡ from') × (to ≡ to') × (ending ≡ ending')

@@ -10,7 +10,7 @@ use Rattle.template_compiler_syntax.specs.Syntax.{Syntax, IsSet, start_text}
 use Rattle.template_compiler_tokens.specs.Token.{Token, TokenFault, bad}
 use Rattle.template_compiler_tokens.specs.Lexical.{IsToken}
 use Rattle.template_compiler_syntax.specs.Places.{StandsAt, IsFirst, IsLineEnd, newline_len, is_first_on_line}
-use Rattle.template_compiler_syntax.specs.declared.edges.Sign.{Sign}
+use Rattle.template_compiler_syntax.specs.declared.edges.Trim.{Trim}
 use Rattle.template_compiler_syntax.specs.Segments.{IsEligible, HasStart, IsNextStart, HasNoStart, inside_from, IsEnd, bare_end, signed_end, EndsAt, print_end, block_end, line_end, IsOver, open_brackets, is_bad, Ending, HasInside, ended, blank, token, no_token, HoldsInside, only, IsRawEnd, IsCommentEnd, Piece, IsSegment, print_segment, block_segment, raw_segment, comment_segment, line_statement_segment, line_comment_segment, IsEndless, endless_print, endless_block, endless_line_statement, endless_raw, endless_comment, HasPieces, no_start, next_start, endless_start}
 use Rattle.template_compiler_syntax.proofs.One.{HasOneToken, one_inside}
 use Rattle.template_compiler_syntax.proofs.Some.{Settled, settle_texts, settle_only, settle_set, first_within, first_below, settle_stands, stands_below, settle_line_end, settle_over, set_long}
@@ -90,11 +90,11 @@ module _ (one : HasOneToken) (some : HasSomeToken) (takes : TakesBytes) where
   pub some_inside : (x : Syntax) (s : List ℕ) (k : StartMarker) (d i : ℕ) → Inside x s k d i
   some_inside x s k d i = inside_by x s k (length s) d i (omega arith)
 
-  end_ahead : {s end : List ℕ} {i next : ℕ} {last : Sign} → IsEnd s end i last next → i ≤ next
+  end_ahead : {s end : List ℕ} {i next : ℕ} {last : Trim} → IsEnd s end i last next → i ≤ next
   end_ahead (bare_end stands n) = omega arith
   end_ahead (signed_end none stands l sign n) = omega arith
 
-  over_ahead : {x : Syntax} {s : List ℕ} {k : StartMarker} {i next : ℕ} {last : Sign} → EndsAt x s k i last next → i ≤ next
+  over_ahead : {x : Syntax} {s : List ℕ} {k : StartMarker} {i next : ℕ} {last : Trim} → EndsAt x s k i last next → i ≤ next
   over_ahead (print_end black end) = end_ahead end
   over_ahead (block_end black end) = end_ahead end
   over_ahead (line_end over n) = omega arith
@@ -115,7 +115,7 @@ module _ (one : HasOneToken) (some : HasSomeToken) (takes : TakesBytes) where
       let bounds = takes s i n u t good in omega arith
   inside_ahead (no_token none black t) = omega arith
 
-  pub ends_ahead : {x : Syntax} {s : List ℕ} {k : StartMarker} {d i next : ℕ} {tokens : List Token} {last : Sign} →
+  pub ends_ahead : {x : Syntax} {s : List ℕ} {k : StartMarker} {d i next : ℕ} {tokens : List Token} {last : Trim} →
       HasInside x s k d i tokens (Some (last, next)) → i ≤ next
   unfolding next_of
   ends_ahead h = inside_ahead h
@@ -161,7 +161,7 @@ module _ (one : HasOneToken) (some : HasSomeToken) (takes : TakesBytes) where
   begun_line_statement x s i tokens None h = inr (_, endless_line_statement h)
   begun_line_statement x s i tokens (Some p) h = inl (_, _, (let ahead = inside_ahead h in omega arith), line_statement_segment h)
 
-  begun_raw : (x : Syntax) (s : List ℕ) (i : ℕ) (p : Sign × ℕ) → IsSet (x.block_start) →
+  begun_raw : (x : Syntax) (s : List ℕ) (i : ℕ) (p : Trim × ℕ) → IsSet (x.block_start) →
       HoldsInside x s Block i (only (codes "raw")) (Some p) → Begun x s i Block
   unfolding next_of
   begun_raw x s i p set h =

@@ -7,8 +7,8 @@ use Rattle.template_compiler_syntax.specs.declared.StartMarker.TheVariants.{Vari
 use Rattle.template_compiler_syntax.specs.Syntax.{Syntax, IsSet}
 use Rattle.template_compiler_tokens.specs.Token.{Token, identifier}
 use Rattle.template_compiler_syntax.specs.Places.{StandsAt, IsFirst, IsNowhere, IsLineEnd, newline_len, sign_at}
-use Rattle.template_compiler_syntax.specs.declared.edges.Sign.{Sign}
-use Rattle.template_compiler_syntax.specs.declared.edges.Sign.TheVariants.{Plain, Minus, Plus}
+use Rattle.template_compiler_syntax.specs.declared.edges.Trim.{Trim}
+use Rattle.template_compiler_syntax.specs.declared.edges.Trim.TheVariants.{Plain, Minus, Plus}
 use Rattle.template_compiler_syntax.specs.Segments.{IsEnd, bare_end, signed_end, EndsAt, print_end, block_end, line_end, IsOver, only}
 
 -- a fact is settled
@@ -100,15 +100,15 @@ settle_line_end s i =
       ]
     ]
 
-settle_plain : (sign : Sign) → Settled (sign ≡ Plain)
+settle_plain : (sign : Trim) → Settled (sign ≡ Plain)
 settle_plain Plain = inl refl
 settle_plain Minus = inr (λ e. cc)
 settle_plain Plus = inr (λ e. cc)
 
 abbrev pub HasEnd : List ℕ → List ℕ → ℕ → Type 0
-HasEnd s end i = (last : Sign) × (next : ℕ) × IsEnd s end i last next
+HasEnd s end i = (last : Trim) × (next : ℕ) × IsEnd s end i last next
 
-pub no_end : {s end : List ℕ} {i next : ℕ} {last : Sign} → (StandsAt s i end → ⊥) →
+pub no_end : {s end : List ℕ} {i next : ℕ} {last : Trim} → (StandsAt s i end → ⊥) →
     ((StandsAt s (i + 1) end → ⊥) ⊎ (sign_at s i ≡ Plain)) → IsEnd s end i last next → ⊥
 no_end bare signed (bare_end stands n) = bare stands
 no_end bare (inl signed) (signed_end none stands l sign n) = signed stands
@@ -127,25 +127,25 @@ settle_end s end i =
       ]
     ]
 
-white_print : {x : Syntax} {s : List ℕ} {i next : ℕ} {last : Sign} → is_ascii_whitespace (slice_index s i) ≡ true → EndsAt x s Variable i last next → ⊥
+white_print : {x : Syntax} {s : List ℕ} {i next : ℕ} {last : Trim} → is_ascii_whitespace (slice_index s i) ≡ true → EndsAt x s Variable i last next → ⊥
 white_print white (print_end black end) = false≢true (sym black ∙ white)
 
-white_block : {x : Syntax} {s : List ℕ} {i next : ℕ} {last : Sign} → is_ascii_whitespace (slice_index s i) ≡ true → EndsAt x s Block i last next → ⊥
+white_block : {x : Syntax} {s : List ℕ} {i next : ℕ} {last : Trim} → is_ascii_whitespace (slice_index s i) ≡ true → EndsAt x s Block i last next → ⊥
 white_block white (block_end black end) = false≢true (sym black ∙ white)
 
-print_has_end : {x : Syntax} {s : List ℕ} {i next : ℕ} {last : Sign} → EndsAt x s Variable i last next → HasEnd s (x.variable_end) i
+print_has_end : {x : Syntax} {s : List ℕ} {i next : ℕ} {last : Trim} → EndsAt x s Variable i last next → HasEnd s (x.variable_end) i
 print_has_end {next = next} {last = last} (print_end black end) = (last, next, end)
 
-block_has_end : {x : Syntax} {s : List ℕ} {i next : ℕ} {last : Sign} → EndsAt x s Block i last next → HasEnd s (x.block_end) i
+block_has_end : {x : Syntax} {s : List ℕ} {i next : ℕ} {last : Trim} → EndsAt x s Block i last next → HasEnd s (x.block_end) i
 block_has_end {next = next} {last = last} (block_end black end) = (last, next, end)
 
-pub line_has_end : {x : Syntax} {s : List ℕ} {i next : ℕ} {last : Sign} → EndsAt x s LineStatement i last next → IsLineEnd s i
+pub line_has_end : {x : Syntax} {s : List ℕ} {i next : ℕ} {last : Trim} → EndsAt x s LineStatement i last next → IsLineEnd s i
 line_has_end (line_end over n) = over
 
-no_comment_end : {x : Syntax} {s : List ℕ} {i next : ℕ} {last : Sign} → EndsAt x s Comment i last next → ⊥
+no_comment_end : {x : Syntax} {s : List ℕ} {i next : ℕ} {last : Trim} → EndsAt x s Comment i last next → ⊥
 no_comment_end over = elim over [ ]
 
-no_line_comment_end : {x : Syntax} {s : List ℕ} {i next : ℕ} {last : Sign} → EndsAt x s LineComment i last next → ⊥
+no_line_comment_end : {x : Syntax} {s : List ℕ} {i next : ℕ} {last : Trim} → EndsAt x s LineComment i last next → ⊥
 no_line_comment_end over = elim over [ ]
 
 pub settle_over : (x : Syntax) (s : List ℕ) (k : StartMarker) (i : ℕ) → Settled (IsOver x s k i)

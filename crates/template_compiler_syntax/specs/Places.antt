@@ -1,6 +1,6 @@
 -- What stands at the places of a source. Texts are lists of bytes: 9 is a tab, 10 `\n`, 13 `\r`, 32 a space, 43 `+`, 45 `-`.
-use Rattle.template_compiler_syntax.specs.declared.edges.Sign.{Sign}
-use Rattle.template_compiler_syntax.specs.declared.edges.Sign.TheVariants.{Plain, Minus, Plus}
+use Rattle.template_compiler_syntax.specs.declared.edges.Trim.{Trim}
+use Rattle.template_compiler_syntax.specs.declared.edges.Trim.TheVariants.{Plain, Minus, Plus}
 use Rattle.std.specs.Prelude.{◌≡◌, ℕ, zero, suc, ◌+◌, ◌-◌, ◌<◌, ◌≤◌, ◌⊎◌, Bool, ◌&&◌, ◌||◌, ◌==◌, if◌then◌else◌, List, length, take, drop, slice_index}
 
 -- the text between two places
@@ -54,14 +54,14 @@ abbrev pub less_final_newline : List ℕ → List ℕ
 less_final_newline s = less_final 13 (less_final 10 s)
 
 -- the sign that a byte is
-abbrev pub sign_of : ℕ → Sign
+abbrev pub sign_of : ℕ → Trim
 sign_of b = if b == 45 then Minus else if b == 43 then Plus else Plain
 
 -- the sign that stands at a place
-abbrev pub sign_at : List ℕ → ℕ → Sign
+abbrev pub sign_at : List ℕ → ℕ → Trim
 sign_at s i = sign_of (slice_index s i)
 
-abbrev pub sign_width : Sign → ℕ
+abbrev pub sign_width : Trim → ℕ
 sign_width Plain = 0
 sign_width Minus = 1
 sign_width Plus = 1

@@ -7,8 +7,8 @@ use Rattle.template_compiler_syntax.specs.Syntax.{Syntax, IsSet, start_text}
 use Rattle.template_compiler_tokens.specs.Token.{Token, TokenFault, bad_syntax, variable_start, block_start, identifier, symbol, bad, bracket_open, bracket_close, paren_open, paren_close, brace_open, brace_close}
 use Rattle.template_compiler_tokens.specs.Lexical.{IsToken}
 use Rattle.template_compiler_syntax.specs.Places.{StandsAt, IsFirst, IsNowhere, is_first_on_line, newline_len, IsLineEnd, sign_at, sign_width}
-use Rattle.template_compiler_syntax.specs.declared.edges.Sign.{Sign}
-use Rattle.template_compiler_syntax.specs.declared.edges.Sign.TheVariants.{Plain}
+use Rattle.template_compiler_syntax.specs.declared.edges.Trim.{Trim}
+use Rattle.template_compiler_syntax.specs.declared.edges.Trim.TheVariants.{Plain}
 
 -- a line statement begins where only blanks stand before it on its line; all others begin anywhere
 abbrev pub IsEligible : StartMarker → List ℕ → ℕ → Type 0
@@ -35,7 +35,7 @@ abbrev pub HasNoStart : Syntax → List ℕ → ℕ → Type 0
 HasNoStart x s from = (i : ℕ) → from ≤ i → (k : StartMarker) → HasStart x s i k → ⊥
 
 -- a sign directly behind the start of a print, a block or a comment belongs to it
-abbrev pub start_sign : Syntax → List ℕ → StartMarker → ℕ → Sign
+abbrev pub start_sign : Syntax → List ℕ → StartMarker → ℕ → Trim
 start_sign x s LineStatement i = Plain
 start_sign x s LineComment i = Plain
 start_sign x s k i = sign_at s (i + length (start_text x k))
@@ -45,22 +45,22 @@ abbrev pub inside_from : Syntax → List ℕ → StartMarker → ℕ → ℕ
 inside_from x s k i = i + length (start_text x k) + sign_width (start_sign x s k i)
 
 -- an end delimiter, perhaps with a sign directly before it, stands at the place, and ends at `next`
-pub data IsEnd (s end : List ℕ) : ℕ → Sign → ℕ → Type 0 where
+pub data IsEnd (s end : List ℕ) : ℕ → Trim → ℕ → Type 0 where
   bare_end : {i next : ℕ} → StandsAt s i end → next ≡ i + length end → IsEnd s end i Plain next
-  signed_end : {i next : ℕ} {last : Sign} → (StandsAt s i end → ⊥) → StandsAt s (i + 1) end →
+  signed_end : {i next : ℕ} {last : Trim} → (StandsAt s i end → ⊥) → StandsAt s (i + 1) end →
       last ≡ sign_at s i → (last ≡ Plain → ⊥) → next ≡ i + 1 + length end → IsEnd s end i last next
 
 -- the segment ends at a token's place, and `next` is behind its end: a print and a block at their delimiter,
 -- a line statement with its line
-pub data EndsAt (x : Syntax) (s : List ℕ) : StartMarker → ℕ → Sign → ℕ → Type 0 where
-  print_end : {i next : ℕ} {last : Sign} → is_ascii_whitespace (slice_index s i) ≡ false →
+pub data EndsAt (x : Syntax) (s : List ℕ) : StartMarker → ℕ → Trim → ℕ → Type 0 where
+  print_end : {i next : ℕ} {last : Trim} → is_ascii_whitespace (slice_index s i) ≡ false →
       IsEnd s (x.variable_end) i last next → EndsAt x s Variable i last next
-  block_end : {i next : ℕ} {last : Sign} → is_ascii_whitespace (slice_index s i) ≡ false →
+  block_end : {i next : ℕ} {last : Trim} → is_ascii_whitespace (slice_index s i) ≡ false →
       IsEnd s (x.block_end) i last next → EndsAt x s Block i last next
   line_end : {i next : ℕ} → IsLineEnd s i → next ≡ i + newline_len s i → EndsAt x s LineStatement i Plain next
 
 abbrev pub IsOver : Syntax → List ℕ → StartMarker → ℕ → Type 0
-IsOver x s k i = (last : Sign) × (next : ℕ) × EndsAt x s k i last next
+IsOver x s k i = (last : Trim) × (next : ℕ) × EndsAt x s k i last next
 
 -- how many brackets are open behind a token
 abbrev pub open_brackets : Token → ℕ → ℕ
@@ -78,12 +78,12 @@ is_bad _ = false
 
 -- how a segment ends: with this sign, and what follows stands there; or never
 abbrev pub Ending : Type 0
-Ending = Option (Sign × ℕ)
+Ending = Option (Trim × ℕ)
 
 -- what stands in a segment from a place on, where so many brackets are open: its tokens, parted by white space,
 -- up to its end where none is open. Where no token stands it never ends, and the last of the tokens says why
 pub data HasInside (x : Syntax) (s : List ℕ) (k : StartMarker) : ℕ → ℕ → List Token → Ending → Type 0 where
-  ended : {i next : ℕ} {last : Sign} → EndsAt x s k i last next → HasInside x s k 0 i [] (Some (last, next))
+  ended : {i next : ℕ} {last : Trim} → EndsAt x s k i last next → HasInside x s k 0 i [] (Some (last, next))
   blank : {d i : ℕ} {tokens : List Token} {ending : Ending} → (d ≡ 0 → IsOver x s k i → ⊥) →
       is_ascii_whitespace (slice_index s i) ≡ true →
       HasInside x s k d (suc i) tokens ending → HasInside x s k d i tokens ending
@@ -105,10 +105,10 @@ only word = identifier word ∷ []
 -- a block whose only word is `endraw` begins at the place, whatever other start marker stands there
 abbrev pub IsRawEnd : Syntax → List ℕ → ℕ → Type 0
 IsRawEnd x s i = StandsAt s i (x.block_start) ×
-    ((last : Sign) × (next : ℕ) × HoldsInside x s Block i (only (codes "endraw")) (Some (last, next)))
+    ((last : Trim) × (next : ℕ) × HoldsInside x s Block i (only (codes "endraw")) (Some (last, next)))
 
 -- a sign directly before a comment's end is its sign, unless it is the start's own
-abbrev pub comment_sign : List ℕ → ℕ → ℕ → Sign
+abbrev pub comment_sign : List ℕ → ℕ → ℕ → Trim
 comment_sign s from end = if nat_lt from end then sign_at s (end - 1) else Plain
 
 abbrev pub IsCommentEnd : Syntax → List ℕ → ℕ → Type 0
@@ -118,25 +118,25 @@ IsCommentEnd x s i = StandsAt s i (x.comment_end)
 -- A raw block is one piece, with its data's places; of what never ends, the tokens stay
 pub data Piece : Type 0 where
   data_piece : (from to : ℕ) → Piece
-  segment : StartMarker → (begin : ℕ) → List Token → (last : Sign) → (next : ℕ) → Piece
-  raw_piece : (begin : ℕ) → (inner : Sign) → (from to : ℕ) → (last : Sign) → (next : ℕ) → Piece
+  segment : StartMarker → (begin : ℕ) → List Token → (last : Trim) → (next : ℕ) → Piece
+  raw_piece : (begin : ℕ) → (inner : Trim) → (from to : ℕ) → (last : Trim) → (next : ℕ) → Piece
   endless_piece : StartMarker → (begin : ℕ) → List Token → Piece
 
 -- a segment of the kind begins at the place: which piece it is, and where the next one begins
 pub data IsSegment (x : Syntax) (s : List ℕ) (i : ℕ) : StartMarker → Piece → ℕ → Type 0 where
-  print_segment : {tokens : List Token} {last : Sign} {next : ℕ} →
+  print_segment : {tokens : List Token} {last : Trim} {next : ℕ} →
       HoldsInside x s Variable i tokens (Some (last, next)) → IsSegment x s i Variable (segment Variable i tokens last next) next
-  block_segment : {tokens : List Token} {last : Sign} {next : ℕ} →
+  block_segment : {tokens : List Token} {last : Trim} {next : ℕ} →
       HoldsInside x s Block i tokens (Some (last, next)) → (tokens ≡ only (codes "raw") → ⊥) →
       IsSegment x s i Block (segment Block i tokens last next) next
-  raw_segment : {inner last : Sign} {from to next : ℕ} →
+  raw_segment : {inner last : Trim} {from to next : ℕ} →
       HoldsInside x s Block i (only (codes "raw")) (Some (inner, from)) → IsFirst (IsRawEnd x s) from to →
       HoldsInside x s Block to (only (codes "endraw")) (Some (last, next)) →
       IsSegment x s i Block (raw_piece i inner from to last next) next
-  comment_segment : {end next : ℕ} {last : Sign} → IsFirst (IsCommentEnd x s) (inside_from x s Comment i) end →
+  comment_segment : {end next : ℕ} {last : Trim} → IsFirst (IsCommentEnd x s) (inside_from x s Comment i) end →
       last ≡ comment_sign s (inside_from x s Comment i) end → next ≡ end + length (x.comment_end) →
       IsSegment x s i Comment (segment Comment i [] last next) next
-  line_statement_segment : {tokens : List Token} {last : Sign} {next : ℕ} →
+  line_statement_segment : {tokens : List Token} {last : Trim} {next : ℕ} →
       HoldsInside x s LineStatement i tokens (Some (last, next)) →
       IsSegment x s i LineStatement (segment LineStatement i tokens last next) next
   line_comment_segment : {end next : ℕ} → IsFirst (IsLineEnd s) (inside_from x s LineComment i) end →
@@ -151,7 +151,7 @@ pub data IsEndless (x : Syntax) (s : List ℕ) (i : ℕ) : StartMarker → List 
       HoldsInside x s Block i tokens None → IsEndless x s i Block (block_start ∷ tokens)
   endless_line_statement : {tokens : List Token} →
       HoldsInside x s LineStatement i tokens None → IsEndless x s i LineStatement (block_start ∷ tokens)
-  endless_raw : {inner : Sign} {from : ℕ} → HoldsInside x s Block i (only (codes "raw")) (Some (inner, from)) →
+  endless_raw : {inner : Trim} {from : ℕ} → HoldsInside x s Block i (only (codes "raw")) (Some (inner, from)) →
       IsNowhere (IsRawEnd x s) from → IsEndless x s i Block (bad bad_syntax ∷ [])
   endless_comment : IsNowhere (IsCommentEnd x s) (inside_from x s Comment i) →
       IsEndless x s i Comment (bad bad_syntax ∷ [])

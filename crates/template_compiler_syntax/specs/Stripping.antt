@@ -6,7 +6,7 @@ use Rattle.std.specs.Str.{trim_start, trim_end}
 use Rattle.template_compiler_syntax.specs.declared.StartMarker.TheVariants.{Variable, Block, Comment, LineStatement, LineComment}
 use Rattle.template_compiler_syntax.specs.Syntax.{Syntax}
 use Rattle.template_compiler_syntax.specs.Places.{stretch, blanks_from, is_first_on_line, newline_len}
-use Rattle.template_compiler_syntax.specs.declared.edges.Sign.TheVariants.{Plain, Minus, Plus}
+use Rattle.template_compiler_syntax.specs.declared.edges.Trim.TheVariants.{Plain, Minus, Plus}
 use Rattle.template_compiler_syntax.specs.Segments.{Piece, data_piece, segment, raw_piece, endless_piece, start_sign}
 
 -- the place, less the blanks before it where only they stand before it on its line

@@ -8,9 +8,9 @@ use crate::places::rest_from;
 use crate::{StartMarker, SyntaxConfig};
 use template_compiler_tokens::last_between;
 
-/// The sign at an end of a segment.
+/// The sign at an end of a segment, which says how the data beside it is trimmed.
 #[derive(Clone, Copy, Debug, PartialEq, Eq)]
-pub enum Sign {
+pub enum Trim {
     /// None.
     Plain,
     /// `-`: all white space of the data beside it goes.
@@ -25,30 +25,30 @@ pub enum Edge {
     /// Nothing: the source begins or ends.
     Nothing,
     /// A segment of the kind, whose end on this side has the sign.
-    Beside(StartMarker, Sign),
+    Beside(StartMarker, Trim),
 }
 
-impl Sign {
+impl Trim {
     /// The sign that stands at a place.
-    pub fn at(bytes: &[u8], place: usize) -> Sign
+    pub fn at(bytes: &[u8], place: usize) -> Trim
         requires { place ≤ length bytes.now }
         ensures { result ≡ sign_at bytes.now place }
     {
         match rest_from(bytes, place) {
-            [b'-', ..] => Sign::Minus,
-            [b'+', ..] => Sign::Plus,
-            _ => Sign::Plain,
+            [b'-', ..] => Trim::Minus,
+            [b'+', ..] => Trim::Plus,
+            _ => Trim::Plain,
         }
     }
 
     // The sign that a byte is.
-    fn of(byte: u8) -> Sign
+    fn of(byte: u8) -> Trim
         ensures { result ≡ sign_of byte }
     {
         match byte {
-            b'-' => Sign::Minus,
-            b'+' => Sign::Plus,
-            _ => Sign::Plain,
+            b'-' => Trim::Minus,
+            b'+' => Trim::Plus,
+            _ => Trim::Plain,
         }
     }
 
@@ -57,34 +57,34 @@ impl Sign {
         ensures { result ≡ sign_width self }
     {
         match self {
-            Sign::Plain => 0,
-            Sign::Minus | Sign::Plus => 1,
+            Trim::Plain => 0,
+            Trim::Minus | Trim::Plus => 1,
         }
     }
 }
 
 /// The sign of the start marker of the kind that stands at a place: that of a print, a block or a comment
 /// stands directly behind it.
-pub fn start_sign(bytes: &[u8], syntax: &SyntaxConfig, kind: StartMarker, place: usize) -> Sign
+pub fn start_sign(bytes: &[u8], syntax: &SyntaxConfig, kind: StartMarker, place: usize) -> Trim
     requires { place + length (start_of syntax.now kind) ≤ length bytes.now }
     ensures { result ≡ sign_of_start syntax.now bytes.now kind place }
 {
     match kind {
         StartMarker::Variable | StartMarker::Block | StartMarker::Comment => {
-            Sign::at(bytes, place + syntax.start_text(kind).len())
+            Trim::at(bytes, place + syntax.start_text(kind).len())
         }
-        StartMarker::LineStatement | StartMarker::LineComment => Sign::Plain,
+        StartMarker::LineStatement | StartMarker::LineComment => Trim::Plain,
     }
 }
 
 /// The sign directly before a comment's end at the place, where what is inside begins at the other: the start's own
 /// sign is none of its end.
-pub fn comment_sign(bytes: &[u8], inside: usize, end: usize) -> Sign
+pub fn comment_sign(bytes: &[u8], inside: usize, end: usize) -> Trim
     requires { end ≤ length bytes.now }
     ensures { result ≡ sign_of_comment bytes.now inside end }
 {
     match last_between(bytes, inside, end) {
-        Some(byte) => Sign::of(byte),
-        None => Sign::Plain,
+        Some(byte) => Trim::of(byte),
+        None => Trim::Plain,
     }
 }

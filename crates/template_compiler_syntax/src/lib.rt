@@ -14,7 +14,7 @@ mod stripping;
 
 pub use builder::SyntaxConfigBuilder;
 pub use config::SyntaxConfig;
-pub use edges::{Edge, Sign, comment_sign, start_sign};
+pub use edges::{Edge, Trim, comment_sign, start_sign};
 pub use laws::{one_list_of_pieces, one_list_of_tokens, plain_text_is_its_own_data};
 pub use places::{find_line_end, find_text, is_first_on_line, newline_len, stands_at};
 pub use starts::{Known, Start, StartFinder};

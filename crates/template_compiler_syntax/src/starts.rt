@@ -8,7 +8,7 @@ ghost use Rattle.template_compiler_syntax.specs.Places.{IsFirst, IsNowhere};
 ghost use Rattle.template_compiler_syntax.specs.Segments.{IsEligible, inside_from as the_inside_from, start_sign as sign_of_start};
 ghost use Rattle.template_compiler_syntax.specs.Known.{IsKnown, IsSought, IsNearer, StaysNearest, IsNextOrNone, IsBraces, IsBracesOf};
 
-use crate::edges::Sign;
+use crate::edges::Trim;
 use crate::places::{find_text, is_first_on_line, rest_from};
 use crate::{StartMarker, SyntaxConfig};
 use memchr::memchr;
@@ -31,7 +31,7 @@ pub struct Start {
     /// Which one.
     pub kind: StartMarker,
     /// The sign behind it.
-    pub sign: Sign,
+    pub sign: Trim,
     /// Where it begins.
     pub place: usize,
     /// Where the inside of its segment begins, behind the sign.
@@ -178,10 +178,10 @@ fn start_at(bytes: &[u8], kind: StartMarker, place: usize, behind: usize) -> Sta
     ensures inside { (x : Syntax) → behind ≡ place + length (start_of x kind) → result.inside ≡ the_inside_from x bytes.now kind place }
 {
     let sign = match kind {
-        StartMarker::Variable | StartMarker::Block | StartMarker::Comment => Sign::at(
+        StartMarker::Variable | StartMarker::Block | StartMarker::Comment => Trim::at(
             bytes, behind,
         ),
-        StartMarker::LineStatement | StartMarker::LineComment => Sign::Plain,
+        StartMarker::LineStatement | StartMarker::LineComment => Trim::Plain,
     };
     Start {
         kind,

@@ -4,7 +4,7 @@ ghost use Rattle.std.specs.Str.{IsCharBoundary};
 ghost use Rattle.template_compiler_syntax.specs.Places.{stretch, newline_len as newline_width};
 ghost use Rattle.template_compiler_syntax.specs.Stripping.{stripped_from, stripped_to, less_start, less_blanks as place_less_blanks, strips_blanks as blanks_go, is_minus as strips_all};
 
-use crate::edges::{Edge, Sign};
+use crate::edges::{Edge, Trim};
 use crate::places::{blanks_from, is_first_on_line, newline_len};
 use crate::{StartMarker, SyntaxConfig};
 use template_compiler_tokens::behind_white_space;
@@ -81,8 +81,8 @@ fn without_start<'source>(text: &'source str, syntax: &SyntaxConfig, left: Edge)
     ensures tail { result.now ≡ drop (length text.now - length result.now) text.now }
 {
     match left {
-        Edge::Beside(_, Sign::Minus) => behind_white_space(text),
-        Edge::Beside(StartMarker::Block | StartMarker::Comment, Sign::Plain) => {
+        Edge::Beside(_, Trim::Minus) => behind_white_space(text),
+        Edge::Beside(StartMarker::Block | StartMarker::Comment, Trim::Plain) => {
             if syntax.trim_blocks() {
                 without_newline(text)
             } else {
@@ -105,16 +105,16 @@ fn without_newline(text: &str) -> &str
 fn is_minus(right: Edge) -> bool
     ensures { result ≡ strips_all right }
 {
-    matches!(right, Edge::Beside(_, Sign::Minus))
+    matches!(right, Edge::Beside(_, Trim::Minus))
 }
 
 fn strips_blanks(syntax: &SyntaxConfig, right: Edge) -> bool
     ensures { result ≡ blanks_go syntax.now right }
 {
     match right {
-        Edge::Beside(StartMarker::Block | StartMarker::Comment, Sign::Plain) =>
+        Edge::Beside(StartMarker::Block | StartMarker::Comment, Trim::Plain) =>
             syntax.lstrip_blocks(),
-        Edge::Beside(StartMarker::LineStatement | StartMarker::LineComment, Sign::Plain) => true,
+        Edge::Beside(StartMarker::LineStatement | StartMarker::LineComment, Trim::Plain) => true,
         _ => false,
     }
 }

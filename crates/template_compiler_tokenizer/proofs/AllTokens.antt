@@ -8,8 +8,8 @@ use Rattle.template_compiler_tokens.specs.Token.{Token, template_data, variable_
 use Rattle.template_compiler_tokens.proofs.OneToken.{one_token, some_token}
 use Rattle.template_compiler_syntax.specs.declared.edges.Edge.{Edge}
 use Rattle.template_compiler_syntax.specs.declared.edges.Edge.TheVariants.{Nothing, Beside}
-use Rattle.template_compiler_syntax.specs.declared.edges.Sign.{Sign}
-use Rattle.template_compiler_syntax.specs.declared.edges.Sign.TheVariants.{Plain}
+use Rattle.template_compiler_syntax.specs.declared.edges.Trim.{Trim}
+use Rattle.template_compiler_syntax.specs.declared.edges.Trim.TheVariants.{Plain}
 use Rattle.template_compiler_syntax.specs.Places.{stretch}
 use Rattle.template_compiler_syntax.specs.Segments.{inside_from, Ending, HasInside, ended, blank, token, no_token, HoldsInside, start_sign, Piece, data_piece, segment, raw_piece, endless_piece, print_segment, block_segment, raw_segment, comment_segment, line_statement_segment, line_comment_segment, endless_print, endless_block, endless_line_statement, endless_raw, endless_comment, HasPieces, no_start, next_start, endless_start}
 use Rattle.template_compiler_syntax.specs.Stripping.{stripped, stripped_from, stripped_to, next_edge, with_data}
@@ -44,7 +44,7 @@ unfolding inside_of
 inside_of_words {x = x} {s = s} {k = k} {d = d} {i = i} h =
     ap tokens_in (one_placed ((some_inside one_token some_token takes_bytes x s k d i).2) h) ∙ inside_words h
 
-segment_words : {x : Syntax} {s : List ℕ} {k : StartMarker} {d i : ℕ} {tokens : List Token} {p : Sign × ℕ} → HasInside x s k d i tokens (Some p) →
+segment_words : {x : Syntax} {s : List ℕ} {k : StartMarker} {d i : ℕ} {tokens : List Token} {p : Trim × ℕ} → HasInside x s k d i tokens (Some p) →
     (behind : List Placed) → tokens_in (inside_of x s k d i ++ behind) ≡ tokens ++ (end_token k ∷ tokens_in behind)
 unfolding with_end
 segment_words {x = x} {s = s} {k = k} {d = d} {i = i} {tokens = tokens} h behind =
@@ -67,19 +67,19 @@ module _ (x : Syntax) (s : List ℕ) where
       step true = ap (λ ts. template_data (stretch s from to) ∷ ts) same
       step false = same
 
-  print_words : (i : ℕ) {tokens : List Token} {p : Sign × ℕ} (pieces : List Piece) → HoldsInside x s Variable i tokens (Some p) → Same pieces →
+  print_words : (i : ℕ) {tokens : List Token} {p : Trim × ℕ} (pieces : List Piece) → HoldsInside x s Variable i tokens (Some p) → Same pieces →
       variable_start ∷ tokens_in (inside_of x s Variable 0 (inside_from x s Variable i) ++ placed_of x s pieces) ≡
       variable_start ∷ tokens ++ (variable_end ∷ tokens_of s pieces)
   print_words i {tokens = tokens} pieces h same =
       ap (λ ts. variable_start ∷ ts) (segment_words h (placed_of x s pieces) ∙ ap (λ ts. tokens ++ (variable_end ∷ ts)) same)
 
-  block_words : (i : ℕ) {tokens : List Token} {p : Sign × ℕ} (pieces : List Piece) → HoldsInside x s Block i tokens (Some p) → Same pieces →
+  block_words : (i : ℕ) {tokens : List Token} {p : Trim × ℕ} (pieces : List Piece) → HoldsInside x s Block i tokens (Some p) → Same pieces →
       block_start ∷ tokens_in (inside_of x s Block 0 (inside_from x s Block i) ++ placed_of x s pieces) ≡
       block_start ∷ tokens ++ (block_end ∷ tokens_of s pieces)
   block_words i {tokens = tokens} pieces h same =
       ap (λ ts. block_start ∷ ts) (segment_words h (placed_of x s pieces) ∙ ap (λ ts. tokens ++ (block_end ∷ ts)) same)
 
-  line_words : (i : ℕ) {tokens : List Token} {p : Sign × ℕ} (pieces : List Piece) → HoldsInside x s LineStatement i tokens (Some p) → Same pieces →
+  line_words : (i : ℕ) {tokens : List Token} {p : Trim × ℕ} (pieces : List Piece) → HoldsInside x s LineStatement i tokens (Some p) → Same pieces →
       block_start ∷ tokens_in (inside_of x s LineStatement 0 (inside_from x s LineStatement i) ++ placed_of x s pieces) ≡
       block_start ∷ tokens ++ (block_end ∷ tokens_of s pieces)
   line_words i {tokens = tokens} pieces h same =

@@ -9,7 +9,7 @@ use Rattle.template_compiler_syntax.specs.Syntax.{Syntax}
 use Rattle.template_compiler_tokens.specs.View.{token_of}
 use Rattle.template_compiler_tokens.specs.declared.token.Token.{Token}
 use Rattle.template_compiler_scanner.specs.Scans.{Scans}
-use Rattle.template_compiler_syntax.specs.declared.edges.Sign.{Sign}
+use Rattle.template_compiler_syntax.specs.declared.edges.Trim.{Trim}
 use Rattle.template_compiler_syntax.specs.declared.edges.Edge.TheVariants.{Beside}
 use Rattle.template_compiler_placed_tokens.specs.Finds.{FindsPlace}
 use Rattle.template_compiler_tokenizer.specs.Held.{StandsIn, left_of, HoldsRead, HoldsRefused, IsFurther}
@@ -37,10 +37,10 @@ read_from_put s place t width first at old held (Ok done) read put = (t, width, 
 read_from_put s place t width first at old held (Err kind) read put = (put.0, inl (put.1))
 
 -- the segment's end, as a piece
-abbrev pub end_piece : Token → StartMarker → Sign → ℕ → ℕ → Piece
+abbrev pub end_piece : Token → StartMarker → Trim → ℕ → ℕ → Piece
 end_piece t k last place next = record { token = t; stage = stage.Data (Beside k last); begin = place; end = next; next = next }
 
-pub reads_end : (x : Syntax) (s : List ℕ) (k : StartMarker) (d from place next : ℕ) (last : Sign) (t : Token) → token_of t ≡ end_token k →
+pub reads_end : (x : Syntax) (s : List ℕ) (k : StartMarker) (d from place next : ℕ) (last : Trim) (t : Token) → token_of t ≡ end_token k →
     FindsPlace x s k d from (End place last next) → ReadsPiece x s from (inside_tokens x s k d from) (end_piece t k last place next)
 reads_end x s k d from place next last t e found =
     let end = found.2 in
@@ -78,7 +78,7 @@ refused_end x s k first old mid held f before kind h = (
 )
 
 -- behind the segment's end
-pub ends_behind : (x : Syntax) (s : List ℕ) (k : StartMarker) (first : Inner) (place next : ℕ) (last : Sign) → StandsIn x s (standing_in k first) →
+pub ends_behind : (x : Syntax) (s : List ℕ) (k : StartMarker) (first : Inner) (place next : ℕ) (last : Trim) → StandsIn x s (standing_in k first) →
     FindsPlace x s k first.depth first.from (End place last next) → (old mid held : List (Token × Span)) (f : Standing) →
     HoldsRead s old (left_of x s f) mid (left_of x s (standing_in k first)) → IsFurther x s f (standing_in k first) → (at : Inner) →
     (spanned_of held ≡ spanned_of mid ++ spanned (end_token k) (span_between (take place s) (take next s)) ∷ []) × (at.from ≡ next) ×

@@ -11,7 +11,7 @@ use Rattle.template_compiler_tokens.specs.View.{token_of}
 use Rattle.template_compiler_tokens.specs.declared.token.Token.{Token}
 use Rattle.template_compiler_scanner.specs.Scans.{Scans}
 use Rattle.template_compiler_syntax.specs.Segments.{open_brackets}
-use Rattle.template_compiler_syntax.specs.declared.edges.Sign.{Sign}
+use Rattle.template_compiler_syntax.specs.declared.edges.Trim.{Trim}
 use Rattle.template_compiler_syntax.specs.declared.edges.Edge.TheVariants.{Beside}
 use Rattle.template_compiler_syntax.specs.Syntax.{Syntax}
 use Rattle.template_compiler_tokenizer.specs.Held.{spanned_of, left_of, HoldsRead, HoldsRefused, StandsIn}
@@ -31,7 +31,7 @@ abbrev pub standing_in : StartMarker → Inner → Standing
 standing_in k at = standing (stage.Inside k at.depth) at
 
 -- a reader behind a segment of the kind whose end has the sign
-abbrev pub standing_behind : StartMarker → Sign → Inner → Standing
+abbrev pub standing_behind : StartMarker → Trim → Inner → Standing
 standing_behind k last at = standing (stage.Data (Beside k last)) at
 
 -- the segment's end, between two places, was put behind the tokens that were held, and is passed; or memory was wanting
@@ -42,7 +42,7 @@ PutsEnd s k place next at old held (Ok done) =
 PutsEnd s k place next at old held (Err kind) = (held ≡ old) × (kind ≡ OutOfMemory)
 
 -- the tokens of the segment that are left were put behind the ones that were held, with its end; or some of them, before one that is refused
-abbrev pub ReadsSegment : Syntax → List ℕ → StartMarker → Inner → Inner → List (Token × Span) → List (Token × Span) → Result Sign ErrorKind → Type 0
+abbrev pub ReadsSegment : Syntax → List ℕ → StartMarker → Inner → Inner → List (Token × Span) → List (Token × Span) → Result Trim ErrorKind → Type 0
 ReadsSegment x s k first at old held (Ok last) =
     HoldsRead s old (left_of x s (standing_in k first)) held (left_of x s (standing_behind k last at)) ×
     StandsIn x s (standing_behind k last at) × (first.from ≤ at.from) ×

@@ -17,7 +17,7 @@ use Rattle.template_compiler_syntax.specs.Segments.{IsNextStart, Ending, HasInsi
 use Rattle.template_compiler_placed_tokens.specs.Left.{Placed, placed, data_tokens, inside_tokens}
 use Rattle.template_compiler_tokenizer.specs.Held.{HoldsRead, HoldsRefused}
 use Rattle.std.specs.Prelude.{Some, codes}
-use Rattle.template_compiler_syntax.specs.declared.edges.Sign.{Sign}
+use Rattle.template_compiler_syntax.specs.declared.edges.Trim.{Trim}
 use Rattle.template_compiler_tokenizer.specs.declared.reach.Raw.{Raw}
 use Rattle.template_compiler_tokenizer.specs.declared.reach.Raw.TheVariants as raw
 use Rattle.template_compiler_tokenizer.specs.declared.reach.Reached.{Reached}
@@ -64,4 +64,4 @@ ReadsRaw x s old i held next stretch (raw.Data last) =
     GoesOn s old (data_tokens x s Nothing i) held (data_tokens x s (Beside Block last) next) next stretch × IsCharBoundary s next × (i < next)
 ReadsRaw x s old i held next stretch (raw.Refused kind) = HoldsRefused s old (data_tokens x s Nothing i) held kind
 ReadsRaw x s old i held next stretch raw.Other =
-    (held ≡ old) × ((last : Sign) (after : ℕ) → HoldsInside x s Block i (only (codes "raw")) (Some (last, after)) → ⊥)
+    (held ≡ old) × ((last : Trim) (after : ℕ) → HoldsInside x s Block i (only (codes "raw")) (Some (last, after)) → ⊥)

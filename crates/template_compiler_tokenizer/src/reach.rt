@@ -16,7 +16,7 @@ ghost use Rattle.template_compiler_tokenizer.specs.Reaches.{FindsBlack, HoldsNex
 use crate::all::push;
 use template_compiler_placed_tokens::{inside_from, is_nothing, is_white_at, only_word, raw_data};
 use template_compiler_syntax::{
-    Edge, Sign, Start, StartFinder, StartMarker, SyntaxConfig, comment_sign, data_between,
+    Edge, Start, StartFinder, StartMarker, SyntaxConfig, Trim, comment_sign, data_between,
     find_text,
 };
 use template_compiler_tokens::{Stretch, Token, next_span};
@@ -29,7 +29,7 @@ pub(crate) enum Reached {
     /// The inside of a segment of the kind.
     Inside(StartMarker),
     /// Data, behind a segment of the kind whose end has the sign.
-    Data(StartMarker, Sign),
+    Data(StartMarker, Trim),
     /// A start marker of the kind, which is not entered yet.
     Start(StartMarker),
     /// The end: nothing follows.
@@ -283,7 +283,7 @@ fn may_begin_with(text: &[u8], word: &[u8]) -> bool
 #[derive(Clone, Copy)]
 pub(crate) enum Raw {
     /// Raw data, which the end of a block with this sign ends.
-    Data(Sign),
+    Data(Trim),
     /// Raw data that never ends; or memory was wanting.
     Refused(ErrorKind),
     /// Another block.

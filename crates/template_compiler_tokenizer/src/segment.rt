@@ -14,7 +14,7 @@ use template_compiler_placed_tokens::{
     Found, SegmentEnd, brackets_behind, end_token, next_place_of,
 };
 use template_compiler_scanner::{scan_digit, scan_mark, scan_name, scan_token};
-use template_compiler_syntax::{Sign, StartMarker};
+use template_compiler_syntax::{StartMarker, Trim};
 use template_compiler_tokens::{Stretch, Token, next_span};
 use template_compiler_tree::Span;
 use template_values_errors::ErrorKind;
@@ -35,7 +35,7 @@ pub(crate) fn read_inside<'source>(
     end: SegmentEnd,
     at: &mut Inner,
     tokens: &mut Vec<(Token<'source>, Span)>,
-) -> Result<Sign, ErrorKind>
+) -> Result<Trim, ErrorKind>
     requires end { IsSegmentEnd end }
     requires stands { StandsIn end.syntax.now source.now (standing_in end.kind at.old) }
     ensures { ReadsSegment end.entry.syntax.now source.now end.entry.kind at.old at.new tokens.old.items tokens.new.items result }

@@ -2,7 +2,7 @@ use Rattle.std.proofs.Common.{◌+◌, sym, ◌∙◌, ap, subst, arith}
 use Rattle.std.specs.Str.{IsCharBoundary}
 use Rattle.template_compiler_syntax.specs.declared.StartMarker.TheVariants.{LineComment}
 use Rattle.template_compiler_syntax.specs.declared.edges.Edge.TheVariants.{Beside}
-use Rattle.template_compiler_syntax.specs.declared.edges.Sign.TheVariants.{Plain}
+use Rattle.template_compiler_syntax.specs.declared.edges.Trim.TheVariants.{Plain}
 use Rattle.template_compiler_syntax.specs.Places.{newline_len, is_first_on_line}
 use Rattle.template_compiler_placed_tokens.specs.Left.{data_tokens}
 use Rattle.template_compiler_placed_tokens.proofs.Steps.{at_line_comment}
