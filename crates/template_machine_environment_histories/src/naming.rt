@@ -20,7 +20,8 @@ pub trait UsesNames {
     /// [`ErrorKind::OutOfMemory`](template_values_errors::ErrorKind::OutOfMemory); some of the names may then have been
     /// added, and no others.
     fn add_names(&self, alloc: Global, names: &mut BTreeSet<String>) -> Result<(), Error>
-        ensures added { OnOk result ((name : List ℕ) → contains_text names.new name ≡ (contains_text names.old name || uses self.now name)) }
+        ensures added { OnOk result ((name : List ℕ) →
+            contains_text names.new name ≡ (contains_text names.old name || uses self.now name)) }
         ensures kept { OnErr result ((name : List ℕ) → IsTrue (contains_text names.old name) → IsTrue (contains_text names.new name)) }
         ensures others { OnErr result ((name : List ℕ) → IsTrue (contains_text names.new name)
             → IsTrue (contains_text names.old name || uses self.now name)) }
