@@ -33,6 +33,14 @@ module _ {E C M F J R : Type 0} where
   abbrev pub rendering_in : UserAnswers C M F J → Environment E C M F J R → ℕ → Compiled → ℕ → Val → Run World
   rendering_in says e id c n context = rendering (brought_of says e) (registry_of e) id c n context
 
+-- a run ends: it is finished under some bound
+abbrev pub Finishes : {S : Type 0} → (ℕ → Run S) → Type 0
+Finishes run = (n : ℕ) × IsFinished (run n).end
+
+-- so it is of the run, under each bound where that is finished
+abbrev pub WhereFinished : {S : Type 0} → (ℕ → Run S) → (Run S → Type 0) → Type 0
+WhereFinished run so = (n : ℕ) → IsFinished (run n).end → so (run n)
+
 -- of what was consumed and what remains: the fuel that was set, and what is left of it
 abbrev pub set_of : Option Levels → Option ℕ
 set_of levels = option_map (λ (l : Levels). l.consumed + l.remaining) levels
@@ -86,9 +94,8 @@ last_id = 2 ^ 64 - 1
 -- the first. One is finished: every run ends.
 pub record RendersText {X : Type 0} (k : Brought) (e : Registry) (c : Compiled) (context : Val) (id next : ℕ) (text : X → List ℕ)
     (result : Result X (List ErrorKind)) : Type 0 where
-  pub finished : (n : ℕ) × IsFinished (rendering k e id c n context).end
-  pub gives : id ≢ last_id → (n : ℕ) → IsFinished (rendering k e id c n context).end
-      → GivesText text result (under e.fuel (rendering k e id c n context))
+  pub finished : Finishes (λ n. rendering k e id c n context)
+  pub gives : id ≢ last_id → WhereFinished (λ n. rendering k e id c n context) (λ run. GivesText text result (under e.fuel run))
   pub counted : id ≢ last_id → next ≡ id + 1
   pub exhausted : id ≡ last_id → (result ≡ Err (InvalidOperation ∷ [])) × (next ≡ id)
 

@@ -40,7 +40,7 @@ use Rattle.template_machine_renders.specs.Renders.{FaultsAs, IsOver, IsShort}
 use Rattle.template_compiled.specs.Compiled.{Compiled, standing_of}
 use Rattle.template_machine_environment.specs.Extras.{UserAnswers, joins_by}
 use Rattle.template_machine_environment.specs.Reading.{callables_of, extras_of, registry_of, setting_in}
-use Rattle.template_machine_environment.specs.Renderings.{IsNoMore, left_of, set_of}
+use Rattle.template_machine_environment.specs.Renderings.{Finishes, IsNoMore, left_of, set_of}
 use Rattle.template_machine_environment.specs.Standing.{source_at, unit_of, units_of}
 use Rattle.template_machine_environment.specs.declared.environment.Environment.{Environment}
 use Rattle.template_machine_environment.specs.declared.registry.Registry.{Registry}
@@ -175,6 +175,14 @@ module _ {E C M F J R : Type 0} where
   -- the name that is meant by a name in it, or the kinds of a fault
   abbrev pub joined_in : UserAnswers C M F J → State E C M F J R → List ℕ → Result (List ℕ) (List ErrorKind)
   joined_in says s name = (setting_in says (environment_in s)).joins name (name_in s)
+
+-- a call ends: its run is finished under some bound
+abbrev pub Returns : (ℕ → Reply World) → Type 0
+Returns called = Finishes (λ n. run_of (called n))
+
+-- so it is of what is replied, under each bound where the call's run is finished
+abbrev pub WhereReturned : (ℕ → Reply World) → (Reply World → Type 0) → Type 0
+WhereReturned called so = (n : ℕ) → IsFinished (run_of (called n)).end → so (called n)
 
 -- The call gives the answer that is told, where the fuel lasts; else it answers with the fault. Or a growth was refused.
 abbrev pub GivesTold : {X : Type 0} → (X → Answer) → Option ℕ → Result X (List ErrorKind) → Reply World → Type 0

@@ -86,7 +86,8 @@ impl<'source, E: Extension> Environment<'source, E> {
     pub fn add_function(&mut self, name: &str, function: E::Callable) -> Result<(), Error>
         ensures stands { OnOk result
             (extras_of self.new ≡ record (extras_of self.old) { functions = (extras_of self.old).functions ++ function ∷ [] }) }
-        ensures found { let value = values.function (settings_of (registry_of self.old)).globals.environment (next_number (extras_of self.old)) in
+        ensures found { let globals = (settings_of (registry_of self.old)).globals in
+            let value = values.function globals.environment (next_number (extras_of self.old)) in
             OnOk result ((other : List ℕ) → global_at (registry_of self.new) other
             ≡ (if bytes_eq name.now other then Some value else global_at (registry_of self.old) other)) }
         ensures settings { let globals = (settings_of (registry_of self.old)).globals in
@@ -144,7 +145,8 @@ impl<'source, E: Extension> Environment<'source, E> {
     /// was set before is dropped.
     pub fn set_auto_escape_callback(&mut self, rule: E::Rule)
         ensures extras { extras_of self.new ≡ record (extras_of self.old) { rule = Some rule } }
-        ensures escapes { (name text : List ℕ) → (read_under E.Rule.answer self.new name text).escapes ≡ EscapeRule.Fixed (E.Rule.answer rule name) }
+        ensures escapes { (name text : List ℕ) →
+            (read_under E.Rule.answer self.new name text).escapes ≡ EscapeRule.Fixed (E.Rule.answer rule name) }
         ensures sources { (name : List ℕ) → source_at (registry_of self.new) name ≡ source_at (registry_of self.old) name }
         ensures settings { settings_of (registry_of self.new) ≡ settings_of (registry_of self.old) }
     {

@@ -206,7 +206,8 @@ impl<'source, E: Extension> Environment<'source, E> {
     ///
     /// As [`Environment::add_template`].
     pub fn add_template_owned(&mut self, name: CowStr<'_>, source: CowStr<'_>) -> Result<(), Error>
-        ensures accepted { OnOk result (IsAccepted (read_under E.Rule.answer self.old (cow_str_bytes name.entry) (cow_str_bytes source.entry))) }
+        ensures accepted { OnOk result
+            (IsAccepted (read_under E.Rule.answer self.old (cow_str_bytes name.entry) (cow_str_bytes source.entry))) }
         ensures stands { OnOk result (Changes (changes.added (cow_str_bytes name.entry)
             (read_under E.Rule.answer self.old (cow_str_bytes name.entry) (cow_str_bytes source.entry))) self.old self.new) }
         ensures settings { settings_of (registry_of self.new) ≡ settings_of (registry_of self.old) }
@@ -513,17 +514,19 @@ impl<'source, E: Extension> Environment<'source, E> {
         ids: &mut StateIds,
         context: Value,
     ) -> Result<String, Error>
-        ensures renders { RendersSource (brought_of (user_answers E.Callable.answer E.Method.answer E.Formatter.answer E.Join.answer) self.now) (registry_of self.now) unnamed
+        ensures renders { let says = user_answers E.Callable.answer E.Method.answer E.Formatter.answer E.Join.answer in
+            RendersSource (brought_of says self.now) (registry_of self.now) unnamed
             (read_under E.Rule.answer self.now unnamed source.now) context ids.old ids.new (λ text. string_bytes text) result }
         ensures too_large { 2 ^ 32 ≤ length source.now → result ≡ Err (ErrorKind.TooLarge ∷ []) }
 
         // Where no marker starts in the source, that is its text.
-        ensures plain { ids.old ≢ u64.MAX → IsPlain (read_under E.Rule.answer self.now unnamed source.now) →
-            ReadGivesItself (settings_of (registry_of self.now)).fuel source.now (text_kept (read_under E.Rule.answer self.now unnamed source.now))
-            (λ text. string_bytes text) result }
+        ensures plain { let read = read_under E.Rule.answer self.now unnamed source.now in
+            ids.old ≢ u64.MAX → IsPlain read →
+            ReadGivesItself (settings_of (registry_of self.now)).fuel source.now (text_kept read) (λ text. string_bytes text) result }
 
         // Where what the user brought asks for no names, contexts that agree at those that can matter make no difference.
-        ensures isolated { IsIsolatedSource (brought_of (user_answers E.Callable.answer E.Method.answer E.Formatter.answer E.Join.answer) self.now) (registry_of self.now)
+        ensures isolated { let says = user_answers E.Callable.answer E.Method.answer E.Formatter.answer E.Join.answer in
+            IsIsolatedSource (brought_of says self.now) (registry_of self.now)
             (read_under E.Rule.answer self.now unnamed source.now) context }
     {
         self.render_named_str(UNNAMED, source, ids, context)
@@ -543,17 +546,19 @@ impl<'source, E: Extension> Environment<'source, E> {
         ids: &mut StateIds,
         context: Value,
     ) -> Result<String, Error>
-        ensures renders { RendersSource (brought_of (user_answers E.Callable.answer E.Method.answer E.Formatter.answer E.Join.answer) self.now) (registry_of self.now) name.now
+        ensures renders { let says = user_answers E.Callable.answer E.Method.answer E.Formatter.answer E.Join.answer in
+            RendersSource (brought_of says self.now) (registry_of self.now) name.now
             (read_under E.Rule.answer self.now name.now source.now) context ids.old ids.new (λ text. string_bytes text) result }
         ensures too_large { 2 ^ 32 ≤ length source.now → result ≡ Err (ErrorKind.TooLarge ∷ []) }
 
         // Where no marker starts in the source, that is its text.
-        ensures plain { ids.old ≢ u64.MAX → IsPlain (read_under E.Rule.answer self.now name.now source.now) →
-            ReadGivesItself (settings_of (registry_of self.now)).fuel source.now (text_kept (read_under E.Rule.answer self.now name.now source.now))
-            (λ text. string_bytes text) result }
+        ensures plain { let read = read_under E.Rule.answer self.now name.now source.now in
+            ids.old ≢ u64.MAX → IsPlain read →
+            ReadGivesItself (settings_of (registry_of self.now)).fuel source.now (text_kept read) (λ text. string_bytes text) result }
 
         // Where what the user brought asks for no names, contexts that agree at those that can matter make no difference.
-        ensures isolated { IsIsolatedSource (brought_of (user_answers E.Callable.answer E.Method.answer E.Formatter.answer E.Join.answer) self.now) (registry_of self.now)
+        ensures isolated { let says = user_answers E.Callable.answer E.Method.answer E.Formatter.answer E.Join.answer in
+            IsIsolatedSource (brought_of says self.now) (registry_of self.now)
             (read_under E.Rule.answer self.now name.now source.now) context }
     {
         isolation();

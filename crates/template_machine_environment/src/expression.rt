@@ -110,12 +110,14 @@ impl<'env, 'source, E: Extension> Expression<'env, 'source, E> {
     /// [`ErrorKind::WriteFailure`] only where a callable states it, since it writes nothing.
     pub fn eval(&self, ids: &mut StateIds, context: Value) -> Result<Value, Error>
         // Its meaning leaves one value, or ends with a fault.
-        ensures finished { GivesOne (evaluation_of (user_answers E.Callable.answer E.Method.answer E.Formatter.answer E.Join.answer) self.now ids.old context).end }
-        ensures value { ids.old ≢ u64.MAX → Gives result
-            (under (fuel_under self.now) (evaluation_of (user_answers E.Callable.answer E.Method.answer E.Formatter.answer E.Join.answer) self.now ids.old context)) }
+        ensures finished { let says = user_answers E.Callable.answer E.Method.answer E.Formatter.answer E.Join.answer in
+            GivesOne (evaluation_of says self.now ids.old context).end }
+        ensures value { let says = user_answers E.Callable.answer E.Method.answer E.Formatter.answer E.Join.answer in
+            ids.old ≢ u64.MAX → Gives result (under (fuel_under self.now) (evaluation_of says self.now ids.old context)) }
         ensures counted { ids.old ≢ u64.MAX → ids.new ≡ ids.old + 1 }
         ensures exhausted { ids.old ≡ u64.MAX → (result ≡ Err (ErrorKind.InvalidOperation ∷ [])) × (ids.new ≡ ids.old) }
-        ensures isolated { IsIsolatedEvaluation (user_answers E.Callable.answer E.Method.answer E.Formatter.answer E.Join.answer) self.now context }
+        ensures isolated { let says = user_answers E.Callable.answer E.Method.answer E.Formatter.answer E.Join.answer in
+            IsIsolatedEvaluation says self.now context }
     {
         every_expression_runs(self);
         every_expression_gives();
@@ -149,8 +151,9 @@ fn evaluate<'env, 'source, E: Extension>(
     compiled: &'env CompiledExpression<'source>,
     context: Value,
 ) -> Result<Value, Error>
-    ensures { Gives result (under (registry_of environment.now).fuel
-        (evaluated (setting_in (user_answers E.Callable.answer E.Method.answer E.Formatter.answer E.Join.answer) environment.now) id (expression_in compiled.now) context)) }
+    ensures { let says = user_answers E.Callable.answer E.Method.answer E.Formatter.answer E.Join.answer in
+        Gives result (under (registry_of environment.now).fuel
+        (evaluated (setting_in says environment.now) id (expression_in compiled.now) context)) }
 {
     let registry = &environment.registry;
     let alloc = registry.alloc;

@@ -1,14 +1,12 @@
 //! Laws of the templates and expressions of an environment, each as the contract of a function that does nothing.
 ghost use Rattle.std.specs.Prelude.{◌≡◌, ℕ, List, IsSome, Some, false, true};
 ghost use Rattle.template_values_model.specs.Val.{Val};
-ghost use Rattle.template_compiler_process.specs.Approximants.{IsFinished};
 ghost use Rattle.template_compiler_walk.specs.Runnable.{IsRunnable, IsRunnableTemplate};
 ghost use Rattle.template_machine_meaning.specs.Blocks.{is_among};
 ghost use Rattle.template_machine_meaning.specs.Functions.{Invoked};
 ghost use Rattle.template_compiler_names.specs.Names.{IsTold};
 ghost use Rattle.template_machine_meaning.specs.Isolation.{AskNoNames, IsContextName};
 ghost use Rattle.template_machine_meaning.specs.World.{first_world};
-ghost use Rattle.template_machine_renders.specs.Plans.{run_of};
 ghost use Rattle.template_compiled.specs.Expressions.{HasExpression, expression_in};
 ghost use Rattle.template_compiled.specs.Plain.{IsPlain, text_kept};
 ghost use Rattle.template_compiled.specs.Sources.{HasTree, Source, tree_in};
@@ -17,8 +15,9 @@ ghost use Rattle.template_machine_environment.specs.Extras.{no_answers, user_ans
 ghost use Rattle.template_machine_environment.specs.Isolated.{IsIsolated, tree_of};
 ghost use Rattle.template_machine_environment.specs.Plain.{text_run};
 ghost use Rattle.template_machine_environment.specs.Reading.{callables_of, registry_of, setting_in};
+ghost use Rattle.template_machine_environment.specs.Renderings.{Finishes};
 ghost use Rattle.template_machine_environment.specs.Standing.{names_in, source_at};
-ghost use Rattle.template_machine_environment.specs.States.{block_in, call_in, macro_in};
+ghost use Rattle.template_machine_environment.specs.States.{Returns, block_in, call_in, macro_in};
 ghost use Rattle.template_machine_environment.specs.Views.{globals_of, head_in, render_of, source_of};
 
 use crate::environment::Environment;
@@ -48,7 +47,8 @@ pub fn every_expression_runs<E: Extension>(expression: &Expression<'_, '_, E>)
 
 /// A law: each render of a template ends, in the state of whatever number, as its meaning is finished under some bound.
 pub fn every_render_ends<E: Extension>(template: &Template<'_, '_, E>)
-    ensures { (id : ℕ) (context : Val) → (n : ℕ) × IsFinished (render_of (user_answers E.Callable.answer E.Method.answer E.Formatter.answer E.Join.answer) template.now id n context).end }
+    ensures { let says = user_answers E.Callable.answer E.Method.answer E.Formatter.answer E.Join.answer in
+        (id : ℕ) (context : Val) → Finishes (λ n. render_of says template.now id n context) }
 {
     let _standing = template.environment.registry.templates.values();
     let _code = template.compiled.get().instructions();
@@ -56,7 +56,8 @@ pub fn every_render_ends<E: Extension>(template: &Template<'_, '_, E>)
 
 /// A law: each call of a block in a state ends, whatever the state holds: its meaning is finished under some bound.
 pub fn every_block_ends<E: Extension>(state: &State<'_, '_, E>)
-    ensures { (block : List ℕ) → (n : ℕ) × IsFinished (block_in (user_answers E.Callable.answer E.Method.answer E.Formatter.answer E.Join.answer) state.now block n).end }
+    ensures { let says = user_answers E.Callable.answer E.Method.answer E.Formatter.answer E.Join.answer in
+        (block : List ℕ) → Finishes (block_in says state.now block) }
 {
     let _standing = state.environment.registry.templates.values();
 }
@@ -64,17 +65,18 @@ pub fn every_block_ends<E: Extension>(state: &State<'_, '_, E>)
 /// A law: so does each call of a filter or a test in a state, with all that it asks further, and each call of what stands under
 /// a name, as a macro, for its text.
 pub fn every_call_ends<E: Extension>(state: &State<'_, '_, E>)
-    ensures calls { (what : Invoked) (args : List Val) →
-        (n : ℕ) × IsFinished (run_of (call_in (user_answers E.Callable.answer E.Method.answer E.Formatter.answer E.Join.answer) state.now what args n)).end }
-    ensures texts { (name : List ℕ) (args : List Val) →
-        (n : ℕ) × IsFinished (run_of (macro_in (user_answers E.Callable.answer E.Method.answer E.Formatter.answer E.Join.answer) state.now name args n)).end }
+    ensures calls { let says = user_answers E.Callable.answer E.Method.answer E.Formatter.answer E.Join.answer in
+        (what : Invoked) (args : List Val) → Returns (call_in says state.now what args) }
+    ensures texts { let says = user_answers E.Callable.answer E.Method.answer E.Formatter.answer E.Join.answer in
+        (name : List ℕ) (args : List Val) → Returns (macro_in says state.now name args) }
 {
     let _standing = state.environment.registry.templates.values();
 }
 
 /// A law: the names of all templates that stand in an environment list them.
 pub fn names_list_all<E: Extension>(environment: &Environment<'_, E>)
-    ensures { (name : List ℕ) → IsSome (source_at (registry_of environment.now) name) → is_among name (names_in (registry_of environment.now)) ≡ true }
+    ensures { (name : List ℕ) → IsSome (source_at (registry_of environment.now) name)
+        → is_among name (names_in (registry_of environment.now)) ≡ true }
 {
     let _standing = environment.registry.templates.values();
 }
@@ -82,7 +84,8 @@ pub fn names_list_all<E: Extension>(environment: &Environment<'_, E>)
 /// A law: a template in whose source no marker starts renders to its text, at the price of one step, and to nothing where
 /// that is empty.
 pub fn plain_renders<E: Extension>(template: &Template<'_, '_, E>)
-    ensures { IsPlain (source_of template.now) → (id n : ℕ) (context : Val) → render_of (user_answers E.Callable.answer E.Method.answer E.Formatter.answer E.Join.answer) template.now id n context
+    ensures { let says = user_answers E.Callable.answer E.Method.answer E.Formatter.answer E.Join.answer in
+        IsPlain (source_of template.now) → (id n : ℕ) (context : Val) → render_of says template.now id n context
         ≡ text_run (text_kept (source_of template.now))
         (first_world id (globals_of template.now) (head_in template.now) context) }
 {
@@ -93,7 +96,8 @@ pub fn plain_renders<E: Extension>(template: &Template<'_, '_, E>)
 /// A law: where what the user brought asks for no names, contexts that agree at the names that can matter to a template make no
 /// difference to its renders.
 pub fn isolated_renders<E: Extension>(template: &Template<'_, '_, E>)
-    ensures { (context : Val) → IsIsolated (user_answers E.Callable.answer E.Method.answer E.Formatter.answer E.Join.answer) template.now context }
+    ensures { let says = user_answers E.Callable.answer E.Method.answer E.Formatter.answer E.Join.answer in
+        (context : Val) → IsIsolated says template.now context }
 {
     isolation();
 }
@@ -110,9 +114,11 @@ pub fn undeclared_names_matter<E: Extension>(
     _environment: &Environment<'_, E>,
     _template: &Template<'_, '_, E>,
 )
-    ensures own { (name : List ℕ) → IsTold false name (tree_of _template.now)
-        → IsContextName (setting_in (user_answers E.Callable.answer E.Method.answer E.Formatter.answer E.Join.answer) _environment.now) (tree_of _template.now) name }
-    ensures standing { (other : List ℕ) (source : Source) → source_at (registry_of _environment.now) other ≡ Some source
+    ensures own { let says = user_answers E.Callable.answer E.Method.answer E.Formatter.answer E.Join.answer in
+        (name : List ℕ) → IsTold false name (tree_of _template.now)
+        → IsContextName (setting_in says _environment.now) (tree_of _template.now) name }
+    ensures standing { let says = user_answers E.Callable.answer E.Method.answer E.Formatter.answer E.Join.answer in
+        (other : List ℕ) (source : Source) → source_at (registry_of _environment.now) other ≡ Some source
         → (name : List ℕ) → IsTold false name (tree_in source)
-        → IsContextName (setting_in (user_answers E.Callable.answer E.Method.answer E.Formatter.answer E.Join.answer) _environment.now) (tree_of _template.now) name }
+        → IsContextName (setting_in says _environment.now) (tree_of _template.now) name }
 {}

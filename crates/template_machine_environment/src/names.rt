@@ -33,12 +33,14 @@ impl<'source, E: Extension> Environment<'source, E> {
         &self,
         template: &Template<'_, 'source, E>,
     ) -> Result<BTreeSet<String>, Error>
-        ensures listed { IfOk result (λ names. (name : List ℕ) → IsTrue (contains_text names name)
-            ↔ IsContextName (setting_in (user_answers E.Callable.answer E.Method.answer E.Formatter.answer E.Join.answer) self.now) (tree_of template.now) name) }
+        ensures listed { let says = user_answers E.Callable.answer E.Method.answer E.Formatter.answer E.Join.answer in
+            IfOk result (λ names. (name : List ℕ) → IsTrue (contains_text names name)
+            ↔ IsContextName (setting_in says self.now) (tree_of template.now) name) }
 
         // Where what the user brought asks for no names, contexts that agree at these make no difference to its renders here.
-        ensures isolated { IfOk result (λ names. AskNoNames (callables_of (user_answers E.Callable.answer E.Method.answer E.Formatter.answer E.Join.answer) self.now) → (c d : Val) →
-            AgreeAmong names c d → IsSameRenderIn (brought_of (user_answers E.Callable.answer E.Method.answer E.Formatter.answer E.Join.answer) self.now) (registry_of self.now) template.now c d) }
+        ensures isolated { let says = user_answers E.Callable.answer E.Method.answer E.Formatter.answer E.Join.answer in
+            IfOk result (λ names. AskNoNames (callables_of says self.now) → (c d : Val) → AgreeAmong names c d
+            → IsSameRenderIn (brought_of says self.now) (registry_of self.now) template.now c d) }
         ensures refused { IfErr result NoMemory }
     {
         let alloc = self.allocator();

@@ -3,7 +3,6 @@ ghost use Rattle.std.specs.Prelude.{◌≡◌, ◌≢◌, ◌+◌, ◌∷◌, �
 ghost use Rattle.std.specs.BTreeSet.{contains_text};
 ghost use Rattle.template_values_errors.specs.Memory.{NoMemory};
 ghost use Rattle.template_values_named.specs.Named.{local_at};
-ghost use Rattle.template_compiler_process.specs.Approximants.{IsFinished};
 ghost use Rattle.template_compiler_process.specs.Fuel.{under};
 ghost use Rattle.template_compiler_process.specs.Process.{value};
 ghost use Rattle.template_values_model.specs.Val.{truth};
@@ -21,7 +20,7 @@ ghost use Rattle.template_compiler_code_shapes.specs.Checked.{kind_in};
 ghost use Rattle.template_compiler_code_shapes.specs.declared.StreamKind.{StreamKind};
 ghost use Rattle.template_machine_environment.specs.Extras.{user_answers};
 ghost use Rattle.template_machine_environment.specs.Reading.{registry_of};
-ghost use Rattle.template_machine_environment.specs.Renderings.{AnswersFailure, GivesText, IsNoMore, LeavesFuel, Renders, left_of, set_of};
+ghost use Rattle.template_machine_environment.specs.Renderings.{AnswersFailure, Finishes, GivesText, IsNoMore, LeavesFuel, Renders, WhereFinished, left_of, set_of};
 
 use crate::environment::Environment;
 use crate::laws::{every_block_ends, every_call_ends};
@@ -73,7 +72,7 @@ impl<'env, 'source, E: Extension> Drop for State<'env, 'source, E> {
 
 impl<'env, 'source, E: Extension> State<'env, 'source, E> {
     ghost use Rattle.template_machine_environment.specs.Standing.{settings_of, source_at};
-    ghost use Rattle.template_machine_environment.specs.States.{DoesThere, EndsIn, GivesLeft, GivesPrinted, GivesTold, IsMissing, KeepsRest, KeepsState, LeavesWorld, around_in, block_in, call_in, environment_in, format_in, frameless, fuel_left_in, fuel_set_in, head_of_template, id_in, joined_in, macro_in, name_in, own_in, stream_in, streams_in, template_in, worded_in, world_in};
+    ghost use Rattle.template_machine_environment.specs.States.{DoesThere, EndsIn, GivesLeft, GivesPrinted, GivesTold, IsMissing, KeepsRest, KeepsState, LeavesWorld, Returns, WhereReturned, around_in, block_in, call_in, environment_in, format_in, frameless, fuel_left_in, fuel_set_in, head_of_template, id_in, joined_in, macro_in, name_in, own_in, stream_in, streams_in, template_in, worded_in, world_in};
     ghost use Rattle.template_machine_environment.specs.Views.{environment_of, name_of, source_of};
 
     // A state without frames, of a template if one is given, with its escape and blocks, that has consumed no fuel.
@@ -201,19 +200,22 @@ impl<'env, 'source, E: Extension> State<'env, 'source, E> {
     /// so again; temps may have been set, and of a fuel that ran out nothing is left.
     pub fn apply_filter(&mut self, name: &str, args: &[Value]) -> Result<Value, Error>
         // It is finished under some bound.
-        ensures finished { (n : ℕ) × IsFinished (run_of (call_in (user_answers E.Callable.answer E.Method.answer E.Formatter.answer E.Join.answer) self.old (filter_named name.now) args.now n)).end }
+        ensures finished { let says = user_answers E.Callable.answer E.Method.answer E.Formatter.answer E.Join.answer in
+            Returns (call_in says self.old (filter_named name.now) args.now) }
 
         // Under each bound where it is finished, it is what the call comes to.
-        ensures told { let called = call_in (user_answers E.Callable.answer E.Method.answer E.Formatter.answer E.Join.answer) self.old (filter_named name.now) args.now in
-            (n : ℕ) → IsFinished (run_of (called n)).end → GivesTold value (fuel_left_in self.old) result (called n) }
-        ensures remains { let called = call_in (user_answers E.Callable.answer E.Method.answer E.Formatter.answer E.Join.answer) self.old (filter_named name.now) args.now in
-            (n : ℕ) → IsFinished (run_of (called n)).end → LeavesFuel (fuel_left_in self.old) (run_of (called n)) result (fuel_left_in self.new) }
-        ensures world { let called = call_in (user_answers E.Callable.answer E.Method.answer E.Formatter.answer E.Join.answer) self.old (filter_named name.now) args.now in
-            (n : ℕ) → IsFinished (run_of (called n)).end → LeavesWorld (fuel_left_in self.old) (world_in self.old) result (called n) (world_in self.new) }
+        ensures told { let says = user_answers E.Callable.answer E.Method.answer E.Formatter.answer E.Join.answer in
+            WhereReturned (call_in says self.old (filter_named name.now) args.now) (GivesTold value (fuel_left_in self.old) result) }
+        ensures remains { let says = user_answers E.Callable.answer E.Method.answer E.Formatter.answer E.Join.answer in
+            WhereReturned (call_in says self.old (filter_named name.now) args.now)
+            (λ reply. LeavesFuel (fuel_left_in self.old) (run_of reply) result (fuel_left_in self.new)) }
+        ensures world { let says = user_answers E.Callable.answer E.Method.answer E.Formatter.answer E.Join.answer in
+            WhereReturned (call_in says self.old (filter_named name.now) args.now)
+            (λ reply. LeavesWorld (fuel_left_in self.old) (world_in self.old) result reply (world_in self.new)) }
 
-        // Whatever its end, the frames are as before, and so is what every run keeps: the state's number, what the environment gives, the
-        // block that runs, the names of what was loaded, with others before them at most, and the bodies that blocks run, with others behind
-        // them at most.
+        // Whatever its end, the frames are as before, and so is what every run keeps: the state's number, what the environment gives,
+        // the block that runs, the names of what was loaded, with others before them at most, and the bodies that blocks run, with
+        // others behind them at most.
         ensures frames { (world_in self.new).frames ≡ (world_in self.old).frames }
         ensures keeps { KeepsWorld (world_in self.old) (world_in self.new) }
 
@@ -244,19 +246,23 @@ impl<'env, 'source, E: Extension> State<'env, 'source, E> {
     /// [`ErrorKind::UnknownTest`] where the environment has none of this name; else as [`State::apply_filter`].
     pub fn perform_test(&mut self, name: &str, args: &[Value]) -> Result<bool, Error>
         // It is finished under some bound.
-        ensures finished { (n : ℕ) × IsFinished (run_of (call_in (user_answers E.Callable.answer E.Method.answer E.Formatter.answer E.Join.answer) self.old (test_named name.now) args.now n)).end }
+        ensures finished { let says = user_answers E.Callable.answer E.Method.answer E.Formatter.answer E.Join.answer in
+            Returns (call_in says self.old (test_named name.now) args.now) }
 
         // Under each bound where it is finished, it is what the call comes to.
-        ensures told { let called = call_in (user_answers E.Callable.answer E.Method.answer E.Formatter.answer E.Join.answer) self.old (test_named name.now) args.now in
-            (n : ℕ) → IsFinished (run_of (called n)).end → GivesTold (λ is. value (truth is)) (fuel_left_in self.old) result (called n) }
-        ensures remains { let called = call_in (user_answers E.Callable.answer E.Method.answer E.Formatter.answer E.Join.answer) self.old (test_named name.now) args.now in
-            (n : ℕ) → IsFinished (run_of (called n)).end → LeavesFuel (fuel_left_in self.old) (run_of (called n)) result (fuel_left_in self.new) }
-        ensures world { let called = call_in (user_answers E.Callable.answer E.Method.answer E.Formatter.answer E.Join.answer) self.old (test_named name.now) args.now in
-            (n : ℕ) → IsFinished (run_of (called n)).end → LeavesWorld (fuel_left_in self.old) (world_in self.old) result (called n) (world_in self.new) }
+        ensures told { let says = user_answers E.Callable.answer E.Method.answer E.Formatter.answer E.Join.answer in
+            WhereReturned (call_in says self.old (test_named name.now) args.now)
+            (GivesTold (λ is. value (truth is)) (fuel_left_in self.old) result) }
+        ensures remains { let says = user_answers E.Callable.answer E.Method.answer E.Formatter.answer E.Join.answer in
+            WhereReturned (call_in says self.old (test_named name.now) args.now)
+            (λ reply. LeavesFuel (fuel_left_in self.old) (run_of reply) result (fuel_left_in self.new)) }
+        ensures world { let says = user_answers E.Callable.answer E.Method.answer E.Formatter.answer E.Join.answer in
+            WhereReturned (call_in says self.old (test_named name.now) args.now)
+            (λ reply. LeavesWorld (fuel_left_in self.old) (world_in self.old) result reply (world_in self.new)) }
 
-        // Whatever its end, the frames are as before, and so is what every run keeps: the state's number, what the environment gives, the
-        // block that runs, the names of what was loaded, with others before them at most, and the bodies that blocks run, with others behind
-        // them at most.
+        // Whatever its end, the frames are as before, and so is what every run keeps: the state's number, what the environment gives,
+        // the block that runs, the names of what was loaded, with others before them at most, and the bodies that blocks run, with
+        // others behind them at most.
         ensures frames { (world_in self.new).frames ≡ (world_in self.old).frames }
         ensures keeps { KeepsWorld (world_in self.old) (world_in self.new) }
 
@@ -290,19 +296,22 @@ impl<'env, 'source, E: Extension> State<'env, 'source, E> {
     /// does not take; the fault of what runs, as [`ErrorKind::OutOfFuel`]; [`ErrorKind::OutOfMemory`]. Then as [`State::apply_filter`].
     pub fn call_macro(&mut self, name: &str, args: &[Value]) -> Result<String, Error>
         // It is finished under some bound.
-        ensures finished { (n : ℕ) × IsFinished (run_of (macro_in (user_answers E.Callable.answer E.Method.answer E.Formatter.answer E.Join.answer) self.old name.now args.now n)).end }
+        ensures finished { let says = user_answers E.Callable.answer E.Method.answer E.Formatter.answer E.Join.answer in
+            Returns (macro_in says self.old name.now args.now) }
 
         // Under each bound where it is finished, it is the text that the call comes to.
-        ensures told { let called = macro_in (user_answers E.Callable.answer E.Method.answer E.Formatter.answer E.Join.answer) self.old name.now args.now in
-            (n : ℕ) → IsFinished (run_of (called n)).end → GivesTold (worded_in self.new) (fuel_left_in self.old) result (called n) }
-        ensures remains { let called = macro_in (user_answers E.Callable.answer E.Method.answer E.Formatter.answer E.Join.answer) self.old name.now args.now in
-            (n : ℕ) → IsFinished (run_of (called n)).end → LeavesFuel (fuel_left_in self.old) (run_of (called n)) result (fuel_left_in self.new) }
-        ensures world { let called = macro_in (user_answers E.Callable.answer E.Method.answer E.Formatter.answer E.Join.answer) self.old name.now args.now in
-            (n : ℕ) → IsFinished (run_of (called n)).end → LeavesWorld (fuel_left_in self.old) (world_in self.old) result (called n) (world_in self.new) }
+        ensures told { let says = user_answers E.Callable.answer E.Method.answer E.Formatter.answer E.Join.answer in
+            WhereReturned (macro_in says self.old name.now args.now) (GivesTold (worded_in self.new) (fuel_left_in self.old) result) }
+        ensures remains { let says = user_answers E.Callable.answer E.Method.answer E.Formatter.answer E.Join.answer in
+            WhereReturned (macro_in says self.old name.now args.now)
+            (λ reply. LeavesFuel (fuel_left_in self.old) (run_of reply) result (fuel_left_in self.new)) }
+        ensures world { let says = user_answers E.Callable.answer E.Method.answer E.Formatter.answer E.Join.answer in
+            WhereReturned (macro_in says self.old name.now args.now)
+            (λ reply. LeavesWorld (fuel_left_in self.old) (world_in self.old) result reply (world_in self.new)) }
 
-        // Whatever its end, the frames are as before, and so is what every run keeps: the state's number, what the environment gives, the
-        // block that runs, the names of what was loaded, with others before them at most, and the bodies that blocks run, with others behind
-        // them at most.
+        // Whatever its end, the frames are as before, and so is what every run keeps: the state's number, what the environment gives,
+        // the block that runs, the names of what was loaded, with others before them at most, and the bodies that blocks run, with
+        // others behind them at most.
         ensures frames { (world_in self.new).frames ≡ (world_in self.old).frames }
         ensures keeps { KeepsWorld (world_in self.old) (world_in self.new) }
 
@@ -436,8 +445,8 @@ impl<'env, 'source, E: Extension> State<'env, 'source, E> {
     /// the kinds that it states; what the escape refuses the value with; [`ErrorKind::OutOfMemory`] alone where a growth was
     /// refused.
     pub fn format(&self, value: &Value) -> Result<String, Error>
-        ensures { GivesPrinted (outside (world_in self.now)) result
-            (format_in (user_answers E.Callable.answer E.Method.answer E.Formatter.answer E.Join.answer) self.now value.now) }
+        ensures { let says = user_answers E.Callable.answer E.Method.answer E.Formatter.answer E.Join.answer in
+            GivesPrinted (outside (world_in self.now)) result (format_in says self.now value.now) }
     {
         let environment = self.environment;
         let rules = environment.registry.rules(own_name(self.template));
@@ -460,11 +469,13 @@ impl<'env, 'source, E: Extension> State<'env, 'source, E> {
     /// [`ErrorKind::TemplateNotFound`] where none stands; the fault of the environment's path join callback, by the kinds that
     /// it states; [`ErrorKind::OutOfMemory`].
     pub fn get_template(&self, name: &str) -> Result<Template<'env, 'source, E>, Error>
-        ensures found { IfOk result (λ t. joined_in (user_answers E.Callable.answer E.Method.answer E.Formatter.answer E.Join.answer) self.now name.now ≡ Ok (name_of t)) }
+        ensures found { let says = user_answers E.Callable.answer E.Method.answer E.Formatter.answer E.Join.answer in
+            IfOk result (λ t. joined_in says self.now name.now ≡ Ok (name_of t)) }
         ensures stands { IfOk result (λ t. source_at (registry_of (environment_in self.now)) (name_of t) ≡ Some (source_of t)) }
         ensures here { IfOk result (λ t. environment_of t ≡ environment_in self.now) }
-        ensures missing { IfErr result (λ kinds. NoMemory kinds
-            ⊎ IsMissing (registry_of (environment_in self.now)) (joined_in (user_answers E.Callable.answer E.Method.answer E.Formatter.answer E.Join.answer) self.now name.now) kinds) }
+        ensures missing { let says = user_answers E.Callable.answer E.Method.answer E.Formatter.answer E.Join.answer in
+            IfErr result (λ kinds. NoMemory kinds
+            ⊎ IsMissing (registry_of (environment_in self.now)) (joined_in says self.now name.now) kinds) }
     {
         let environment = self.environment;
         let joined = match environment.join(name, self.name()) {
@@ -483,19 +494,22 @@ impl<'env, 'source, E: Extension> State<'env, 'source, E> {
     /// As [`State::render_block_to_write`]; [`ErrorKind::WriteFailure`] only where a callable states it.
     pub fn render_block(&mut self, block: &str) -> Result<String, Error>
         // Its meaning is finished under some bound.
-        ensures finished { (n : ℕ) × IsFinished (block_in (user_answers E.Callable.answer E.Method.answer E.Formatter.answer E.Join.answer) self.old block.now n).end }
+        ensures finished { let says = user_answers E.Callable.answer E.Method.answer E.Formatter.answer E.Join.answer in
+            Finishes (block_in says self.old block.now) }
 
         // Under each bound where its meaning is finished, its text is the one that the call gives.
-        ensures text { let ran = block_in (user_answers E.Callable.answer E.Method.answer E.Formatter.answer E.Join.answer) self.old block.now in
-            (n : ℕ) → IsFinished (ran n).end → GivesText (λ text. string_bytes text) result (under (fuel_left_in self.old) (ran n)) }
-        ensures remains { let ran = block_in (user_answers E.Callable.answer E.Method.answer E.Formatter.answer E.Join.answer) self.old block.now in
-            (n : ℕ) → IsFinished (ran n).end → LeavesFuel (fuel_left_in self.old) (ran n) result (fuel_left_in self.new) }
-        ensures world { let ran = block_in (user_answers E.Callable.answer E.Method.answer E.Formatter.answer E.Join.answer) self.old block.now in
-            (n : ℕ) → IsFinished (ran n).end → EndsIn (fuel_left_in self.old) result (ran n) (world_in self.new) }
+        ensures text { let says = user_answers E.Callable.answer E.Method.answer E.Formatter.answer E.Join.answer in
+            WhereFinished (block_in says self.old block.now)
+            (λ run. GivesText (λ text. string_bytes text) result (under (fuel_left_in self.old) run)) }
+        ensures remains { let says = user_answers E.Callable.answer E.Method.answer E.Formatter.answer E.Join.answer in
+            WhereFinished (block_in says self.old block.now)
+            (λ run. LeavesFuel (fuel_left_in self.old) run result (fuel_left_in self.new)) }
+        ensures world { let says = user_answers E.Callable.answer E.Method.answer E.Formatter.answer E.Join.answer in
+            WhereFinished (block_in says self.old block.now) (λ run. EndsIn (fuel_left_in self.old) result run (world_in self.new)) }
 
-        // Whatever its end, the frames are as before, and so is what every run keeps: the state's number, what the environment gives, the
-        // block that runs, the names of what was loaded, with others before them at most, and the bodies that blocks run, with others behind
-        // them at most.
+        // Whatever its end, the frames are as before, and so is what every run keeps: the state's number, what the environment gives,
+        // the block that runs, the names of what was loaded, with others before them at most, and the bodies that blocks run, with
+        // others behind them at most.
         ensures frames { (world_in self.new).frames ≡ (world_in self.old).frames }
         ensures keeps { KeepsWorld (world_in self.old) (world_in self.new) }
 
@@ -520,24 +534,26 @@ impl<'env, 'source, E: Extension> State<'env, 'source, E> {
     /// temps, and what the block loaded, stay; of a fuel that ran out nothing is left.
     pub fn render_block_to_write<S: Sink>(&mut self, block: &str, sink: &mut S) -> Result<(), Error>
         // Its meaning is finished under some bound.
-        ensures finished { (n : ℕ) × IsFinished (block_in (user_answers E.Callable.answer E.Method.answer E.Formatter.answer E.Join.answer) self.old block.now n).end }
+        ensures finished { let says = user_answers E.Callable.answer E.Method.answer E.Formatter.answer E.Join.answer in
+            Finishes (block_in says self.old block.now) }
 
         // Under each bound where its meaning is finished, its text is the one that goes into the sink.
-        ensures renders { let ran = block_in (user_answers E.Callable.answer E.Method.answer E.Formatter.answer E.Join.answer) self.old block.now in
-            (n : ℕ) → IsFinished (ran n).end →
-            Renders result (S.taken sink.old) (S.taken sink.new) (S.failures sink.old) (S.failures sink.new) (under (fuel_left_in self.old) (ran n)) }
+        ensures renders { let says = user_answers E.Callable.answer E.Method.answer E.Formatter.answer E.Join.answer in
+            WhereFinished (block_in says self.old block.now)
+            (λ run. Renders result (S.taken sink.old) (S.taken sink.new) (S.failures sink.old) (S.failures sink.new)
+            (under (fuel_left_in self.old) run)) }
 
         // Where the sink does not fail, the fuel and the world that are left are what that leaves.
-        ensures remains { let ran = block_in (user_answers E.Callable.answer E.Method.answer E.Formatter.answer E.Join.answer) self.old block.now in
-            S.failures sink.new ≡ S.failures sink.old →
-            (n : ℕ) → IsFinished (ran n).end → LeavesFuel (fuel_left_in self.old) (ran n) result (fuel_left_in self.new) }
-        ensures world { let ran = block_in (user_answers E.Callable.answer E.Method.answer E.Formatter.answer E.Join.answer) self.old block.now in
-            S.failures sink.new ≡ S.failures sink.old →
-            (n : ℕ) → IsFinished (ran n).end → EndsIn (fuel_left_in self.old) result (ran n) (world_in self.new) }
+        ensures remains { let says = user_answers E.Callable.answer E.Method.answer E.Formatter.answer E.Join.answer in
+            S.failures sink.new ≡ S.failures sink.old → WhereFinished (block_in says self.old block.now)
+            (λ run. LeavesFuel (fuel_left_in self.old) run result (fuel_left_in self.new)) }
+        ensures world { let says = user_answers E.Callable.answer E.Method.answer E.Formatter.answer E.Join.answer in
+            S.failures sink.new ≡ S.failures sink.old → WhereFinished (block_in says self.old block.now)
+            (λ run. EndsIn (fuel_left_in self.old) result run (world_in self.new)) }
 
-        // Whatever its end, the frames are as before, and so is what every run keeps: the state's number, what the environment gives, the
-        // block that runs, the names of what was loaded, with others before them at most, and the bodies that blocks run, with others behind
-        // them at most.
+        // Whatever its end, the frames are as before, and so is what every run keeps: the state's number, what the environment gives,
+        // the block that runs, the names of what was loaded, with others before them at most, and the bodies that blocks run, with
+        // others behind them at most.
         ensures frames { (world_in self.new).frames ≡ (world_in self.old).frames }
         ensures keeps { KeepsWorld (world_in self.old) (world_in self.new) }
 
@@ -586,25 +602,27 @@ impl<'env, 'source, E: Extension> State<'env, 'source, E> {
         sink: &mut S,
     ) -> Result<Option<Value>, Error>
         // Under each bound where the stream's run is finished, its text is the one that goes into the sink.
-        ensures renders { let ran = stream_in (user_answers E.Callable.answer E.Method.answer E.Formatter.answer E.Join.answer) self.old stream.now in
-            (n : ℕ) → IsFinished (ran n).end →
-            Renders result (S.taken sink.old) (S.taken sink.new) (S.failures sink.old) (S.failures sink.new) (under (fuel_left_in self.old) (ran n)) }
+        ensures renders { let says = user_answers E.Callable.answer E.Method.answer E.Formatter.answer E.Join.answer in
+            WhereFinished (stream_in says self.old stream.now)
+            (λ run. Renders result (S.taken sink.old) (S.taken sink.new) (S.failures sink.old) (S.failures sink.new)
+            (under (fuel_left_in self.old) run)) }
 
         // The value is the one that its own instructions leave, if they leave one: those of a template's stream leave none.
-        ensures gives { IfOk result (GivesLeft (own_in (user_answers E.Callable.answer E.Method.answer E.Formatter.answer E.Join.answer) self.old stream.now)) }
+        ensures gives { let says = user_answers E.Callable.answer E.Method.answer E.Formatter.answer E.Join.answer in
+            IfOk result (GivesLeft (own_in says self.old stream.now)) }
         ensures template { IfOk result (λ given. kind_in stream.now ≡ StreamKind.Template → given ≡ None) }
 
         // Where the sink does not fail, the fuel and the world that are left are what the run leaves.
-        ensures remains { let ran = stream_in (user_answers E.Callable.answer E.Method.answer E.Formatter.answer E.Join.answer) self.old stream.now in
-            S.failures sink.new ≡ S.failures sink.old →
-            (n : ℕ) → IsFinished (ran n).end → LeavesFuel (fuel_left_in self.old) (ran n) result (fuel_left_in self.new) }
-        ensures world { let ran = stream_in (user_answers E.Callable.answer E.Method.answer E.Formatter.answer E.Join.answer) self.old stream.now in
-            S.failures sink.new ≡ S.failures sink.old →
-            (n : ℕ) → IsFinished (ran n).end → EndsIn (fuel_left_in self.old) result (ran n) (world_in self.new) }
+        ensures remains { let says = user_answers E.Callable.answer E.Method.answer E.Formatter.answer E.Join.answer in
+            S.failures sink.new ≡ S.failures sink.old → WhereFinished (stream_in says self.old stream.now)
+            (λ run. LeavesFuel (fuel_left_in self.old) run result (fuel_left_in self.new)) }
+        ensures world { let says = user_answers E.Callable.answer E.Method.answer E.Formatter.answer E.Join.answer in
+            S.failures sink.new ≡ S.failures sink.old → WhereFinished (stream_in says self.old stream.now)
+            (λ run. EndsIn (fuel_left_in self.old) result run (world_in self.new)) }
 
-        // Whatever its end, the frames are as before, and so is what every run keeps: the state's number, what the environment gives, the
-        // block that runs, the names of what was loaded, with others before them at most, and the bodies that blocks run, with others behind
-        // them at most.
+        // Whatever its end, the frames are as before, and so is what every run keeps: the state's number, what the environment gives,
+        // the block that runs, the names of what was loaded, with others before them at most, and the bodies that blocks run, with
+        // others behind them at most.
         ensures frames { (world_in self.new).frames ≡ (world_in self.old).frames }
         ensures keeps { KeepsWorld (world_in self.old) (world_in self.new) }
 

@@ -1,7 +1,6 @@
 //! Templates of an environment, and what a render leaves.
-ghost use Rattle.std.specs.Prelude.{◌≡◌, ◌≢◌, ◌+◌, ◌∷◌, [], ℕ, Some, IfOk, IfErr, Err, option_map, string_bytes};
+ghost use Rattle.std.specs.Prelude.{◌≡◌, ◌≢◌, ◌+◌, ◌∷◌, [], Some, IfOk, IfErr, Err, option_map, string_bytes};
 ghost use Rattle.template_values_errors.specs.Memory.{NoMemory};
-ghost use Rattle.template_compiler_process.specs.Approximants.{IsFinished};
 ghost use Rattle.template_compiler_process.specs.Fuel.{under};
 ghost use Rattle.template_machine_surroundings.specs.Rule.{IsEscapeOf};
 ghost use Rattle.template_machine_renders.specs.Renders.{leaves};
@@ -9,7 +8,7 @@ ghost use Rattle.template_compiled.specs.Plain.{IsPlain, text_kept};
 ghost use Rattle.template_machine_environment.specs.Extras.{user_answers};
 ghost use Rattle.template_machine_environment.specs.Plain.{GivesItself, WritesItself};
 ghost use Rattle.template_machine_environment.specs.Reading.{registry_of};
-ghost use Rattle.template_machine_environment.specs.Renderings.{AnswersFailure, GivesText, Renders, rendering_in};
+ghost use Rattle.template_machine_environment.specs.Renderings.{AnswersFailure, Finishes, GivesText, Renders, WhereFinished, rendering_in};
 ghost use Rattle.template_machine_environment.specs.States.{environment_in, fuel_left_in, fuel_set_in, id_in, template_in, world_in};
 
 use crate::environment::Environment;
@@ -129,12 +128,13 @@ impl<'env, 'source, E: Extension> Template<'env, 'source, E> {
     /// As [`Template::render_captured`].
     pub fn render(&self, ids: &mut StateIds, context: Value) -> Result<String, Error>
         // Its meaning is finished under some bound.
-        ensures finished { (n : ℕ) × IsFinished (render_of (user_answers E.Callable.answer E.Method.answer E.Formatter.answer E.Join.answer) self.now ids.old n context).end }
+        ensures finished { let says = user_answers E.Callable.answer E.Method.answer E.Formatter.answer E.Join.answer in
+            Finishes (λ n. render_of says self.now ids.old n context) }
 
         // Under each bound where its meaning is finished, its text is the one that the call gives.
-        ensures text { let ran = render_of (user_answers E.Callable.answer E.Method.answer E.Formatter.answer E.Join.answer) self.now ids.old in
-            ids.old ≢ u64.MAX → (n : ℕ) → IsFinished (ran n context).end →
-            GivesText (λ text. string_bytes text) result (under (fuel_of self.now) (ran n context)) }
+        ensures text { let says = user_answers E.Callable.answer E.Method.answer E.Formatter.answer E.Join.answer in
+            ids.old ≢ u64.MAX → WhereFinished (λ n. render_of says self.now ids.old n context)
+            (λ run. GivesText (λ text. string_bytes text) result (under (fuel_of self.now) run)) }
 
         // Where no marker starts in its source, that is its text.
         ensures plain { ids.old ≢ u64.MAX → IsPlain (source_of self.now) →
@@ -167,18 +167,19 @@ impl<'env, 'source, E: Extension> Template<'env, 'source, E> {
         context: Value,
     ) -> Result<Captured<'_, 'source, E>, Error>
         // Its meaning is finished under some bound.
-        ensures finished { (n : ℕ) × IsFinished (render_of (user_answers E.Callable.answer E.Method.answer E.Formatter.answer E.Join.answer) self.now ids.old n context).end }
+        ensures finished { let says = user_answers E.Callable.answer E.Method.answer E.Formatter.answer E.Join.answer in
+            Finishes (λ n. render_of says self.now ids.old n context) }
 
         // Under each bound where its meaning is finished, its text is the one that the call gives.
-        ensures text { let ran = render_of (user_answers E.Callable.answer E.Method.answer E.Formatter.answer E.Join.answer) self.now ids.old in
-            ids.old ≢ u64.MAX → (n : ℕ) → IsFinished (ran n context).end →
-            GivesText output_of result (under (fuel_of self.now) (ran n context)) }
-        ensures remains { let ran = render_of (user_answers E.Callable.answer E.Method.answer E.Formatter.answer E.Join.answer) self.now ids.old in
-            IfOk result (λ captured. (n : ℕ) → IsFinished (ran n context).end →
-            fuel_left captured ≡ leaves (fuel_of self.now) (ran n context)) }
-        ensures world { let ran = render_of (user_answers E.Callable.answer E.Method.answer E.Formatter.answer E.Join.answer) self.now ids.old in
-            IfOk result (λ captured. (n : ℕ) → IsFinished (ran n context).end →
-            world_of captured ≡ (under (fuel_of self.now) (ran n context)).after) }
+        ensures text { let says = user_answers E.Callable.answer E.Method.answer E.Formatter.answer E.Join.answer in
+            ids.old ≢ u64.MAX → WhereFinished (λ n. render_of says self.now ids.old n context)
+            (λ run. GivesText output_of result (under (fuel_of self.now) run)) }
+        ensures remains { let says = user_answers E.Callable.answer E.Method.answer E.Formatter.answer E.Join.answer in
+            IfOk result (λ captured. WhereFinished (λ n. render_of says self.now ids.old n context)
+            (λ run. fuel_left captured ≡ leaves (fuel_of self.now) run)) }
+        ensures world { let says = user_answers E.Callable.answer E.Method.answer E.Formatter.answer E.Join.answer in
+            IfOk result (λ captured. WhereFinished (λ n. render_of says self.now ids.old n context)
+            (λ run. world_of captured ≡ (under (fuel_of self.now) run).after)) }
 
         // Where no marker starts in its source, that is its text.
         ensures plain { ids.old ≢ u64.MAX → IsPlain (source_of self.now) →
@@ -225,19 +226,20 @@ impl<'env, 'source, E: Extension> Template<'env, 'source, E> {
         sink: &mut S,
     ) -> Result<Captured<'_, 'source, E>, Error>
         // Its meaning is finished under some bound.
-        ensures finished { (n : ℕ) × IsFinished (render_of (user_answers E.Callable.answer E.Method.answer E.Formatter.answer E.Join.answer) self.now ids.old n context).end }
+        ensures finished { let says = user_answers E.Callable.answer E.Method.answer E.Formatter.answer E.Join.answer in
+            Finishes (λ n. render_of says self.now ids.old n context) }
 
         // Under each bound where its meaning is finished, it is what the call does.
-        ensures renders { let ran = render_of (user_answers E.Callable.answer E.Method.answer E.Formatter.answer E.Join.answer) self.now ids.old in
-            ids.old ≢ u64.MAX → (n : ℕ) → IsFinished (ran n context).end →
-            Renders result (S.taken sink.old) (S.taken sink.new) (S.failures sink.old) (S.failures sink.new)
-            (under (fuel_of self.now) (ran n context)) }
-        ensures remains { let ran = render_of (user_answers E.Callable.answer E.Method.answer E.Formatter.answer E.Join.answer) self.now ids.old in
-            IfOk result (λ captured. (n : ℕ) → IsFinished (ran n context).end →
-            fuel_left captured ≡ leaves (fuel_of self.now) (ran n context)) }
-        ensures world { let ran = render_of (user_answers E.Callable.answer E.Method.answer E.Formatter.answer E.Join.answer) self.now ids.old in
-            IfOk result (λ captured. (n : ℕ) → IsFinished (ran n context).end →
-            world_of captured ≡ (under (fuel_of self.now) (ran n context)).after) }
+        ensures renders { let says = user_answers E.Callable.answer E.Method.answer E.Formatter.answer E.Join.answer in
+            ids.old ≢ u64.MAX → WhereFinished (λ n. render_of says self.now ids.old n context)
+            (λ run. Renders result (S.taken sink.old) (S.taken sink.new) (S.failures sink.old) (S.failures sink.new)
+            (under (fuel_of self.now) run)) }
+        ensures remains { let says = user_answers E.Callable.answer E.Method.answer E.Formatter.answer E.Join.answer in
+            IfOk result (λ captured. WhereFinished (λ n. render_of says self.now ids.old n context)
+            (λ run. fuel_left captured ≡ leaves (fuel_of self.now) run)) }
+        ensures world { let says = user_answers E.Callable.answer E.Method.answer E.Formatter.answer E.Join.answer in
+            IfOk result (λ captured. WhereFinished (λ n. render_of says self.now ids.old n context)
+            (λ run. world_of captured ≡ (under (fuel_of self.now) run).after)) }
 
         // Where no marker starts in its source, that is its text.
         ensures plain { ids.old ≢ u64.MAX → IsPlain (source_of self.now) →
@@ -276,14 +278,16 @@ fn run<'env, 'source, E: Extension, S: Sink>(
     context: Value,
     sink: &mut S,
 ) -> Result<State<'env, 'source, E>, Error>
-    ensures renders { let ran = rendering_in (user_answers E.Callable.answer E.Method.answer E.Formatter.answer E.Join.answer) environment.now id compiled.now in
-        (n : ℕ) → IsFinished (ran n context).end →
-        Renders result (S.taken sink.old) (S.taken sink.new) (S.failures sink.old) (S.failures sink.new)
-        (under (registry_of environment.now).fuel (ran n context)) }
-    ensures remains { let ran = rendering_in (user_answers E.Callable.answer E.Method.answer E.Formatter.answer E.Join.answer) environment.now id compiled.now in
-        IfOk result (λ s. (n : ℕ) → IsFinished (ran n context).end → fuel_left_in s ≡ leaves (registry_of environment.now).fuel (ran n context)) }
-    ensures world { let ran = rendering_in (user_answers E.Callable.answer E.Method.answer E.Formatter.answer E.Join.answer) environment.now id compiled.now in
-        IfOk result (λ s. (n : ℕ) → IsFinished (ran n context).end → world_in s ≡ (under (registry_of environment.now).fuel (ran n context)).after) }
+    ensures renders { let says = user_answers E.Callable.answer E.Method.answer E.Formatter.answer E.Join.answer in
+        WhereFinished (λ n. rendering_in says environment.now id compiled.now n context)
+        (λ run. Renders result (S.taken sink.old) (S.taken sink.new) (S.failures sink.old) (S.failures sink.new)
+        (under (registry_of environment.now).fuel run)) }
+    ensures remains { let says = user_answers E.Callable.answer E.Method.answer E.Formatter.answer E.Join.answer in
+        IfOk result (λ s. WhereFinished (λ n. rendering_in says environment.now id compiled.now n context)
+        (λ run. fuel_left_in s ≡ leaves (registry_of environment.now).fuel run)) }
+    ensures world { let says = user_answers E.Callable.answer E.Method.answer E.Formatter.answer E.Join.answer in
+        IfOk result (λ s. WhereFinished (λ n. rendering_in says environment.now id compiled.now n context)
+        (λ run. world_in s ≡ (under (registry_of environment.now).fuel run).after)) }
     ensures failures { AnswersFailure result (S.failures sink.old) (S.failures sink.new) }
     ensures given { IfOk result (λ s. fuel_set_in s ≡ (registry_of environment.now).fuel) }
     ensures here { IfOk result (λ s. environment_in s ≡ environment.now) }
