@@ -26,6 +26,8 @@ pub fn one_setting()
 
 /// So do environments, with what users bring by the types of `E`, that histories of changes come to which agree on each name.
 pub fn agreeing_histories<E: Extension>()
-    ensures setting { AgreeingComeToOneSetting E E.Callable E.Method E.Formatter E.Join E.Rule (user_answers E.Callable.answer E.Method.answer E.Formatter.answer E.Join.answer) }
-    ensures renders { AgreeingRenderTheSame E E.Callable E.Method E.Formatter E.Join E.Rule (user_answers E.Callable.answer E.Method.answer E.Formatter.answer E.Join.answer) }
+    ensures setting { let says = user_answers E.Callable.answer E.Method.answer E.Formatter.answer E.Join.answer in
+        AgreeingComeToOneSetting E E.Callable E.Method E.Formatter E.Join E.Rule says }
+    ensures renders { let says = user_answers E.Callable.answer E.Method.answer E.Formatter.answer E.Join.answer in
+        AgreeingRenderTheSame E E.Callable E.Method E.Formatter E.Join E.Rule says }
 {}
