@@ -6,6 +6,7 @@ use Rattle.template_values_errors.specs.declared.modes.AutoEscape.TheVariants as
 use Rattle.template_values_errors.specs.declared.modes.UndefinedBehavior.{UndefinedBehavior}
 use Rattle.template_values_errors.specs.declared.modes.UndefinedBehavior.TheVariants.{Lenient, Strict}
 use Rattle.template_values_model.specs.Val.{Val, undefined, int, text, map, function, namespace, no_pairs, pairs_more}
+use Rattle.template_values_named.specs.Named.{with_all_named}
 use Rattle.template_compiler_tree.specs.declared.operators.BinOpKind.TheVariants as operators
 use Rattle.template_compiler_tree.specs.declared.operators.CompareOpKind.TheVariants.{Lt, Gt}
 use Rattle.std.specs.Fmt as fmt
@@ -18,7 +19,8 @@ use Rattle.template_callables.specs.Joins.{Joins, keeps_name}
 use Rattle.template_compiler_process.specs.Drive.{End, ends, faults}
 use Rattle.template_compiler_process.specs.Trace.{Run, text_of, price_of}
 use Rattle.template_compiler_process.specs.Fuel.{under}
-use Rattle.template_machine_meaning.specs.World.{Globals, World, local_at, range_number, dict_number, namespace_number}
+use Rattle.template_machine_meaning.specs.World.{Globals, World, local_at}
+use Rattle.template_machine_meaning.specs.OwnFunctions.{own_values}
 use Rattle.template_machine_meaning.specs.Meaning.{Standing, Setting, rendered, evaluated}
 
 abbrev number : ℕ → Expression
@@ -39,12 +41,12 @@ abbrev passing : List Expression → Arguments
 passing [] = no_arguments
 passing (e ∷ es) = arguments_more (positional e) (passing es)
 
--- the functions that an environment has by itself, and what stands behind them in order of names
+-- the functions that an environment has by itself, and what else has names
 abbrev globals : List (List ℕ × Val) → Globals
 globals more = record {
   environment = 0;
   has_own = true;
-  named = (codes "dict", function 0 dict_number) ∷ (codes "namespace", function 0 namespace_number) ∷ (codes "range", function 0 range_number) ∷ more;
+  named = with_all_named more (with_all_named (own_values 0) []);
 }
 
 -- one template, named `b`, stands

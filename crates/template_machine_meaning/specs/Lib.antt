@@ -1,3 +1,5 @@
+pub mod Faults
+pub mod OwnFunctions
 pub mod World
 pub mod Records
 pub mod Undefined

@@ -1,13 +1,14 @@
 //! The functions of an environment.
 ghost use Rattle.template_machine_meaning.specs.Functions.{function_called, own_called};
 ghost use Rattle.template_machine_operations.specs.Called.{Comes};
+ghost use Rattle.template_machine_tables.specs.Numbers.{number_of};
 
 use crate::called::Called;
 use crate::dicts::dict;
 use crate::namespaces::namespace;
 use crate::ranges::range_given;
 use std::alloc::Global;
-use template_machine_tables::{DICT, OWN_FUNCTIONS, RANGE};
+use template_machine_tables::OwnFunction;
 use template_values_core::Value;
 use template_values_errors::Error;
 use template_values_operators::refusal;
@@ -28,28 +29,24 @@ pub(crate) fn call_function(
 ) -> Result<Called, Error>
     ensures { Comes result args.now (function_called has_own number args.now) }
 {
-    if OWN_FUNCTIONS <= number {
-        return Ok(Called::Function(number));
+    match OwnFunction::numbered(number) {
+        Some(function) if has_own => call_own(alloc, function, args),
+        Some(_) => refusal(),
+        None => Ok(Called::Function(number)),
     }
-    if !has_own {
-        return refusal();
-    }
-    call_own(alloc, number, args)
 }
 
-/// Calls the function of a number among those that an environment has by itself.
+/// Calls a function that an environment has by itself.
 ///
 /// # Errors
 ///
 /// Those of [`range`], [`dict`] and [`namespace`].
-fn call_own(alloc: Global, number: usize, args: &[Value]) -> Result<Called, Error>
-    ensures { Comes result args.now (own_called number args.now) }
+fn call_own(alloc: Global, function: OwnFunction, args: &[Value]) -> Result<Called, Error>
+    ensures { Comes result args.now (own_called (number_of function) args.now) }
 {
-    if number == RANGE {
-        Ok(Called::Value(range_given(alloc, args)?))
-    } else if number == DICT {
-        Ok(Called::Value(dict(alloc, args)?))
-    } else {
-        Ok(Called::Namespace(namespace(alloc, args)?))
+    match function {
+        OwnFunction::Range => Ok(Called::Value(range_given(alloc, args)?)),
+        OwnFunction::Dict => Ok(Called::Value(dict(alloc, args)?)),
+        OwnFunction::Namespace => Ok(Called::Namespace(namespace(alloc, args)?)),
     }
 }

@@ -1,6 +1,7 @@
 pub mod Streams
 pub mod Codes
 pub mod Stack
+pub mod Numbers
 pub mod Globals
 pub mod GlobalCodes
 pub mod RecordCodes

@@ -9,7 +9,7 @@ ghost use Rattle.template_values_errors.specs.Memory.{NoMemory};
 ghost use Rattle.template_machine_meaning.specs.World.{local_at};
 ghost use Rattle.template_machine_tables.specs.Globals.{own_globals, with_global, without_global};
 
-use crate::functions::{DICT, NAMESPACE, RANGE};
+use crate::functions::OwnFunction;
 use std::alloc::Global;
 use std::collections::BTreeSet;
 use std::marker::Model;
@@ -49,7 +49,7 @@ impl Globals {
         }
     }
 
-    /// The functions `range`, `dict` and `namespace` of the environment of a number, under their names.
+    /// The functions that the environment of a number has by itself, under their names.
     ///
     /// # Errors
     ///
@@ -63,9 +63,13 @@ impl Globals {
             has_own: true,
             named: NamedValues::new(alloc),
         };
-        globals.insert(alloc, "range", Value::function(id, RANGE))?;
-        globals.insert(alloc, "dict", Value::function(id, DICT))?;
-        globals.insert(alloc, "namespace", Value::function(id, NAMESPACE))?;
+        for function in OwnFunction::ALL {
+            globals.insert(
+                alloc,
+                function.name(),
+                Value::function(id, function.number()),
+            )?;
+        }
         Ok(globals)
     }
 

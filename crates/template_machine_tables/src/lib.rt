@@ -16,7 +16,7 @@ mod namespace;
 mod namespaces;
 mod stack;
 
-pub use functions::{DICT, NAMESPACE, OWN_FUNCTIONS, RANGE};
+pub use functions::{OWN_FUNCTIONS, OwnFunction};
 pub use given::Given;
 pub use globals::Globals;
 pub use home::{Home, Stream};
