@@ -5,3 +5,4 @@ pub mod Placing
 pub mod Replacing
 pub mod Comparing
 pub mod Calling
+pub mod Adding
