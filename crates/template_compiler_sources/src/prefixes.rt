@@ -41,7 +41,8 @@ impl<'source> Text<'source> {
         count: usize,
     ) -> Result<bool, AllocError>
         requires { (ts : List Token) → HasTokens self.now ts → count ≡ token_count ts }
-        ensures { IfOk result (λ yes. (ts : List Token) → HasTokens self.now ts → place ≤ count → (IsTrue yes ↔ Reaches self.now ts place)) }
+        ensures { IfOk result (λ yes. (ts : List Token) → HasTokens self.now ts → place ≤ count →
+            (IsTrue yes ↔ Reaches self.now ts place)) }
     {
         if self.reads_to(alloc, place)? {
             Ok(true)

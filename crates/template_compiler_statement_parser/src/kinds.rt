@@ -82,7 +82,8 @@ pub(crate) fn read_leaf<'source, R: ReadsExpressions>(
     span: Span,
 ) -> Result<Stmt<'source>, Refusal>
     ensures parsed { let table = tokens.old.spans in
-        ParsedStatement (opened_by table (here table left) (around_of around) (leaf_opening leaf) span tokens.old.left) tokens.new.left result }
+        ParsedStatement (opened_by table (here table left) (around_of around) (leaf_opening leaf) span tokens.old.left)
+        tokens.new.left result }
     ensures spans { tokens.new.spans ≡ tokens.old.spans }
 {
     match leaf {

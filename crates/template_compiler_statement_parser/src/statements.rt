@@ -222,7 +222,8 @@ fn read_parent<'source, R: ReadsExpressions>(
     span: Span,
 ) -> Result<Stmt<'source>, Refusal>
     ensures parsed { let table = tokens.old.spans in
-        ParsedStatement (opened_by table (here table left) (around_of around) (parent_opening parent) span tokens.old.left) tokens.new.left result }
+        ParsedStatement (opened_by table (here table left) (around_of around) (parent_opening parent) span tokens.old.left)
+        tokens.new.left result }
     ensures spans { tokens.new.spans ≡ tokens.old.spans }
 {
     match parent {
@@ -407,8 +408,8 @@ fn branches<'source, R: ReadsExpressions>(
     around: Around,
 ) -> Result<Vec<Box<Spanned<IfCond<'source>>>>, Refusal>
     ensures parsed { let table = tokens.old.spans in
-        ParsedAs (λ v. branches_in v.items) (all (branch_step table (here table left) (around_of around)) no_placed_branches tokens.old.left)
-        tokens.new.left result }
+        ParsedAs (λ v. branches_in v.items)
+        (all (branch_step table (here table left) (around_of around)) no_placed_branches tokens.old.left) tokens.new.left result }
     ensures spans { tokens.new.spans ≡ tokens.old.spans }
 {
     let mut branches = Vec::new(alloc);
@@ -502,7 +503,8 @@ fn set_block<'source, R: ReadsExpressions>(
 ) -> Result<Box<Spanned<SetBlock<'source>>>, Refusal>
     ensures parsed { let table = tokens.old.spans in
         ParsedAs (λ n. statement_node_of (statements.SetBlock n))
-        (set_rest table (here table left) (around_of around) span (set_over (set_block_of head.entry)) tokens.old.left) tokens.new.left result }
+        (set_rest table (here table left) (around_of around) span (set_over (set_block_of head.entry)) tokens.old.left)
+        tokens.new.left result }
     ensures spans { tokens.new.spans ≡ tokens.old.spans }
 {
     let body = ended_body::<R>(alloc, tokens, left, around, "endset")?;
@@ -519,8 +521,8 @@ fn auto_escape<'source, R: ReadsExpressions>(
     span: Span,
 ) -> Result<Box<Spanned<AutoEscape<'source>>>, Refusal>
     ensures parsed { let table = tokens.old.spans in
-        ParsedAs (λ n. statement_node_of (statements.AutoEscape n)) (autoescape_by table (here table left) (around_of around) span tokens.old.left)
-        tokens.new.left result }
+        ParsedAs (λ n. statement_node_of (statements.AutoEscape n))
+        (autoescape_by table (here table left) (around_of around) span tokens.old.left) tokens.new.left result }
     ensures spans { tokens.new.spans ≡ tokens.old.spans }
 {
     let head = loops::read_auto_escape::<R>(alloc, tokens, left, span)?;
@@ -538,8 +540,8 @@ fn filter_block<'source, R: ReadsExpressions>(
     span: Span,
 ) -> Result<Box<Spanned<FilterBlock<'source>>>, Refusal>
     ensures parsed { let table = tokens.old.spans in
-        ParsedAs (λ n. statement_node_of (statements.FilterBlock n)) (filter_block_by table (here table left) (around_of around) span tokens.old.left)
-        tokens.new.left result }
+        ParsedAs (λ n. statement_node_of (statements.FilterBlock n))
+        (filter_block_by table (here table left) (around_of around) span tokens.old.left) tokens.new.left result }
     ensures spans { tokens.new.spans ≡ tokens.old.spans }
 {
     let head = loops::read_filter_block::<R>(alloc, tokens, left, span)?;
@@ -578,7 +580,8 @@ fn macro_block<'source, R: ReadsExpressions>(
     span: Span,
 ) -> Result<Box<Spanned<Macro<'source>>>, Refusal>
     ensures parsed { let table = tokens.old.spans in
-        ParsedAs (λ n. statement_node_of (statements.Macro n)) (macro_by table (here table left) span tokens.old.left) tokens.new.left result }
+        ParsedAs (λ n. statement_node_of (statements.Macro n)) (macro_by table (here table left) span tokens.old.left)
+        tokens.new.left result }
     ensures spans { tokens.new.spans ≡ tokens.old.spans }
 {
     let head = declarations::read_macro::<R>(alloc, tokens, left)?;
@@ -595,7 +598,8 @@ fn call_block<'source, R: ReadsExpressions>(
     span: Span,
 ) -> Result<Box<Spanned<CallBlock<'source>>>, Refusal>
     ensures parsed { let table = tokens.old.spans in
-        ParsedAs (λ n. statement_node_of (statements.CallBlock n)) (call_by table (here table left) span tokens.old.left) tokens.new.left result }
+        ParsedAs (λ n. statement_node_of (statements.CallBlock n)) (call_by table (here table left) span tokens.old.left)
+        tokens.new.left result }
     ensures spans { tokens.new.spans ≡ tokens.old.spans }
 {
     let head = declarations::read_call::<R>(alloc, tokens, left)?;

@@ -25,8 +25,8 @@ pub fn read_imports<'source>(
     tokens: &mut TokenStream<'source>,
 ) -> Result<Vec<(Expr<'source>, Option<Expr<'source>>)>, Refusal>
     ensures parsed { let table = tokens.old.spans in
-        ParsedAs (λ v. placed_imports_in v.items) (and_then (import_by table no_placed_imports tokens.old.left) (all (more_step (import_by table))))
-        tokens.new.left result }
+        ParsedAs (λ v. placed_imports_in v.items)
+        (and_then (import_by table no_placed_imports tokens.old.left) (all (more_step (import_by table)))) tokens.new.left result }
     ensures spans { tokens.new.spans ≡ tokens.old.spans }
 {
     let mut names = Vec::new(alloc);

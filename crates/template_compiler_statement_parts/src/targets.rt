@@ -205,7 +205,8 @@ fn read_path_target<'source>(
     dots: bool,
 ) -> Result<Expr<'source>, Refusal>
     ensures parsed { let table = tokens.old.spans in
-        ParsedNode (and_then (stored_by table tokens.old.left) (path_by table dots (next_span table tokens.old.left))) tokens.new.left result }
+        ParsedNode (and_then (stored_by table tokens.old.left) (path_by table dots (next_span table tokens.old.left)))
+        tokens.new.left result }
     ensures spans { tokens.new.spans ≡ tokens.old.spans }
 {
     let start = tokens.span();

@@ -31,7 +31,8 @@ pub fn read_values<'source, R: ReadsExpressions>(
     tokens: &mut TokenStream<'source>,
     left: u32,
 ) -> Result<Expr<'source>, Refusal>
-    ensures parsed { let table = tokens.old.spans in ParsedNode (values_by table (expression_at table left) tokens.old.left) tokens.new.left result }
+    ensures parsed { let table = tokens.old.spans in
+        ParsedNode (values_by table (expression_at table left) tokens.old.left) tokens.new.left result }
     ensures spans { tokens.new.spans ≡ tokens.old.spans }
 {
     let span = tokens.span();

@@ -83,8 +83,9 @@ fn read_last<'source>(
     requires usable { IsUsable syntax.now }
     requires none { HasNoStart syntax.now source.now from }
     requires begins { BeginsBy source.now from stretch }
-    ensures { (next : ℕ) (behind : Stretch) → Reaches syntax.now source.now tokens.old.items from (data_tokens syntax.now source.now left from)
-        tokens.new.items next behind result }
+    ensures { (next : ℕ) (behind : Stretch) →
+        Reaches syntax.now source.now tokens.old.items from (data_tokens syntax.now source.now left from) tokens.new.items next behind
+        result }
 {
     let to = source.len();
     let (text, begin) = data_between(source, syntax, left, Edge::Nothing, from, to);
