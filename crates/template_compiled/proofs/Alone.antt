@@ -14,7 +14,7 @@ use Rattle.template_compiler_generator.specs.Numbers.{numbered_in}
 use Rattle.template_compiler_tokens.specs.Token.{Token}
 use Rattle.template_compiler_sources.proofs.Spelling.{one_spelled, some_spelled}
 use Rattle.template_compiler_grammar.specs.TreeReader.{expression_at}
-use Rattle.template_compiler_grammar.proofs.Laws.{tree_complete}
+use Rattle.template_compiler_grammar.proofs.ReaderLaws.{tree_complete}
 use Rattle.template_compiler_grammar.proofs.Sound.{expression_sound}
 use Rattle.template_compiler_laws.proofs.RunnableExpressions.{expression_runs}
 use Rattle.template_compiler_tokens.specs.Steps.{Read}

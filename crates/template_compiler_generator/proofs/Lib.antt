@@ -12,7 +12,7 @@ pub mod Running
 pub mod Whole
 pub mod Pieces
 mod CallBlocks
-mod Numbers
+mod Numbering
 pub mod Accepted
 pub mod Alike
 pub mod Naming

@@ -7,7 +7,7 @@ use Rattle.template_compiler_tokens.specs.Steps.{Read}
 use Rattle.template_compiler_grammar.specs.TreeReader.{expression_at}
 use Rattle.template_compiler_grammar.specs.Grammar.{IsExpression}
 use Rattle.template_compiler_tokens.proofs.Readings.{ok_tree, ok_rest}
-use Rattle.template_compiler_grammar.proofs.Laws.{tree_complete}
+use Rattle.template_compiler_grammar.proofs.ReaderLaws.{tree_complete}
 use Rattle.template_compiler_grammar.proofs.Sound.{expression_sound}
 
 pub one_expression : (d : ℕ) (ts us vs : List Token) (e f : Expression) →

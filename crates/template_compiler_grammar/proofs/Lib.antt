@@ -6,7 +6,7 @@ pub mod Readings
 pub mod Stops
 pub mod Complete
 pub mod Sound
-pub mod Laws
+pub mod ReaderLaws
 mod Rows
 pub mod TemplatesComplete
 pub mod TemplatesSound

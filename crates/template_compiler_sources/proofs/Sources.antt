@@ -29,7 +29,7 @@ use Rattle.template_compiler_grammar.specs.TemplateNodes.{PlacedStatement, Place
 use Rattle.template_compiler_grammar.specs.TemplateReader as placed_reader
 use Rattle.template_compiler_grammar.specs.Views.{statement_node_of}
 use Rattle.template_compiler_grammar.specs.TreeReader.{expression_at, template_of}
-use Rattle.template_compiler_grammar.proofs.Laws.{expression_sound_placed, tree_complete as expression_complete}
+use Rattle.template_compiler_grammar.proofs.ReaderLaws.{expression_sound_placed, tree_complete as expression_complete}
 use Rattle.template_compiler_grammar.proofs.Sound.{expression_sound}
 use Rattle.template_compiler_grammar.proofs.TemplateLaws.{template_sound_placed, tree_complete as template_complete, read_bare}
 use Rattle.template_compiler_grammar.proofs.TemplatesSound.{template_erased, template_sound}

@@ -5,7 +5,7 @@ use Rattle.template_compiler_code_shapes.specs.Streams.{IsGood}
 use Rattle.template_compiler_codegen.specs.Expressions.{expression_code}
 use Rattle.template_compiler_generator.specs.Numbers.{numbered_in}
 use Rattle.template_compiler_generator.proofs.Accepted.{generated_whole}
-use Rattle.template_compiler_generator.proofs.Numbers.{certified_numbered}
+use Rattle.template_compiler_generator.proofs.Numbering.{certified_numbered}
 use Rattle.template_compiler_generator.proofs.verified.expressions_are_accepted.Goals as goal
 
 pub returns : goal.returns

@@ -1,4 +1,4 @@
-use Rattle.template_compiler_grammar.proofs.Laws.{tree_complete}
+use Rattle.template_compiler_grammar.proofs.ReaderLaws.{tree_complete}
 use Rattle.template_compiler_grammar.proofs.Sound.{expression_sound}
 use Rattle.template_compiler_grammar.proofs.laws.reads_the_grammar.Goals as goal
 

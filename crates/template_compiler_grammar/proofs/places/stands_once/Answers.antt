@@ -1,4 +1,4 @@
-use Rattle.template_compiler_grammar.proofs.Laws.{one_place}
+use Rattle.template_compiler_grammar.proofs.ReaderLaws.{one_place}
 use Rattle.template_compiler_grammar.proofs.places.stands_once.Goals as goal
 
 pub returns : goal.returns
