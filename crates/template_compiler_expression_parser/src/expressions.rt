@@ -3,6 +3,7 @@ ghost use Rattle.std.specs.Prelude.{◌≡◌, true, false, Some, Ok, bytes_eq, 
 ghost use Rattle.std.specs.Cow.{cow_str_bytes};
 ghost use Rattle.template_compiler_expression_parts.specs.Parsed.{Parsed, ParsedAs, ParsedOptional, Stepped, SteppedTo, WentOn, paired_in, unnamed_by, written_in};
 ghost use Rattle.template_compiler_stream.specs.Signs.{level_of};
+ghost use Rattle.template_compiler_stream.specs.Spans.{KeepsSpans};
 ghost use Rattle.template_compiler_tokens.specs.Signs.{symbol_of};
 ghost use Rattle.template_compiler_expression_parser.specs.Ahead.{HasNoFilter, HasNoLink, HasNoOperator, begins_sign, choices_from, comparison_from, is_filter_sign, is_link_sign, is_link_word, is_part_sign, is_sum_sign, negative_from, operators_from, sum_from};
 ghost use Rattle.template_compiler_grammar.specs.ReaderParts.{colon_end, paren_end};
@@ -37,7 +38,7 @@ pub(crate) fn expression<'source>(
 ) -> Result<Expr<'source>, Refusal>
     ensures parsed { let table = tokens.old.spans in
         Parsed (expression_by table (deeper table left) tokens.old.left) tokens.new.left result }
-    ensures spans { tokens.new.spans ≡ tokens.old.spans }
+    ensures spans { KeepsSpans tokens.old tokens.new }
 {
     if tokens.begins_alone() {
         return literal(alloc, tokens);
@@ -64,7 +65,7 @@ fn choice<'source>(
     ensures parsed { let table = tokens.old.spans in let r = deeper table left in
         Parsed (and_then (choices_from table r span (node_of first.entry) tokens.old.left) (if_behind table r span)) tokens.new.left
         result }
-    ensures spans { tokens.new.spans ≡ tokens.old.spans }
+    ensures spans { KeepsSpans tokens.old tokens.new }
 {
     let value = operands(alloc, tokens, left, Level::Conjunction, first, span)?;
     let value = operands(alloc, tokens, left, Level::Disjunction, value, span)?;
@@ -89,7 +90,7 @@ fn branches<'source>(
     ensures parsed { let table = tokens.old.spans in
         Parsed (and_then (binary_by table (deeper table left) disjunction tokens.old.left) (else_behind table (deeper table (suc left)) span
         (node_of value.entry))) tokens.new.left result }
-    ensures spans { tokens.new.spans ≡ tokens.old.spans }
+    ensures spans { KeepsSpans tokens.old tokens.new }
 {
     let test = binary(alloc, tokens, left, Level::Disjunction)?;
     let other = if tokens.skip_word("else") {
@@ -111,7 +112,7 @@ pub(crate) fn binary<'source>(
 ) -> Result<Expr<'source>, Refusal>
     ensures parsed { let table = tokens.old.spans in
         Parsed (binary_by table (deeper table left) (level_of level) tokens.old.left) tokens.new.left result }
-    ensures spans { tokens.new.spans ≡ tokens.old.spans }
+    ensures spans { KeepsSpans tokens.old tokens.new }
 {
     if tokens.begins_alone() {
         return literal(alloc, tokens);
@@ -135,7 +136,7 @@ fn operands<'source>(
     ensures parsed { let table = tokens.old.spans in
         Parsed (all (operand_step table (level_of level) (operand_by table (deeper table left) (level_of level)) span) (node_of value.entry)
         tokens.old.left) tokens.new.left result }
-    ensures spans { tokens.new.spans ≡ tokens.old.spans }
+    ensures spans { KeepsSpans tokens.old tokens.new }
 {
     let mut value = value;
     while let Some(op) = tokens.skip_operator(level) {
@@ -159,7 +160,7 @@ fn operand<'source>(
 ) -> Result<Expr<'source>, Refusal>
     ensures parsed { let table = tokens.old.spans in
         Parsed (operand_by table (deeper table left) (level_of level) tokens.old.left) tokens.new.left result }
-    ensures spans { tokens.new.spans ≡ tokens.old.spans }
+    ensures spans { KeepsSpans tokens.old tokens.new }
 {
     match level {
         Level::Factors => power(alloc, tokens, left),
@@ -179,7 +180,7 @@ fn sum<'source>(
 ) -> Result<Expr<'source>, Refusal>
     ensures parsed { let table = tokens.old.spans in
         Parsed (terms_by table (deeper table left) tokens.old.left) tokens.new.left result }
-    ensures spans { tokens.new.spans ≡ tokens.old.spans }
+    ensures spans { KeepsSpans tokens.old tokens.new }
 {
     if tokens.begins_alone() {
         return literal(alloc, tokens);
@@ -205,7 +206,7 @@ fn sum_behind<'source>(
 ) -> Result<Expr<'source>, Refusal>
     ensures parsed { let table = tokens.old.spans in
         Parsed (sum_from table (deeper table left) span (node_of first.entry) tokens.old.left) tokens.new.left result }
-    ensures spans { tokens.new.spans ≡ tokens.old.spans }
+    ensures spans { KeepsSpans tokens.old tokens.new }
 {
     let value = operands(alloc, tokens, left, Level::Factors, first, span)?;
     let value = operands(alloc, tokens, left, Level::Texts, value, span)?;
@@ -247,7 +248,7 @@ fn negation<'source>(
 ) -> Result<Expr<'source>, Refusal>
     ensures parsed { let table = tokens.old.spans in
         Parsed (negation_by table (deeper table left) tokens.old.left) tokens.new.left result }
-    ensures spans { tokens.new.spans ≡ tokens.old.spans }
+    ensures spans { KeepsSpans tokens.old tokens.new }
 {
     let span = tokens.span();
     if tokens.skip_word("not") {
@@ -277,7 +278,7 @@ fn operators<'source>(
 ) -> Result<Expr<'source>, Refusal>
     ensures parsed { let table = tokens.old.spans in
         Parsed (operators_from table (deeper table left) span (node_of first.entry) tokens.old.left) tokens.new.left result }
-    ensures spans { tokens.new.spans ≡ tokens.old.spans }
+    ensures spans { KeepsSpans tokens.old tokens.new }
 {
     let value = power_behind(alloc, tokens, left, first, span)?;
     let value = sum_behind(alloc, tokens, left, value, span)?;
@@ -314,7 +315,7 @@ fn comparison_behind<'source>(
 ) -> Result<Expr<'source>, Refusal>
     ensures parsed { let table = tokens.old.spans in
         Parsed (comparison_from table (deeper table left) span (node_of first.entry) tokens.old.left) tokens.new.left result }
-    ensures spans { tokens.new.spans ≡ tokens.old.spans }
+    ensures spans { KeepsSpans tokens.old tokens.new }
 {
     let links = links(alloc, tokens, left)?;
     compared(alloc, first, links, tokens.expand_span(span)).map_err(Refusal::from)
@@ -358,7 +359,7 @@ fn links<'source>(
     ensures parsed { let table = tokens.old.spans in
         ParsedAs (λ v. placed_links_in v.items) (all (link_step table (terms_by table (deeper table left))) no_placed_links tokens.old.left)
         tokens.new.left result }
-    ensures spans { tokens.new.spans ≡ tokens.old.spans }
+    ensures spans { KeepsSpans tokens.old tokens.new }
 {
     let mut links = Vec::new(alloc);
     loop {
@@ -381,7 +382,7 @@ fn next_link<'source>(
     ensures parsed { let table = tokens.old.spans in
         SteppedTo (link_step table (terms_by table (deeper table left)) (placed_links_in links.old.items) tokens.old.left) (placed_links_in
         links.old.items) tokens.old.left (placed_links_in links.new.items) tokens.new.left result }
-    ensures spans { tokens.new.spans ≡ tokens.old.spans }
+    ensures spans { KeepsSpans tokens.old tokens.new }
 {
     match tokens.skip_comparison() {
         Some(op) => put_link(alloc, tokens, left, op, links),
@@ -408,7 +409,7 @@ fn put_link<'source>(
     ensures parsed { let table = tokens.old.spans in
         SteppedTo (link_behind table (Some op) false (terms_by table (deeper table left)) (placed_links_in links.old.items) tokens.old.left)
         (placed_links_in links.old.items) tokens.old.left (placed_links_in links.new.items) tokens.new.left result }
-    ensures spans { tokens.new.spans ≡ tokens.old.spans }
+    ensures spans { KeepsSpans tokens.old tokens.new }
 {
     let right = match sum(alloc, tokens, left) {
         Ok(right) => right,
@@ -430,7 +431,7 @@ fn next_not_in<'source>(
     ensures parsed { let table = tokens.old.spans in
         SteppedTo (not_in_link table (terms_by table (deeper table left)) (placed_links_in links.old.items) tokens.old.left)
         (placed_links_in links.old.items) tokens.old.left (placed_links_in links.new.items) tokens.new.left result }
-    ensures spans { tokens.new.spans ≡ tokens.old.spans }
+    ensures spans { KeepsSpans tokens.old tokens.new }
 {
     if tokens.skip_word("in") {
         put_link(alloc, tokens, left, CompareOpKind::NotIn, links)
@@ -448,7 +449,7 @@ fn power<'source>(
 ) -> Result<Expr<'source>, Refusal>
     ensures parsed { let table = tokens.old.spans in
         Parsed (power_by table (deeper table left) tokens.old.left) tokens.new.left result }
-    ensures spans { tokens.new.spans ≡ tokens.old.spans }
+    ensures spans { KeepsSpans tokens.old tokens.new }
 {
     let span = tokens.span();
     let first = unary(alloc, tokens, left);
@@ -472,7 +473,7 @@ fn power_behind<'source>(
     ensures parsed { let table = tokens.old.spans in let r = deeper table left in
         Parsed (and_then (all (filter_step table r span) (node_of first.entry) tokens.old.left) (power_behind table r span))
         tokens.new.left result }
-    ensures spans { tokens.new.spans ≡ tokens.old.spans }
+    ensures spans { KeepsSpans tokens.old tokens.new }
 {
     let value = filters(alloc, tokens, left, first, span)?;
     if tokens.skip(Sign::Pow) {
@@ -529,7 +530,7 @@ fn filters<'source>(
 ) -> Result<Expr<'source>, Refusal>
     ensures parsed { let table = tokens.old.spans in
         Parsed (all (filter_step table (deeper table left) span) (node_of value.entry) tokens.old.left) tokens.new.left result }
-    ensures spans { tokens.new.spans ≡ tokens.old.spans }
+    ensures spans { KeepsSpans tokens.old tokens.new }
 {
     let mut value = value;
     loop {
@@ -554,7 +555,7 @@ fn next_filter<'source>(
     ensures parsed { let table = tokens.old.spans in
         Stepped (filter_step table (deeper table left) span (node_of value.entry) tokens.old.left) (node_of value.entry) tokens.old.left
         tokens.new.left result }
-    ensures spans { tokens.new.spans ≡ tokens.old.spans }
+    ensures spans { KeepsSpans tokens.old tokens.new }
 {
     if tokens.skip(Sign::Pipe) {
         piped(alloc, tokens, left, value, span).map(Behind::Goes)
@@ -579,7 +580,7 @@ fn piped<'source>(
     ensures parsed { let table = tokens.old.spans in
         Parsed (and_then (filter_by table (deeper table left) span (given_node (node_of value.entry)) tokens.old.left) (parts_by table
         (deeper table left) span)) tokens.new.left result }
-    ensures spans { tokens.new.spans ≡ tokens.old.spans }
+    ensures spans { KeepsSpans tokens.old tokens.new }
 {
     let filtered = filter(alloc, tokens, left, Some(value), span)?;
     parts(alloc, tokens, left, filtered, span)
@@ -597,7 +598,7 @@ pub(crate) fn filter<'source>(
 ) -> Result<Expr<'source>, Refusal>
     ensures parsed { let table = tokens.old.spans in
         Parsed (filter_by table (deeper table left) span (optional_node_in value.entry) tokens.old.left) tokens.new.left result }
-    ensures spans { tokens.new.spans ≡ tokens.old.spans }
+    ensures spans { KeepsSpans tokens.old tokens.new }
 {
     let name = name(alloc, tokens)?;
     let arguments = optional_arguments(alloc, tokens, left)?;
@@ -615,7 +616,7 @@ fn optional_arguments<'source>(
     ensures parsed { let table = tokens.old.spans in
         ParsedAs (λ v. placed_arguments_in v.items) (optional_arguments_by table (deeper table left) tokens.old.left) tokens.new.left
         result }
-    ensures spans { tokens.new.spans ≡ tokens.old.spans }
+    ensures spans { KeepsSpans tokens.old tokens.new }
 {
     if tokens.skip(Sign::ParenOpen) {
         arguments(alloc, tokens, deeper(left)?)
@@ -637,7 +638,7 @@ fn asked<'source>(
 ) -> Result<Expr<'source>, Refusal>
     ensures parsed { let table = tokens.old.spans in
         Parsed (is_by table (deeper table left) span (node_of value.entry) tokens.old.left) tokens.new.left result }
-    ensures spans { tokens.new.spans ≡ tokens.old.spans }
+    ensures spans { KeepsSpans tokens.old tokens.new }
 {
     let negated = tokens.skip_word("not");
     test(alloc, tokens, left, negated, value, span)
@@ -656,7 +657,7 @@ fn test<'source>(
 ) -> Result<Expr<'source>, Refusal>
     ensures parsed { let table = tokens.old.spans in
         Parsed (test_by table (deeper table left) negated span (node_of value.entry) tokens.old.left) tokens.new.left result }
-    ensures spans { tokens.new.spans ≡ tokens.old.spans }
+    ensures spans { KeepsSpans tokens.old tokens.new }
 {
     let name = name(alloc, tokens)?;
     if tokens.begins_argument() {
@@ -682,7 +683,7 @@ fn bare_test<'source>(
     ensures parsed { let table = tokens.old.spans in
         Parsed (test_arguments_by table (deeper table left) true negated span (node_of value.entry) (cow_str_bytes name.entry)
         tokens.old.left) tokens.new.left result }
-    ensures spans { tokens.new.spans ≡ tokens.old.spans }
+    ensures spans { KeepsSpans tokens.old tokens.new }
 {
     let argument = unary(alloc, tokens, left)?;
     let mut arguments = Vec::new(alloc);
@@ -713,7 +714,7 @@ fn plain_test<'source>(
     ensures parsed { let table = tokens.old.spans in
         Parsed (test_arguments_by table (deeper table left) false negated span (node_of value.entry) (cow_str_bytes name.entry)
         tokens.old.left) tokens.new.left result }
-    ensures spans { tokens.new.spans ≡ tokens.old.spans }
+    ensures spans { KeepsSpans tokens.old tokens.new }
 {
     let arguments = optional_arguments(alloc, tokens, left)?;
     let test = tested(
@@ -738,7 +739,7 @@ fn unary<'source>(
 ) -> Result<Expr<'source>, Refusal>
     ensures parsed { let table = tokens.old.spans in
         Parsed (unary_by table (deeper table left) tokens.old.left) tokens.new.left result }
-    ensures spans { tokens.new.spans ≡ tokens.old.spans }
+    ensures spans { KeepsSpans tokens.old tokens.new }
 {
     let span = tokens.span();
     if tokens.skip(Sign::Minus) {
@@ -763,7 +764,7 @@ fn negative<'source>(
 ) -> Result<Expr<'source>, Refusal>
     ensures parsed { let table = tokens.old.spans in
         Parsed (negative_from table (deeper table left) span tokens.old.left) tokens.new.left result }
-    ensures spans { tokens.new.spans ≡ tokens.old.spans }
+    ensures spans { KeepsSpans tokens.old tokens.new }
 {
     let operand = unary(alloc, tokens, left)?;
     Ok(Expr::unary(alloc, UnaryOpKind::Neg, operand, tokens.expand_span(span))?)
@@ -799,7 +800,7 @@ fn parts<'source>(
 ) -> Result<Expr<'source>, Refusal>
     ensures parsed { let table = tokens.old.spans in
         Parsed (all (part_step table (deeper table left) span) (node_of value.entry) tokens.old.left) tokens.new.left result }
-    ensures spans { tokens.new.spans ≡ tokens.old.spans }
+    ensures spans { KeepsSpans tokens.old tokens.new }
 {
     let mut value = value;
     loop {
@@ -824,7 +825,7 @@ fn next_part<'source>(
     ensures parsed { let table = tokens.old.spans in
         Stepped (part_step table (deeper table left) span (node_of value.entry) tokens.old.left) (node_of value.entry) tokens.old.left
         tokens.new.left result }
-    ensures spans { tokens.new.spans ≡ tokens.old.spans }
+    ensures spans { KeepsSpans tokens.old tokens.new }
 {
     if tokens.skip(Sign::Dot) {
         attribute(alloc, tokens, value, span).map(Behind::Goes)
@@ -852,7 +853,7 @@ fn call<'source>(
         WentOn (under (arguments_by table (expression_by table (deeper table left)) tokens.old.left) (λ args us. goes (node (call
         (expression_of value.entry) args.tree) (up_to table span us) (parts_more (places_of value.entry) args.places)) us)) tokens.new.left
         result }
-    ensures spans { tokens.new.spans ≡ tokens.old.spans }
+    ensures spans { KeepsSpans tokens.old tokens.new }
 {
     let arguments = arguments(alloc, tokens, left)?;
     Expr::call(alloc, value, arguments, tokens.expand_span(span)).map_err(Refusal::from)
@@ -871,7 +872,7 @@ fn subscript<'source>(
     ensures parsed { let table = tokens.old.spans in
         Parsed (subscript_by table (expression_by table (deeper table left)) span (node_of value.entry) tokens.old.left) tokens.new.left
         result }
-    ensures spans { tokens.new.spans ≡ tokens.old.spans }
+    ensures spans { KeepsSpans tokens.old tokens.new }
 {
     let start = bound(alloc, tokens, left)?;
     if tokens.skip(Sign::Colon) {
@@ -899,7 +900,7 @@ fn slice<'source>(
     ensures parsed { let table = tokens.old.spans in
         Parsed (slice_by table (expression_by table (deeper table left)) span (node_of value.entry) (optional_node_in start.entry)
         tokens.old.left) tokens.new.left result }
-    ensures spans { tokens.new.spans ≡ tokens.old.spans }
+    ensures spans { KeepsSpans tokens.old tokens.new }
 {
     let stop = bound(alloc, tokens, left)?;
     let step = step(alloc, tokens, left)?;
@@ -917,7 +918,7 @@ fn bound<'source>(
 ) -> Result<Option<Expr<'source>>, Refusal>
     ensures parsed { let table = tokens.old.spans in
         ParsedOptional (bound_by table (expression_by table (deeper table left)) tokens.old.left) tokens.new.left result }
-    ensures spans { tokens.new.spans ≡ tokens.old.spans }
+    ensures spans { KeepsSpans tokens.old tokens.new }
 {
     if tokens.ends_bound() {
         Ok(None)
@@ -936,7 +937,7 @@ fn step<'source>(
 ) -> Result<Option<Expr<'source>>, Refusal>
     ensures parsed { let table = tokens.old.spans in
         ParsedOptional (step_by table (expression_by table (deeper table left)) tokens.old.left) tokens.new.left result }
-    ensures spans { tokens.new.spans ≡ tokens.old.spans }
+    ensures spans { KeepsSpans tokens.old tokens.new }
 {
     if tokens.skip(Sign::Colon) {
         bound(alloc, tokens, left)
@@ -955,7 +956,7 @@ fn primary<'source>(
 ) -> Result<Expr<'source>, Refusal>
     ensures parsed { let table = tokens.old.spans in
         Parsed (primary_by table (deeper table left) tokens.old.left) tokens.new.left result }
-    ensures spans { tokens.new.spans ≡ tokens.old.spans }
+    ensures spans { KeepsSpans tokens.old tokens.new }
 {
     let span = tokens.span();
     if tokens.skip(Sign::ParenOpen) {
@@ -981,7 +982,7 @@ fn paren<'source>(
 ) -> Result<Expr<'source>, Refusal>
     ensures parsed { let table = tokens.old.spans in
         Parsed (paren_by table (expression_by table (deeper table left)) span tokens.old.left) tokens.new.left result }
-    ensures spans { tokens.new.spans ≡ tokens.old.spans }
+    ensures spans { KeepsSpans tokens.old tokens.new }
 {
     if tokens.skip(Sign::ParenClose) {
         return Expr::tuple(alloc, Vec::new(alloc), tokens.expand_span(span)).map_err(Refusal::from);
@@ -1008,7 +1009,7 @@ fn tuple<'source>(
         Parsed (and_then (all (items_step table (expression_by table (deeper table left))) (first_node (node_of first.entry))
         tokens.old.left) (λ es us. paren_end (node (tuple_literal es.tree) (through_next table span us) es.places) us)) tokens.new.left
         result }
-    ensures spans { tokens.new.spans ≡ tokens.old.spans }
+    ensures spans { KeepsSpans tokens.old tokens.new }
 {
     let mut held = Vec::new(alloc);
     held.push(first)?;
@@ -1029,7 +1030,7 @@ fn list<'source>(
 ) -> Result<Expr<'source>, Refusal>
     ensures parsed { let table = tokens.old.spans in
         Parsed (list_by table (expression_by table (deeper table left)) span tokens.old.left) tokens.new.left result }
-    ensures spans { tokens.new.spans ≡ tokens.old.spans }
+    ensures spans { KeepsSpans tokens.old tokens.new }
 {
     let held = items(alloc, tokens, left, Vec::new(alloc))?;
     let span = tokens.span_through_next(span);
@@ -1047,7 +1048,7 @@ fn items<'source>(
     ensures parsed { let table = tokens.old.spans in
         ParsedAs (λ v. nodes_in v.items) (all (items_step table (expression_by table (deeper table left))) (nodes_in held.entry.items)
         tokens.old.left) tokens.new.left result }
-    ensures spans { tokens.new.spans ≡ tokens.old.spans }
+    ensures spans { KeepsSpans tokens.old tokens.new }
 {
     let mut held = held;
     loop {
@@ -1070,7 +1071,7 @@ fn next_item<'source>(
     ensures parsed { let table = tokens.old.spans in
         SteppedTo (items_step table (expression_by table (deeper table left)) (nodes_in held.old.items) tokens.old.left) (nodes_in
         held.old.items) tokens.old.left (nodes_in held.new.items) tokens.new.left result }
-    ensures spans { tokens.new.spans ≡ tokens.old.spans }
+    ensures spans { KeepsSpans tokens.old tokens.new }
 {
     if tokens.closes() {
         return Ok(false);
@@ -1096,7 +1097,7 @@ fn map<'source>(
 ) -> Result<Expr<'source>, Refusal>
     ensures parsed { let table = tokens.old.spans in
         Parsed (map_by table (expression_by table (deeper table left)) span tokens.old.left) tokens.new.left result }
-    ensures spans { tokens.new.spans ≡ tokens.old.spans }
+    ensures spans { KeepsSpans tokens.old tokens.new }
 {
     let Pairs { keys, values } = pairs(alloc, tokens, left)?;
     let span = tokens.span_through_next(span);
@@ -1113,7 +1114,7 @@ fn pairs<'source>(
     ensures parsed { let table = tokens.old.spans in
         ParsedAs paired_in (all (pairs_step table (expression_by table (deeper table left))) no_placed_pairs tokens.old.left)
         tokens.new.left result }
-    ensures spans { tokens.new.spans ≡ tokens.old.spans }
+    ensures spans { KeepsSpans tokens.old tokens.new }
 {
     let mut held = Pairs {
         keys: Vec::new(alloc),
@@ -1139,7 +1140,7 @@ fn next_pair<'source>(
     ensures parsed { let table = tokens.old.spans in
         SteppedTo (pairs_step table (expression_by table (deeper table left)) (paired_in held.old) tokens.old.left) (paired_in held.old)
         tokens.old.left (paired_in held.new) tokens.new.left result }
-    ensures spans { tokens.new.spans ≡ tokens.old.spans }
+    ensures spans { KeepsSpans tokens.old tokens.new }
 {
     if tokens.closes() {
         return Ok(false);
@@ -1167,7 +1168,7 @@ fn key<'source>(
 ) -> Result<Expr<'source>, Refusal>
     ensures parsed { let table = tokens.old.spans in
         Parsed (and_then (expression_by table (deeper table left) tokens.old.left) colon_end) tokens.new.left result }
-    ensures spans { tokens.new.spans ≡ tokens.old.spans }
+    ensures spans { KeepsSpans tokens.old tokens.new }
 {
     let key = expression(alloc, tokens, left)?;
     before_colon(tokens, key)
@@ -1184,7 +1185,7 @@ fn arguments<'source>(
     ensures parsed { let table = tokens.old.spans in
         ParsedAs (λ v. placed_arguments_in v.items) (arguments_by table (expression_by table (deeper table left)) tokens.old.left)
         tokens.new.left result }
-    ensures spans { tokens.new.spans ≡ tokens.old.spans }
+    ensures spans { KeepsSpans tokens.old tokens.new }
 {
     let held = written(alloc, tokens, left)?;
     in_order(tokens, held)
@@ -1200,7 +1201,7 @@ fn written<'source>(
     ensures parsed { let table = tokens.old.spans in
         ParsedAs written_in (all (arguments_step table (expression_by table (deeper table left))) no_placed_written tokens.old.left)
         tokens.new.left result }
-    ensures spans { tokens.new.spans ≡ tokens.old.spans }
+    ensures spans { KeepsSpans tokens.old tokens.new }
 {
     let mut held = Written {
         by_place: Vec::new(alloc),
@@ -1226,7 +1227,7 @@ fn next_argument<'source>(
     ensures parsed { let table = tokens.old.spans in
         SteppedTo (arguments_step table (expression_by table (deeper table left)) (written_in held.old) tokens.old.left) (written_in
         held.old) tokens.old.left (written_in held.new) tokens.new.left result }
-    ensures spans { tokens.new.spans ≡ tokens.old.spans }
+    ensures spans { KeepsSpans tokens.old tokens.new }
 {
     if tokens.closes() {
         return Ok(false);
@@ -1249,7 +1250,7 @@ fn argument<'source>(
 ) -> Result<CallArg<'source>, Refusal>
     ensures parsed { let table = tokens.old.spans in
         ParsedAs placed_argument_of (argument_by table (expression_by table (deeper table left)) tokens.old.left) tokens.new.left result }
-    ensures spans { tokens.new.spans ≡ tokens.old.spans }
+    ensures spans { KeepsSpans tokens.old tokens.new }
 {
     match tokens.skip_keyword() {
         Some(name) => Ok(CallArg::Kwarg(name, expression(alloc, tokens, left)?)),
@@ -1266,7 +1267,7 @@ fn unnamed<'source>(
 ) -> Result<CallArg<'source>, Refusal>
     ensures parsed { let table = tokens.old.spans in
         ParsedAs placed_argument_of (unnamed_by (expression_by table (deeper table left)) tokens.old.left) tokens.new.left result }
-    ensures spans { tokens.new.spans ≡ tokens.old.spans }
+    ensures spans { KeepsSpans tokens.old tokens.new }
 {
     if tokens.skip(Sign::Mul) {
         expression(alloc, tokens, left).map(CallArg::PosSplat)

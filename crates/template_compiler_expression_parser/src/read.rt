@@ -5,7 +5,7 @@ ghost use Rattle.template_compiler_grammar.specs.Reader.{expression_at, conditio
 ghost use Rattle.template_compiler_grammar.specs.TreeReader as trees;
 ghost use Rattle.template_compiler_grammar.specs.Views.{optional_node_in};
 ghost use Rattle.template_compiler_tree.specs.View.{expression_of, optional_in};
-ghost use Rattle.std.specs.Prelude.{◌≡◌};
+ghost use Rattle.template_compiler_stream.specs.Spans.{KeepsSpans};
 
 use crate::expressions::{binary, expression, filter};
 use std::alloc::Global;
@@ -26,7 +26,7 @@ pub fn read_expression<'source>(
 ) -> Result<Expr<'source>, Refusal>
     ensures tree { ParsedAs expression_of (trees.expression_at left tokens.old.left) tokens.new.left result }
     ensures placed { Parsed (expression_at tokens.old.spans left tokens.old.left) tokens.new.left result }
-    ensures spans { tokens.new.spans ≡ tokens.old.spans }
+    ensures spans { KeepsSpans tokens.old tokens.new }
 {
     expression(alloc, tokens, left)
 }
@@ -44,7 +44,7 @@ pub fn read_condition<'source>(
 ) -> Result<Expr<'source>, Refusal>
     ensures tree { ParsedAs expression_of (trees.condition_at left tokens.old.left) tokens.new.left result }
     ensures placed { Parsed (condition_at tokens.old.spans left tokens.old.left) tokens.new.left result }
-    ensures spans { tokens.new.spans ≡ tokens.old.spans }
+    ensures spans { KeepsSpans tokens.old tokens.new }
 {
     binary(alloc, tokens, left, Level::Disjunction)
 }
@@ -63,7 +63,7 @@ pub fn read_filter<'source>(
 ) -> Result<Expr<'source>, Refusal>
     ensures tree { ParsedAs expression_of (trees.filter_at left (optional_in value.entry) tokens.old.left) tokens.new.left result }
     ensures placed { Parsed (filter_at tokens.old.spans left (optional_node_in value.entry) tokens.old.left) tokens.new.left result }
-    ensures spans { tokens.new.spans ≡ tokens.old.spans }
+    ensures spans { KeepsSpans tokens.old tokens.new }
 {
     let span = tokens.span();
     filter(alloc, tokens, left, value, span)
@@ -83,7 +83,7 @@ pub fn read_filter_chain<'source>(
     ensures tree { ParsedAs optional_in (trees.filter_chain_at left (optional_in value.entry) tokens.old.left) tokens.new.left result }
     ensures placed { ParsedOptional (filter_chain_at tokens.old.spans left (optional_node_in value.entry) tokens.old.left) tokens.new.left
         result }
-    ensures spans { tokens.new.spans ≡ tokens.old.spans }
+    ensures spans { KeepsSpans tokens.old tokens.new }
 {
     chain(alloc, tokens, left, value)
 }
@@ -97,7 +97,7 @@ fn chain<'source>(
 ) -> Result<Option<Expr<'source>>, Refusal>
     ensures parsed { ParsedOptional (filter_chain_at tokens.old.spans left (optional_node_in value.entry) tokens.old.left) tokens.new.left
         result }
-    ensures spans { tokens.new.spans ≡ tokens.old.spans }
+    ensures spans { KeepsSpans tokens.old tokens.new }
 {
     let mut value = value;
     while tokens.skip(Sign::Pipe) {

@@ -1,5 +1,5 @@
 //! What must stand behind something.
-ghost use Rattle.std.specs.Prelude.{◌≡◌, true, List};
+ghost use Rattle.std.specs.Prelude.{true, List};
 ghost use Rattle.template_compiler_expression_parts.specs.Parsed.{IsDeeper, Parsed, ParsedAs, Separated, written_in};
 ghost use Rattle.template_compiler_grammar.specs.ReaderParts.{brace_end, bracket_end, colon_end, paren_end, separated};
 ghost use Rattle.template_compiler_grammar.specs.Reader.{few_arguments};
@@ -7,6 +7,7 @@ ghost use Rattle.template_compiler_grammar.specs.Views.{node_of, placed_argument
 ghost use Rattle.template_compiler_tree.specs.declared.span.Span.{Span};
 ghost use Rattle.template_compiler_tokens.specs.Steps.{and_then};
 ghost use Rattle.template_compiler_tokens.specs.Token.{Token};
+ghost use Rattle.template_compiler_stream.specs.Spans.{KeepsSpans};
 
 use crate::behind::Written;
 use template_compiler_stream::{Fault, Refusal, TokenStream};
@@ -38,7 +39,7 @@ pub fn in_parens<'source>(
     value: Expr<'source>,
 ) -> Result<Expr<'source>, Refusal>
     ensures parsed { Parsed (paren_end (node_of value.entry) tokens.old.left) tokens.new.left result }
-    ensures spans { tokens.new.spans ≡ tokens.old.spans }
+    ensures spans { KeepsSpans tokens.old tokens.new }
 {
     if tokens.skip(Sign::ParenClose) {
         Ok(value)
@@ -54,7 +55,7 @@ pub fn in_brackets<'source>(
     value: Expr<'source>,
 ) -> Result<Expr<'source>, Refusal>
     ensures parsed { Parsed (bracket_end (node_of value.entry) tokens.old.left) tokens.new.left result }
-    ensures spans { tokens.new.spans ≡ tokens.old.spans }
+    ensures spans { KeepsSpans tokens.old tokens.new }
 {
     if tokens.skip(Sign::BracketClose) {
         Ok(value)
@@ -70,7 +71,7 @@ pub fn in_braces<'source>(
     value: Expr<'source>,
 ) -> Result<Expr<'source>, Refusal>
     ensures parsed { Parsed (brace_end (node_of value.entry) tokens.old.left) tokens.new.left result }
-    ensures spans { tokens.new.spans ≡ tokens.old.spans }
+    ensures spans { KeepsSpans tokens.old tokens.new }
 {
     if tokens.skip(Sign::BraceClose) {
         Ok(value)
@@ -86,7 +87,7 @@ pub fn before_colon<'source>(
     key: Expr<'source>,
 ) -> Result<Expr<'source>, Refusal>
     ensures parsed { Parsed (colon_end (node_of key.entry) tokens.old.left) tokens.new.left result }
-    ensures spans { tokens.new.spans ≡ tokens.old.spans }
+    ensures spans { KeepsSpans tokens.old tokens.new }
 {
     if tokens.skip(Sign::Colon) {
         Ok(key)
@@ -99,7 +100,7 @@ pub fn before_colon<'source>(
 #[tactic(auto, using(crate::proofs::Nothing::no_comma), unfolding(template_compiler_grammar::specs::ReaderParts::separated))]
 pub fn separated(tokens: &mut TokenStream) -> Result<(), Refusal>
     ensures parsed { Separated (separated true tokens.old.left) tokens.new.left result }
-    ensures spans { tokens.new.spans ≡ tokens.old.spans }
+    ensures spans { KeepsSpans tokens.old tokens.new }
 {
     if tokens.skip(Sign::Comma) || tokens.closes() {
         Ok(())
@@ -116,7 +117,7 @@ pub fn in_order<'source>(
 ) -> Result<Vec<CallArg<'source>>, Refusal>
     ensures parsed { ParsedAs (λ v. placed_arguments_in v.items)
         (and_then (paren_end (written_in written.entry) tokens.old.left) (few_arguments tokens.old.spans)) tokens.new.left result }
-    ensures spans { tokens.new.spans ≡ tokens.old.spans }
+    ensures spans { KeepsSpans tokens.old tokens.new }
 {
     if tokens.skip(Sign::ParenClose) {
         few(written)

@@ -3,6 +3,7 @@ ghost use Rattle.std.specs.Prelude.{◌≡◌, pos, IfOk, IfErr, List, Ok, strin
 ghost use Rattle.std.specs.Cow.{cow_str_bytes};
 ghost use Rattle.template_compiler_expression_parts.specs.Parsed.{Parsed, ParsedAs, WentOn, dotted_by, literal_at};
 ghost use Rattle.template_compiler_stream.specs.declared.refusal.Refusal.TheVariants as refusals;
+ghost use Rattle.template_compiler_stream.specs.Spans.{KeepsSpans};
 ghost use Rattle.template_compiler_grammar.specs.ReaderParts.{dotted_step, name_of, text_step, word_tree};
 ghost use Rattle.template_compiler_grammar.specs.Nodes.{node};
 ghost use Rattle.template_compiler_grammar.specs.Reader.{dot_part, nothing_deeper, primary_by, up_to};
@@ -36,7 +37,7 @@ pub fn name<'source>(
     tokens: &mut TokenStream<'source>,
 ) -> Result<CowStr<'source>, Refusal>
     ensures parsed { ParsedAs cow_str_bytes (name_of tokens.old.left) tokens.new.left result }
-    ensures spans { tokens.new.spans ≡ tokens.old.spans }
+    ensures spans { KeepsSpans tokens.old tokens.new }
 {
     let first = match tokens.word() {
         Some(first) => first,
@@ -67,7 +68,7 @@ fn put_part(name: &mut String, part: &str) -> Result<(), AllocError>
 // The name with the parts behind it.
 fn parts(tokens: &mut TokenStream, name: String) -> Result<String, AllocError>
     ensures parsed { IfOk result (λ s. all dotted_step (string_bytes name) tokens.old.left ≡ Ok (string_bytes s, tokens.new.left)) }
-    ensures spans { tokens.new.spans ≡ tokens.old.spans }
+    ensures spans { KeepsSpans tokens.old tokens.new }
 {
     let mut name = name;
     loop {
@@ -90,7 +91,7 @@ pub fn literal<'source>(
     tokens: &mut TokenStream<'source>,
 ) -> Result<Expr<'source>, Refusal>
     ensures parsed { Parsed (primary_by tokens.old.spans nothing_deeper tokens.old.left) tokens.new.left result }
-    ensures spans { tokens.new.spans ≡ tokens.old.spans }
+    ensures spans { KeepsSpans tokens.old tokens.new }
 {
     if let Some(name) = tokens.word() {
         let span = tokens.span();
@@ -113,7 +114,7 @@ fn other_literal<'source>(
     tokens: &mut TokenStream<'source>,
 ) -> Result<Expr<'source>, Refusal>
     ensures parsed { Parsed (primary_by tokens.old.spans nothing_deeper tokens.old.left) tokens.new.left result }
-    ensures spans { tokens.new.spans ≡ tokens.old.spans }
+    ensures spans { KeepsSpans tokens.old tokens.new }
 {
     match tokens.take() {
         First::Token(token, span) => literal_from(alloc, tokens, token, span),
@@ -132,7 +133,7 @@ fn literal_from<'source>(
     span: Span,
 ) -> Result<Expr<'source>, Refusal>
     ensures parsed { Parsed (literal_at tokens.old.spans span (token_of token.entry) tokens.old.left) tokens.new.left result }
-    ensures spans { tokens.new.spans ≡ tokens.old.spans }
+    ensures spans { KeepsSpans tokens.old tokens.new }
 {
     match token {
         Token::Ident(name) => named(alloc, name, span),
@@ -206,7 +207,7 @@ fn texts<'source>(
 ) -> Result<Expr<'source>, Refusal>
     ensures parsed { Parsed (and_then (all text_step (string_bytes first) tokens.old.left)
         (λ t us. Ok (node (constant (text t)) (up_to tokens.old.spans span us) no_parts, us))) tokens.new.left result }
-    ensures spans { tokens.new.spans ≡ tokens.old.spans }
+    ensures spans { KeepsSpans tokens.old tokens.new }
 {
     match Value::from_text(adjacent(tokens, first)?) {
         Ok(value) => Expr::constant(alloc, value, tokens.expand_span(span)).map_err(Refusal::from),
@@ -216,7 +217,7 @@ fn texts<'source>(
 
 fn adjacent(tokens: &mut TokenStream, first: String) -> Result<String, AllocError>
     ensures parsed { IfOk result (λ s. all text_step (string_bytes first) tokens.old.left ≡ Ok (string_bytes s, tokens.new.left)) }
-    ensures spans { tokens.new.spans ≡ tokens.old.spans }
+    ensures spans { KeepsSpans tokens.old tokens.new }
 {
     let mut text = first;
     loop {
@@ -241,7 +242,7 @@ pub fn attribute<'source>(
     span: Span,
 ) -> Result<Expr<'source>, Refusal>
     ensures parsed { WentOn (dot_part tokens.old.spans span (node_of value.entry) tokens.old.left) tokens.new.left result }
-    ensures spans { tokens.new.spans ≡ tokens.old.spans }
+    ensures spans { KeepsSpans tokens.old tokens.new }
 {
     if let Some(name) = tokens.word() {
         tokens.advance();

@@ -3,6 +3,7 @@ ghost use Rattle.std.specs.Prelude.{◌≡◌, [], IfOk};
 ghost use Rattle.template_compiler_grammar.specs.TemplateReader.{template_of};
 ghost use Rattle.template_compiler_sources.specs.Wholes.{ParsedWhole};
 ghost use Rattle.template_compiler_tokens.specs.Places.{stretch};
+ghost use Rattle.template_compiler_stream.specs.Spans.{KeepsSpans};
 
 use crate::distinct::are_distinct;
 use crate::names::block_names;
@@ -25,7 +26,7 @@ pub(crate) fn read_template<'source>(
     ensures parsed { let table = tokens.old.spans in
         ParsedWhole (template_of table tokens.old.left) (stretch table tokens.old.left []) result }
     ensures done { IfOk result (λ _. tokens.new.left ≡ []) }
-    ensures spans { tokens.new.spans ≡ tokens.old.spans }
+    ensures spans { KeepsSpans tokens.old tokens.new }
 {
     let body = read_statements::<ExpressionParser>(alloc, tokens, MAX_DEPTH, Around::nothing())?;
     if !tokens.is_done() {

@@ -6,6 +6,7 @@ ghost use Rattle.template_compiler_statement_parts.specs.Parsed.{ParsedAs};
 ghost use Rattle.template_compiler_grammar.specs.TemplateTrees.{is_block_body};
 ghost use Rattle.template_compiler_grammar.specs.Views.{statement_node_of};
 ghost use Rattle.template_compiler_tree_statements.specs.declared.statements.Stmt.TheVariants as statements;
+ghost use Rattle.template_compiler_stream.specs.Spans.{KeepsSpans};
 
 use std::alloc::Global;
 use template_compiler_statement_makers::{is_blank, makers};
@@ -37,7 +38,7 @@ pub fn read_block<'source>(
     in_macro: bool,
 ) -> Result<BlockHead<'source>, Refusal>
     ensures parsed { ParsedAs block_of (block_head in_macro tokens.old.left) tokens.new.left result }
-    ensures spans { tokens.new.spans ≡ tokens.old.spans }
+    ensures spans { KeepsSpans tokens.old tokens.new }
 {
     match tokens.word() {
         Some(name) => {
@@ -74,7 +75,7 @@ pub fn read_block_end<'source>(
     ensures parsed { let table = tokens.old.spans in
         ParsedAs (λ n. statement_node_of (statements.Block n))
         (ended_block table span (block_of head.entry) (statement_nodes_in body.entry.items) tokens.old.left) tokens.new.left result }
-    ensures spans { tokens.new.spans ≡ tokens.old.spans }
+    ensures spans { KeepsSpans tokens.old tokens.new }
 {
     if !is_block_body(head.required, &body) {
         return Err(Refusal::Token(Fault::Syntax));

@@ -6,6 +6,7 @@ ghost use Rattle.template_compiler_grammar.specs.TemplateReaderParts.{tag_end};
 ghost use Rattle.template_compiler_grammar.specs.Nodes.{given_node};
 ghost use Rattle.template_compiler_grammar.specs.TemplateReader.{here};
 ghost use Rattle.template_compiler_grammar.specs.Views.{node_of, placed_assignments_in};
+ghost use Rattle.template_compiler_stream.specs.Spans.{KeepsSpans};
 
 use std::alloc::Global;
 use template_compiler_statement_parts::{ReadsExpressions, expect_tag_end, read_assignments};
@@ -22,7 +23,7 @@ fn read_only_expression<'source, R: ReadsExpressions>(
     left: u32,
 ) -> Result<Expr<'source>, Refusal>
     ensures parsed { let table = tokens.old.spans in ParsedNode (expression_head (here table left) tokens.old.left) tokens.new.left result }
-    ensures spans { tokens.new.spans ≡ tokens.old.spans }
+    ensures spans { KeepsSpans tokens.old tokens.new }
 {
     let expr = R::read_expression(alloc, tokens, left)?;
     expect_tag_end(tokens)?;
@@ -47,7 +48,7 @@ pub fn read_auto_escape<'source, R: ReadsExpressions>(
 ) -> Result<Box<Spanned<AutoEscape<'source>>>, Refusal>
     ensures parsed { let table = tokens.old.spans in
         ParsedAs (λ n. node_of n.value.node.enabled) (expression_head (here table left) tokens.old.left) tokens.new.left result }
-    ensures spans { tokens.new.spans ≡ tokens.old.spans }
+    ensures spans { KeepsSpans tokens.old tokens.new }
     ensures empty { IfOk result (λ n. n.value.node.body.items ≡ []) }
 {
     let enabled = read_only_expression::<R>(alloc, tokens, left)?;
@@ -75,7 +76,7 @@ pub fn read_branch<'source, R: ReadsExpressions>(
 ) -> Result<Box<Spanned<IfCond<'source>>>, Refusal>
     ensures parsed { let table = tokens.old.spans in
         ParsedAs (λ n. node_of n.value.node.expr) (expression_head (here table left) tokens.old.left) tokens.new.left result }
-    ensures spans { tokens.new.spans ≡ tokens.old.spans }
+    ensures spans { KeepsSpans tokens.old tokens.new }
     ensures span { IfOk result (λ n. n.value.span ≡ span) }
     ensures empty { IfOk result (λ n. n.value.node.true_body.items ≡ []) }
     ensures no_other { IfOk result (λ n. n.value.node.false_body.items ≡ []) }
@@ -108,7 +109,7 @@ pub fn read_filter_block<'source, R: ReadsExpressions>(
 ) -> Result<Box<Spanned<FilterBlock<'source>>>, Refusal>
     ensures parsed { let table = tokens.old.spans in
         ParsedAs (λ n. given_node (node_of n.value.node.filter)) (filter_head (here table left) tokens.old.left) tokens.new.left result }
-    ensures spans { tokens.new.spans ≡ tokens.old.spans }
+    ensures spans { KeepsSpans tokens.old tokens.new }
     ensures empty { IfOk result (λ n. n.value.node.body.items ≡ []) }
 {
     let first = R::read_filter(alloc, tokens, left, None)?;
@@ -129,7 +130,7 @@ fn read_filter_end<'source>(
 ) -> Result<Box<Spanned<FilterBlock<'source>>>, Refusal>
     ensures parsed { ParsedAs (λ n. given_node (node_of n.value.node.filter))
         (tag_end (given_node (node_of filter.entry)) tokens.old.left) tokens.new.left result }
-    ensures spans { tokens.new.spans ≡ tokens.old.spans }
+    ensures spans { KeepsSpans tokens.old tokens.new }
     ensures empty { IfOk result (λ n. n.value.node.body.items ≡ []) }
 {
     expect_tag_end(tokens)?;
@@ -158,7 +159,7 @@ pub fn read_with<'source, R: ReadsExpressions>(
 ) -> Result<Vec<(Expr<'source>, Expr<'source>)>, Refusal>
     ensures parsed { let table = tokens.old.spans in
         ParsedAs (λ v. placed_assignments_in v.items) (with_head table (here table left) tokens.old.left) tokens.new.left result }
-    ensures spans { tokens.new.spans ≡ tokens.old.spans }
+    ensures spans { KeepsSpans tokens.old tokens.new }
 {
     let assignments = read_assignments::<R>(alloc, tokens, left)?;
     expect_tag_end(tokens)?;

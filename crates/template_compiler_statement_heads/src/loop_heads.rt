@@ -5,6 +5,7 @@ ghost use Rattle.template_compiler_statement_makers.specs.Begun.{loop_head};
 ghost use Rattle.template_compiler_statement_parts.specs.Parsed.{ParsedAs};
 ghost use Rattle.template_compiler_grammar.specs.TemplateReader.{here};
 ghost use Rattle.template_compiler_grammar.specs.Views.{node_of, optional_node_in};
+ghost use Rattle.template_compiler_stream.specs.Spans.{KeepsSpans};
 
 use std::alloc::Global;
 use template_compiler_statement_parts::{
@@ -33,7 +34,7 @@ pub fn read_for<'source, R: ReadsExpressions>(
 ) -> Result<Box<Spanned<ForLoop<'source>>>, Refusal>
     ensures parsed { let table = tokens.old.spans in
         ParsedAs loop_head (for_head table (here table left) tokens.old.left) tokens.new.left result }
-    ensures spans { tokens.new.spans ≡ tokens.old.spans }
+    ensures spans { KeepsSpans tokens.old tokens.new }
     ensures empty { IfOk result (λ n. n.value.node.body.items ≡ []) }
     ensures no_other { IfOk result (λ n. n.value.node.else_body.items ≡ []) }
 {
@@ -53,7 +54,7 @@ fn read_in<'source, R: ReadsExpressions>(
 ) -> Result<Box<Spanned<ForLoop<'source>>>, Refusal>
     ensures parsed { let table = tokens.old.spans in
         ParsedAs loop_head (in_head table (here table left) (node_of target.entry) tokens.old.left) tokens.new.left result }
-    ensures spans { tokens.new.spans ≡ tokens.old.spans }
+    ensures spans { KeepsSpans tokens.old tokens.new }
     ensures empty { IfOk result (λ n. n.value.node.body.items ≡ []) }
     ensures no_other { IfOk result (λ n. n.value.node.else_body.items ≡ []) }
 {
@@ -75,7 +76,7 @@ fn read_in_end<'source>(
 ) -> Result<Box<Spanned<ForLoop<'source>>>, Refusal>
     ensures parsed { ParsedAs loop_head (in_end (node_of target.entry) (node_of iter.entry) (optional_node_in filter_expr.entry)
         tokens.old.left) tokens.new.left result }
-    ensures spans { tokens.new.spans ≡ tokens.old.spans }
+    ensures spans { KeepsSpans tokens.old tokens.new }
     ensures empty { IfOk result (λ n. n.value.node.body.items ≡ []) }
     ensures no_other { IfOk result (λ n. n.value.node.else_body.items ≡ []) }
 {

@@ -1,10 +1,10 @@
 //! The ends of loops.
-ghost use Rattle.std.specs.Prelude.{◌≡◌};
 ghost use Rattle.template_compiler_grammar.specs.Views.{statement_node_of};
 ghost use Rattle.template_compiler_statement_heads.specs.Loops.{loop_end_by};
 ghost use Rattle.template_compiler_statement_parts.specs.Parsed.{ParsedAs};
 ghost use Rattle.template_compiler_tree.specs.Tree.{break_loop, continue_loop};
 ghost use Rattle.template_compiler_tree_statements.specs.declared.statements.Stmt.TheVariants as statements;
+ghost use Rattle.template_compiler_stream.specs.Spans.{KeepsSpans};
 
 use template_compiler_statement_parts::expect_tag_end;
 use template_compiler_stream::{Fault, Refusal, TokenStream};
@@ -25,7 +25,7 @@ pub fn read_break<'source>(
     ensures parsed { let table = tokens.old.spans in
         ParsedAs (λ n. statement_node_of (statements.Break n)) (loop_end_by table in_loop break_loop span tokens.old.left)
         tokens.new.left result }
-    ensures spans { tokens.new.spans ≡ tokens.old.spans }
+    ensures spans { KeepsSpans tokens.old tokens.new }
 {
     if !in_loop {
         return Err(Refusal::Token(Fault::Syntax));
@@ -48,7 +48,7 @@ pub fn read_continue<'source>(
     ensures parsed { let table = tokens.old.spans in
         ParsedAs (λ n. statement_node_of (statements.Continue n)) (loop_end_by table in_loop continue_loop span tokens.old.left)
         tokens.new.left result }
-    ensures spans { tokens.new.spans ≡ tokens.old.spans }
+    ensures spans { KeepsSpans tokens.old tokens.new }
 {
     if !in_loop {
         return Err(Refusal::Token(Fault::Syntax));

@@ -7,6 +7,7 @@ ghost use Rattle.template_compiler_grammar.specs.TemplateNodes.{call_block_node,
 ghost use Rattle.template_compiler_grammar.specs.TemplateReader.{here};
 ghost use Rattle.template_compiler_grammar.specs.Views.{statement_node_of};
 ghost use Rattle.template_compiler_tree_statements.specs.declared.statements.Stmt.TheVariants as statements;
+ghost use Rattle.template_compiler_stream.specs.Spans.{KeepsSpans};
 
 use std::alloc::{AllocError, Global};
 use template_compiler_statement_makers::makers;
@@ -50,7 +51,7 @@ pub fn read_macro<'source, R: ReadsExpressions>(
 ) -> Result<MacroHead<'source>, Refusal>
     ensures parsed { let table = tokens.old.spans in
         ParsedAs macro_of (macro_head (here table left) tokens.old.left) tokens.new.left result }
-    ensures spans { tokens.new.spans ≡ tokens.old.spans }
+    ensures spans { KeepsSpans tokens.old tokens.new }
 {
     match tokens.word() {
         Some(name) => {
@@ -77,7 +78,7 @@ fn read_declared<'source, R: ReadsExpressions>(
 ) -> Result<MacroHead<'source>, Refusal>
     ensures parsed { let table = tokens.old.spans in
         ParsedAs macro_of (declared_head (here table left) name.now tokens.old.left) tokens.new.left result }
-    ensures spans { tokens.new.spans ≡ tokens.old.spans }
+    ensures spans { KeepsSpans tokens.old tokens.new }
 {
     let parameters = read_deeper_parameters::<R>(alloc, tokens, left)?;
     expect_tag_end(tokens)?;
@@ -102,7 +103,7 @@ pub fn read_call<'source, R: ReadsExpressions>(
 ) -> Result<CallHead<'source>, Refusal>
     ensures parsed { let table = tokens.old.spans in
         ParsedAs call_of (call_head table (here table left) tokens.old.left) tokens.new.left result }
-    ensures spans { tokens.new.spans ≡ tokens.old.spans }
+    ensures spans { KeepsSpans tokens.old tokens.new }
 {
     let parameters = read_optional_parameters::<R>(alloc, tokens, left)?;
     let expr = R::read_expression(alloc, tokens, left)?;

@@ -1,11 +1,11 @@
 //! The heads of `set`, which has values or a body.
-ghost use Rattle.std.specs.Prelude.{◌≡◌};
 ghost use Rattle.template_compiler_statement_heads.specs.DeclarationHeads.{set_block_head, set_head, set_head_of, set_targets};
 ghost use Rattle.template_compiler_statement_makers.specs.Begun.{set_block_of};
 ghost use Rattle.template_compiler_statement_parts.specs.Parsed.{ParsedAs};
 ghost use Rattle.template_compiler_grammar.specs.TemplateReader.{here, set_values};
 ghost use Rattle.template_compiler_grammar.specs.Views.{node_of, statement_node_of};
 ghost use Rattle.template_compiler_tree_statements.specs.declared.statements.Stmt.TheVariants as statements;
+ghost use Rattle.template_compiler_stream.specs.Spans.{KeepsSpans};
 
 use std::alloc::Global;
 use template_compiler_statement_parts::{
@@ -45,7 +45,7 @@ pub fn read_set<'source, R: ReadsExpressions>(
 ) -> Result<SetHead<'source>, Refusal>
     ensures parsed { let table = tokens.old.spans in
         ParsedAs set_head_of (set_head table (here table left) span tokens.old.left) tokens.new.left result }
-    ensures spans { tokens.new.spans ≡ tokens.old.spans }
+    ensures spans { KeepsSpans tokens.old tokens.new }
 {
     let start = tokens.span();
     let target = read_target(alloc, tokens, left, true)?;
@@ -68,7 +68,7 @@ fn read_set_targets<'source, R: ReadsExpressions>(
     ensures parsed { let table = tokens.old.spans in
         ParsedAs (λ n. statement_node_of (statements.Set n))
         (set_targets table (here table left) span start (node_of first.entry) tokens.old.left) tokens.new.left result }
-    ensures spans { tokens.new.spans ≡ tokens.old.spans }
+    ensures spans { KeepsSpans tokens.old tokens.new }
 {
     let target = read_more_targets(alloc, tokens, left, true, first, start)?;
     expect_assign(tokens)?;
@@ -86,7 +86,7 @@ fn read_set_value<'source, R: ReadsExpressions>(
     ensures parsed { let table = tokens.old.spans in
         ParsedAs (λ n. statement_node_of (statements.Set n))
         (set_values table (here table left) span (node_of target.entry) tokens.old.left) tokens.new.left result }
-    ensures spans { tokens.new.spans ≡ tokens.old.spans }
+    ensures spans { KeepsSpans tokens.old tokens.new }
 {
     let value = read_values::<R>(alloc, tokens, left)?;
     expect_tag_end(tokens)?;
@@ -108,7 +108,7 @@ fn read_set_block<'source, R: ReadsExpressions>(
 ) -> Result<Box<Spanned<SetBlock<'source>>>, Refusal>
     ensures parsed { let table = tokens.old.spans in
         ParsedAs set_block_of (set_block_head (here table left) (node_of target.entry) tokens.old.left) tokens.new.left result }
-    ensures spans { tokens.new.spans ≡ tokens.old.spans }
+    ensures spans { KeepsSpans tokens.old tokens.new }
 {
     let filter = R::read_filter_chain(alloc, tokens, left, None)?;
     expect_tag_end(tokens)?;

@@ -1,9 +1,9 @@
 //! Statements about other templates.
-ghost use Rattle.std.specs.Prelude.{◌≡◌};
 ghost use Rattle.template_compiler_statement_parts.specs.Parsed.{ParsedAs};
 ghost use Rattle.template_compiler_grammar.specs.TemplateReader.{extends_by, from_by, here, import_statement_by, include_by};
 ghost use Rattle.template_compiler_grammar.specs.Views.{statement_node_of};
 ghost use Rattle.template_compiler_tree_statements.specs.declared.statements.Stmt.TheVariants as statements;
+ghost use Rattle.template_compiler_stream.specs.Spans.{KeepsSpans};
 
 use std::alloc::Global;
 use template_compiler_statement_parts::{
@@ -29,7 +29,7 @@ pub fn read_import<'source, R: ReadsExpressions>(
     ensures parsed { let table = tokens.old.spans in
         ParsedAs (λ n. statement_node_of (statements.Import n)) (import_statement_by table (here table left) span tokens.old.left)
         tokens.new.left result }
-    ensures spans { tokens.new.spans ≡ tokens.old.spans }
+    ensures spans { KeepsSpans tokens.old tokens.new }
 {
     let expr = R::read_expression(alloc, tokens, left)?;
     expect_word(tokens, "as")?;
@@ -55,7 +55,7 @@ pub fn read_from<'source, R: ReadsExpressions>(
     ensures parsed { let table = tokens.old.spans in
         ParsedAs (λ n. statement_node_of (statements.FromImport n)) (from_by table (here table left) span tokens.old.left)
         tokens.new.left result }
-    ensures spans { tokens.new.spans ≡ tokens.old.spans }
+    ensures spans { KeepsSpans tokens.old tokens.new }
 {
     let expr = R::read_expression(alloc, tokens, left)?;
     expect_word(tokens, "import")?;
@@ -81,7 +81,7 @@ pub fn read_extends<'source, R: ReadsExpressions>(
     ensures parsed { let table = tokens.old.spans in
         ParsedAs (λ n. statement_node_of (statements.Extends n)) (extends_by table (here table left) span tokens.old.left)
         tokens.new.left result }
-    ensures spans { tokens.new.spans ≡ tokens.old.spans }
+    ensures spans { KeepsSpans tokens.old tokens.new }
 {
     let name = R::read_expression(alloc, tokens, left)?;
     expect_tag_end(tokens)?;
@@ -103,7 +103,7 @@ pub fn read_include<'source, R: ReadsExpressions>(
     ensures parsed { let table = tokens.old.spans in
         ParsedAs (λ n. statement_node_of (statements.Include n)) (include_by table (here table left) span tokens.old.left)
         tokens.new.left result }
-    ensures spans { tokens.new.spans ≡ tokens.old.spans }
+    ensures spans { KeepsSpans tokens.old tokens.new }
 {
     let name = R::read_expression(alloc, tokens, left)?;
     let ignore_missing = read_missing(tokens)?;

@@ -1,9 +1,9 @@
 //! Statements about values.
-ghost use Rattle.std.specs.Prelude.{◌≡◌};
 ghost use Rattle.template_compiler_statement_parts.specs.Parsed.{ParsedAs};
 ghost use Rattle.template_compiler_grammar.specs.TemplateReader.{do_by, here, print_by};
 ghost use Rattle.template_compiler_grammar.specs.Views.{statement_node_of};
 ghost use Rattle.template_compiler_tree_statements.specs.declared.statements.Stmt.TheVariants as statements;
+ghost use Rattle.template_compiler_stream.specs.Spans.{KeepsSpans};
 
 use std::alloc::Global;
 use template_compiler_statement_parts::{ReadsExpressions, expect_print_end, expect_tag_end};
@@ -26,7 +26,7 @@ pub fn read_print<'source, R: ReadsExpressions>(
     ensures parsed { let table = tokens.old.spans in
         ParsedAs (λ n. statement_node_of (statements.EmitExpr n)) (print_by table (here table left) span tokens.old.left)
         tokens.new.left result }
-    ensures spans { tokens.new.spans ≡ tokens.old.spans }
+    ensures spans { KeepsSpans tokens.old tokens.new }
 {
     let expr = R::read_expression(alloc, tokens, left)?;
     expect_print_end(tokens)?;
@@ -47,7 +47,7 @@ pub fn read_do<'source, R: ReadsExpressions>(
 ) -> Result<Spanned<Do<'source>>, Refusal>
     ensures parsed { let table = tokens.old.spans in
         ParsedAs (λ n. statement_node_of (statements.Do n)) (do_by table (here table left) span tokens.old.left) tokens.new.left result }
-    ensures spans { tokens.new.spans ≡ tokens.old.spans }
+    ensures spans { KeepsSpans tokens.old tokens.new }
 {
     let expr = R::read_expression(alloc, tokens, left)?;
     match expr.into_call() {

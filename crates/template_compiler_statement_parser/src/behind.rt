@@ -8,6 +8,7 @@ ghost use Rattle.template_compiler_statement_makers.specs.Surroundings.{around_o
 ghost use Rattle.template_compiler_statement_parser.specs.Bodies.{PutBehind};
 ghost use Rattle.template_compiler_statement_parser.specs.Kinds.{leaf_opening};
 ghost use Rattle.template_compiler_stream.specs.declared.refusal.Refusal.TheVariants as refusals;
+ghost use Rattle.template_compiler_stream.specs.Spans.{KeepsSpans};
 ghost use Rattle.template_compiler_tree.specs.NodePlaces.{no_parts};
 ghost use Rattle.template_compiler_tree.specs.Tree.{raw};
 ghost use Rattle.template_compiler_tree_statements.specs.declared.statements.Stmt.TheVariants as variants;
@@ -51,7 +52,7 @@ pub(crate) fn put_print<'source, R: ReadsExpressions>(
     ensures parsed { let table = tokens.old.spans in
         PutBehind (print_by table (here table left) span tokens.old.left) (statement_nodes_in statements.old.items)
         (statement_nodes_in statements.new.items) tokens.new.left result }
-    ensures spans { tokens.new.spans ≡ tokens.old.spans }
+    ensures spans { KeepsSpans tokens.old tokens.new }
 {
     let print = read_print::<R>(alloc, tokens, left, span)?;
     put(statements, Stmt::EmitExpr(print))
@@ -99,7 +100,7 @@ pub(crate) fn put_leaf<'source, R: ReadsExpressions>(
     ensures parsed { let table = tokens.old.spans in
         PutBehind (opened_by table (here table left) (around_of around) (leaf_opening leaf) span tokens.old.left)
         (statement_nodes_in statements.old.items) (statement_nodes_in statements.new.items) tokens.new.left result }
-    ensures spans { tokens.new.spans ≡ tokens.old.spans }
+    ensures spans { KeepsSpans tokens.old tokens.new }
 {
     let statement = read_leaf::<R>(alloc, tokens, left, around, leaf, span)?;
     put(statements, statement)

@@ -4,6 +4,7 @@ ghost use Rattle.template_compiler_statement_makers.specs.Surroundings.{around_o
 ghost use Rattle.template_compiler_statement_parser.specs.Bodies.{ParsedStatement};
 ghost use Rattle.template_compiler_statement_parser.specs.Kinds.{kind_opening, leaf_opening};
 ghost use Rattle.template_compiler_grammar.specs.TemplateReader.{here, opened_by};
+ghost use Rattle.template_compiler_stream.specs.Spans.{KeepsSpans};
 
 use std::alloc::Global;
 use template_compiler_statement_heads as leaves;
@@ -84,7 +85,7 @@ pub(crate) fn read_leaf<'source, R: ReadsExpressions>(
     ensures parsed { let table = tokens.old.spans in
         ParsedStatement (opened_by table (here table left) (around_of around) (leaf_opening leaf) span tokens.old.left)
         tokens.new.left result }
-    ensures spans { tokens.new.spans ≡ tokens.old.spans }
+    ensures spans { KeepsSpans tokens.old tokens.new }
 {
     match leaf {
         Leaf::Import => Ok(Stmt::Import(leaves::read_import::<R>(alloc, tokens, left, span)?)),

@@ -10,6 +10,7 @@ ghost use Rattle.template_compiler_statement_parser.specs.Bodies.{ParsedBody, Pa
 ghost use Rattle.template_compiler_statement_parser.specs.Kinds.{parent_opening};
 ghost use Rattle.template_compiler_statement_makers.specs.Surroundings.{around_of, opening_of};
 ghost use Rattle.template_compiler_stream.specs.Left.{passed};
+ghost use Rattle.template_compiler_stream.specs.Spans.{KeepsSpans};
 ghost use Rattle.template_compiler_grammar.specs.TemplateReaderParts.{expect_tag, opening};
 ghost use Rattle.template_compiler_grammar.specs.TemplateNodes.{no_placed_branches};
 ghost use Rattle.template_compiler_grammar.specs.TemplateReader.{autoescape_by, block_by, branch_by, branch_step, call_by, deeper_body, else_by, filter_block_by, for_by, here, if_by, macro_by, opened_by, opened_step, set_by, statement_step, statements_at, with_by};
@@ -45,7 +46,7 @@ fn read_body<'source, R: ReadsExpressions>(
     requires { body.old.items ≡ [] }
     ensures parsed { ParsedInto (deeper_body tokens.old.spans left (around_of around) tokens.old.left) (statement_nodes_in body.new.items)
         tokens.new.left result }
-    ensures spans { tokens.new.spans ≡ tokens.old.spans }
+    ensures spans { KeepsSpans tokens.old tokens.new }
 {
     if left == 0 {
         Err(Refusal::Token(Fault::Syntax))
@@ -67,7 +68,7 @@ pub fn read_statements<'source, R: ReadsExpressions>(
     around: Around,
 ) -> Result<Vec<Stmt<'source>>, Refusal>
     ensures parsed { ParsedBody (statements_at tokens.old.spans left (around_of around) tokens.old.left) tokens.new.left result }
-    ensures spans { tokens.new.spans ≡ tokens.old.spans }
+    ensures spans { KeepsSpans tokens.old tokens.new }
 {
     let mut statements = Vec::new(alloc);
     put_statements::<R>(alloc, tokens, left, around, &mut statements)?;
@@ -86,7 +87,7 @@ fn put_statements<'source, R: ReadsExpressions>(
     ensures parsed { let table = tokens.old.spans in
         ParsedInto (all (statement_step table (here table left) (around_of around)) (statement_nodes_in statements.old.items)
         tokens.old.left) (statement_nodes_in statements.new.items) tokens.new.left result }
-    ensures spans { tokens.new.spans ≡ tokens.old.spans }
+    ensures spans { KeepsSpans tokens.old tokens.new }
 {
     loop {
         match next_statement::<R>(alloc, tokens, left, around, statements) {
@@ -110,7 +111,7 @@ fn next_statement<'source, R: ReadsExpressions>(
     ensures parsed { let table = tokens.old.spans in
         SteppedTo (statement_step table (here table left) (around_of around) (statement_nodes_in statements.old.items) tokens.old.left)
         (statement_nodes_in statements.old.items) tokens.old.left (statement_nodes_in statements.new.items) tokens.new.left result }
-    ensures spans { tokens.new.spans ≡ tokens.old.spans }
+    ensures spans { KeepsSpans tokens.old tokens.new }
 {
     let span = tokens.span();
     if let Some(text) = tokens.text() {
@@ -144,7 +145,7 @@ fn next_tag<'source, R: ReadsExpressions>(
         SteppedTo (opened_step table (here table left) (around_of around) (next_span table tokens.old.left)
         (statement_nodes_in statements.old.items) (opening word.now) (passed (passed tokens.old.left)))
         (statement_nodes_in statements.old.items) tokens.old.left (statement_nodes_in statements.new.items) tokens.new.left result }
-    ensures spans { tokens.new.spans ≡ tokens.old.spans }
+    ensures spans { KeepsSpans tokens.old tokens.new }
 {
     match opening_named(word) {
         Some(opening) => {
@@ -172,7 +173,7 @@ fn put_opened<'source, R: ReadsExpressions>(
     ensures parsed { let table = tokens.old.spans in
         PutBehind (opened_by table (here table left) (around_of around) (opening_of opening) span tokens.old.left)
         (statement_nodes_in statements.old.items) (statement_nodes_in statements.new.items) tokens.new.left result }
-    ensures spans { tokens.new.spans ≡ tokens.old.spans }
+    ensures spans { KeepsSpans tokens.old tokens.new }
 {
     match kind_of(opening) {
         Kind::Loop => put_loop(
@@ -205,7 +206,7 @@ fn put_parent<'source, R: ReadsExpressions>(
     ensures parsed { let table = tokens.old.spans in
         PutBehind (opened_by table (here table left) (around_of around) (parent_opening parent) span tokens.old.left)
         (statement_nodes_in statements.old.items) (statement_nodes_in statements.new.items) tokens.new.left result }
-    ensures spans { tokens.new.spans ≡ tokens.old.spans }
+    ensures spans { KeepsSpans tokens.old tokens.new }
 {
     let statement = read_parent::<R>(alloc, tokens, left, around, parent, span)?;
     parts::put(statements, statement)
@@ -224,7 +225,7 @@ fn read_parent<'source, R: ReadsExpressions>(
     ensures parsed { let table = tokens.old.spans in
         ParsedStatement (opened_by table (here table left) (around_of around) (parent_opening parent) span tokens.old.left)
         tokens.new.left result }
-    ensures spans { tokens.new.spans ≡ tokens.old.spans }
+    ensures spans { KeepsSpans tokens.old tokens.new }
 {
     match parent {
         Parent::With => Ok(Stmt::WithBlock(with_block::<R>(alloc, tokens, left, around, span)?)),
@@ -253,7 +254,7 @@ fn ended_body<'source, R: ReadsExpressions>(
 ) -> Result<Vec<Stmt<'source>>, Refusal>
     ensures parsed { let table = tokens.old.spans in
         ParsedBody (and_then (deeper_body table left (around_of around) tokens.old.left) (expect_tag end.now)) tokens.new.left result }
-    ensures spans { tokens.new.spans ≡ tokens.old.spans }
+    ensures spans { KeepsSpans tokens.old tokens.new }
 {
     let mut body = Vec::new(alloc);
     read_body::<R>(alloc, tokens, left, around, &mut body)?;
@@ -276,7 +277,7 @@ fn otherwise<'source, R: ReadsExpressions>(
     ensures parsed { let table = tokens.old.spans in
         ParsedInto (else_by table (here table left) (around_of around) end.now tokens.old.left) (statement_nodes_in other.new.items)
         tokens.new.left result }
-    ensures spans { tokens.new.spans ≡ tokens.old.spans }
+    ensures spans { KeepsSpans tokens.old tokens.new }
 {
     if parts::begins_tag(tokens, "else") {
         tokens.advance();
@@ -302,7 +303,7 @@ fn for_loop<'source, R: ReadsExpressions>(
     ensures parsed { let table = tokens.old.spans in
         ParsedAs (λ n. statement_node_of (statements.ForLoop n)) (for_by table (here table left) (around_of around) span tokens.old.left)
         tokens.new.left result }
-    ensures spans { tokens.new.spans ≡ tokens.old.spans }
+    ensures spans { KeepsSpans tokens.old tokens.new }
 {
     let mut head = loops::read_for::<R>(alloc, tokens, left, span)?;
     read_body::<R>(
@@ -336,7 +337,7 @@ fn if_condition<'source, R: ReadsExpressions>(
     ensures parsed { let table = tokens.old.spans in
         ParsedAs (λ n. statement_node_of (statements.IfCond n)) (if_by table (here table left) (around_of around) span tokens.old.left)
         tokens.new.left result }
-    ensures spans { tokens.new.spans ≡ tokens.old.spans }
+    ensures spans { KeepsSpans tokens.old tokens.new }
 {
     let mut branch = read_branch::<R>(alloc, tokens, left, around, span)?;
     if parts::begins_tag(tokens, "elif") {
@@ -368,7 +369,7 @@ fn if_chain<'source, R: ReadsExpressions>(
     ensures parsed { let table = tokens.old.spans in
         ParsedAs (λ n. statement_node_of (statements.IfCond n)) (if_rest table (here table left) (around_of around) span
         (branch_in first.entry) tokens.old.left) tokens.new.left result }
-    ensures spans { tokens.new.spans ≡ tokens.old.spans }
+    ensures spans { KeepsSpans tokens.old tokens.new }
 {
     let others = branches::<R>(alloc, tokens, left, around)?;
     let mut last = Vec::new(alloc);
@@ -392,7 +393,7 @@ fn read_branch<'source, R: ReadsExpressions>(
         ParsedAs branch_in (branch_by table (here table left) (around_of around) tokens.old.left) tokens.new.left result }
     ensures span { IfOk result (λ branch. branch.value.span ≡ span) }
     ensures no_other { IfOk result (λ branch. branch.value.node.false_body.items ≡ []) }
-    ensures spans { tokens.new.spans ≡ tokens.old.spans }
+    ensures spans { KeepsSpans tokens.old tokens.new }
 {
     let mut head = loops::read_branch::<R>(alloc, tokens, left, span)?;
     read_body::<R>(alloc, tokens, left, around, &mut head.node.true_body)?;
@@ -410,7 +411,7 @@ fn branches<'source, R: ReadsExpressions>(
     ensures parsed { let table = tokens.old.spans in
         ParsedAs (λ v. branches_in v.items)
         (all (branch_step table (here table left) (around_of around)) no_placed_branches tokens.old.left) tokens.new.left result }
-    ensures spans { tokens.new.spans ≡ tokens.old.spans }
+    ensures spans { KeepsSpans tokens.old tokens.new }
 {
     let mut branches = Vec::new(alloc);
     loop {
@@ -435,7 +436,7 @@ fn next_branch<'source, R: ReadsExpressions>(
     ensures parsed { let table = tokens.old.spans in
         SteppedTo (branch_step table (here table left) (around_of around) (branches_in branches.old.items) tokens.old.left)
         (branches_in branches.old.items) tokens.old.left (branches_in branches.new.items) tokens.new.left result }
-    ensures spans { tokens.new.spans ≡ tokens.old.spans }
+    ensures spans { KeepsSpans tokens.old tokens.new }
 {
     if parts::begins_tag(tokens, "elif") {
         let span = tokens.span();
@@ -463,7 +464,7 @@ fn with_block<'source, R: ReadsExpressions>(
     ensures parsed { let table = tokens.old.spans in
         ParsedAs (λ n. statement_node_of (statements.WithBlock n)) (with_by table (here table left) (around_of around) span tokens.old.left)
         tokens.new.left result }
-    ensures spans { tokens.new.spans ≡ tokens.old.spans }
+    ensures spans { KeepsSpans tokens.old tokens.new }
 {
     let head = loops::read_with::<R>(alloc, tokens, left)?;
     let body = ended_body::<R>(alloc, tokens, left, around, "endwith")?;
@@ -481,7 +482,7 @@ fn set<'source, R: ReadsExpressions>(
 ) -> Result<Stmt<'source>, Refusal>
     ensures parsed { let table = tokens.old.spans in
         ParsedStatement (set_by table (here table left) (around_of around) span tokens.old.left) tokens.new.left result }
-    ensures spans { tokens.new.spans ≡ tokens.old.spans }
+    ensures spans { KeepsSpans tokens.old tokens.new }
 {
     match declarations::read_set::<R>(alloc, tokens, left, span)? {
         SetHead::Values(node) => return Ok(Stmt::Set(node)),
@@ -505,7 +506,7 @@ fn set_block<'source, R: ReadsExpressions>(
         ParsedAs (λ n. statement_node_of (statements.SetBlock n))
         (set_rest table (here table left) (around_of around) span (set_over (set_block_of head.entry)) tokens.old.left)
         tokens.new.left result }
-    ensures spans { tokens.new.spans ≡ tokens.old.spans }
+    ensures spans { KeepsSpans tokens.old tokens.new }
 {
     let body = ended_body::<R>(alloc, tokens, left, around, "endset")?;
     Ok(ends::set_block(head, body, tokens.expand_span(span)))
@@ -523,7 +524,7 @@ fn auto_escape<'source, R: ReadsExpressions>(
     ensures parsed { let table = tokens.old.spans in
         ParsedAs (λ n. statement_node_of (statements.AutoEscape n))
         (autoescape_by table (here table left) (around_of around) span tokens.old.left) tokens.new.left result }
-    ensures spans { tokens.new.spans ≡ tokens.old.spans }
+    ensures spans { KeepsSpans tokens.old tokens.new }
 {
     let head = loops::read_auto_escape::<R>(alloc, tokens, left, span)?;
     let body = ended_body::<R>(alloc, tokens, left, around, "endautoescape")?;
@@ -542,7 +543,7 @@ fn filter_block<'source, R: ReadsExpressions>(
     ensures parsed { let table = tokens.old.spans in
         ParsedAs (λ n. statement_node_of (statements.FilterBlock n))
         (filter_block_by table (here table left) (around_of around) span tokens.old.left) tokens.new.left result }
-    ensures spans { tokens.new.spans ≡ tokens.old.spans }
+    ensures spans { KeepsSpans tokens.old tokens.new }
 {
     let head = loops::read_filter_block::<R>(alloc, tokens, left, span)?;
     let body = ended_body::<R>(alloc, tokens, left, around, "endfilter")?;
@@ -562,7 +563,7 @@ fn block<'source, R: ReadsExpressions>(
     ensures parsed { let table = tokens.old.spans in
         ParsedAs (λ n. statement_node_of (statements.Block n)) (block_by table (here table left) (around_of around) span tokens.old.left)
         tokens.new.left result }
-    ensures spans { tokens.new.spans ≡ tokens.old.spans }
+    ensures spans { KeepsSpans tokens.old tokens.new }
 {
     let head = declarations::read_block(tokens, around.in_macro)?;
     let mut body = Vec::new(alloc);
@@ -582,7 +583,7 @@ fn macro_block<'source, R: ReadsExpressions>(
     ensures parsed { let table = tokens.old.spans in
         ParsedAs (λ n. statement_node_of (statements.Macro n)) (macro_by table (here table left) span tokens.old.left)
         tokens.new.left result }
-    ensures spans { tokens.new.spans ≡ tokens.old.spans }
+    ensures spans { KeepsSpans tokens.old tokens.new }
 {
     let head = declarations::read_macro::<R>(alloc, tokens, left)?;
     let body = ended_body::<R>(alloc, tokens, left, Around::within_macro(), "endmacro")?;
@@ -600,7 +601,7 @@ fn call_block<'source, R: ReadsExpressions>(
     ensures parsed { let table = tokens.old.spans in
         ParsedAs (λ n. statement_node_of (statements.CallBlock n)) (call_by table (here table left) span tokens.old.left)
         tokens.new.left result }
-    ensures spans { tokens.new.spans ≡ tokens.old.spans }
+    ensures spans { KeepsSpans tokens.old tokens.new }
 {
     let head = declarations::read_call::<R>(alloc, tokens, left)?;
     let body = ended_body::<R>(alloc, tokens, left, Around::within_macro(), "endcall")?;

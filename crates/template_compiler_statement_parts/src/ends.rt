@@ -1,8 +1,8 @@
 //! What must stand behind something.
-ghost use Rattle.std.specs.Prelude.{◌≡◌};
 ghost use Rattle.template_compiler_grammar.specs.ReaderParts.{paren_end};
 ghost use Rattle.template_compiler_statement_parts.specs.Parsed.{ParsedAs, passing};
 ghost use Rattle.template_compiler_grammar.specs.TemplateReaderParts.{block_end_by, end_name_by, expect_assign, expect_tag, expect_word, print_end, tag_end};
+ghost use Rattle.template_compiler_stream.specs.Spans.{KeepsSpans};
 
 use template_compiler_stream::{Fault, Refusal, TokenStream};
 use template_compiler_tokens::Sign;
@@ -15,7 +15,7 @@ use template_compiler_tokens::Sign;
 #[tactic(auto, using(crate::proofs::Standing::print_end_here, crate::proofs::Standing::print_end_none))]
 pub fn expect_print_end<'source>(tokens: &mut TokenStream<'source>) -> Result<(), Refusal>
     ensures parsed { ParsedAs passing (print_end tt tokens.old.left) tokens.new.left result }
-    ensures spans { tokens.new.spans ≡ tokens.old.spans }
+    ensures spans { KeepsSpans tokens.old tokens.new }
 {
     if tokens.ends_print() {
         tokens.advance();
@@ -33,7 +33,7 @@ pub fn expect_print_end<'source>(tokens: &mut TokenStream<'source>) -> Result<()
 #[tactic(auto, using(crate::proofs::Standing::tag_end_here, crate::proofs::Standing::tag_end_none))]
 pub fn expect_tag_end<'source>(tokens: &mut TokenStream<'source>) -> Result<(), Refusal>
     ensures parsed { ParsedAs passing (tag_end tt tokens.old.left) tokens.new.left result }
-    ensures spans { tokens.new.spans ≡ tokens.old.spans }
+    ensures spans { KeepsSpans tokens.old tokens.new }
 {
     if tokens.ends_tag() {
         tokens.advance();
@@ -52,7 +52,7 @@ pub fn expect_tag_end<'source>(tokens: &mut TokenStream<'source>) -> Result<(), 
 #[tactic(auto, using(crate::proofs::Standing::word_none), unfolding(template_compiler_grammar::specs::TemplateReaderParts::expect_word))]
 pub fn expect_word<'source>(tokens: &mut TokenStream<'source>, word: &str) -> Result<(), Refusal>
     ensures parsed { ParsedAs passing (expect_word word.now tt tokens.old.left) tokens.new.left result }
-    ensures spans { tokens.new.spans ≡ tokens.old.spans }
+    ensures spans { KeepsSpans tokens.old tokens.new }
 {
     if tokens.skip_word(word) {
         Ok(())
@@ -69,7 +69,7 @@ pub fn expect_word<'source>(tokens: &mut TokenStream<'source>, word: &str) -> Re
 #[tactic(auto, using(crate::proofs::Standing::assign_none), unfolding(template_compiler_grammar::specs::TemplateReaderParts::expect_assign))]
 pub fn expect_assign<'source>(tokens: &mut TokenStream<'source>) -> Result<(), Refusal>
     ensures parsed { ParsedAs passing (expect_assign tt tokens.old.left) tokens.new.left result }
-    ensures spans { tokens.new.spans ≡ tokens.old.spans }
+    ensures spans { KeepsSpans tokens.old tokens.new }
 {
     if tokens.skip(Sign::Assign) {
         Ok(())
@@ -86,7 +86,7 @@ pub fn expect_assign<'source>(tokens: &mut TokenStream<'source>) -> Result<(), R
 #[tactic(auto, using(crate::proofs::Standing::paren_none), unfolding(template_compiler_grammar::specs::ReaderParts::paren_end))]
 pub fn expect_paren_end<'source>(tokens: &mut TokenStream<'source>) -> Result<(), Refusal>
     ensures parsed { ParsedAs passing (paren_end tt tokens.old.left) tokens.new.left result }
-    ensures spans { tokens.new.spans ≡ tokens.old.spans }
+    ensures spans { KeepsSpans tokens.old tokens.new }
 {
     if tokens.skip(Sign::ParenClose) {
         Ok(())
@@ -104,7 +104,7 @@ pub fn expect_paren_end<'source>(tokens: &mut TokenStream<'source>) -> Result<()
 #[tactic(auto, using(crate::proofs::Standing::tag_next), unfolding(crate::proofs::Opened::tag_read))]
 pub fn expect_tag<'source>(tokens: &mut TokenStream<'source>, word: &str) -> Result<(), Refusal>
     ensures parsed { ParsedAs passing (expect_tag word.now tt tokens.old.left) tokens.new.left result }
-    ensures spans { tokens.new.spans ≡ tokens.old.spans }
+    ensures spans { KeepsSpans tokens.old tokens.new }
 {
     if tokens.starts_tag() {
         tokens.advance();
@@ -126,7 +126,7 @@ pub fn expect_block_end<'source>(
     name: &str,
 ) -> Result<(), Refusal>
     ensures parsed { ParsedAs passing (block_end_by name.now tt tokens.old.left) tokens.new.left result }
-    ensures spans { tokens.new.spans ≡ tokens.old.spans }
+    ensures spans { KeepsSpans tokens.old tokens.new }
 {
     if tokens.starts_tag() {
         tokens.advance();
@@ -140,7 +140,7 @@ pub fn expect_block_end<'source>(
 #[tactic(auto, using(crate::proofs::Standing::end_name_next), unfolding(template_compiler_grammar::specs::TemplateReaderParts::end_name_by))]
 fn expect_end_name<'source>(tokens: &mut TokenStream<'source>, name: &str) -> Result<(), Refusal>
     ensures parsed { ParsedAs passing (end_name_by name.now tt tokens.old.left) tokens.new.left result }
-    ensures spans { tokens.new.spans ≡ tokens.old.spans }
+    ensures spans { KeepsSpans tokens.old tokens.new }
 {
     match tokens.word() {
         Some(end) => {

@@ -1,8 +1,8 @@
 //! What statements read of expressions.
-ghost use Rattle.std.specs.Prelude.{◌≡◌};
 ghost use Rattle.template_compiler_grammar.specs.Reader.{condition_at, expression_at, filter_at, filter_chain_at};
 ghost use Rattle.template_compiler_grammar.specs.Views.{node_of, optional_node_in};
 ghost use Rattle.template_compiler_statement_parts.specs.Parsed.{ParsedAs};
+ghost use Rattle.template_compiler_stream.specs.Spans.{KeepsSpans};
 
 use std::alloc::Global;
 use template_compiler_stream::{Refusal, TokenStream};
@@ -19,7 +19,7 @@ pub trait ReadsExpressions {
         left: u32,
     ) -> Result<Expr<'source>, Refusal>
         ensures parsed { ParsedAs node_of (expression_at tokens.old.spans left tokens.old.left) tokens.new.left result }
-        ensures spans { tokens.new.spans ≡ tokens.old.spans };
+        ensures spans { KeepsSpans tokens.old tokens.new };
 
     /// Reads an expression that is no if-expression, as behind the `in` of a loop: an `if` behind it stays.
     fn read_condition<'source>(
@@ -28,7 +28,7 @@ pub trait ReadsExpressions {
         left: u32,
     ) -> Result<Expr<'source>, Refusal>
         ensures parsed { ParsedAs node_of (condition_at tokens.old.spans left tokens.old.left) tokens.new.left result }
-        ensures spans { tokens.new.spans ≡ tokens.old.spans };
+        ensures spans { KeepsSpans tokens.old tokens.new };
 
     /// Reads a filter's name and its arguments: the filter of the value, or of none, as the first one of a filter block.
     fn read_filter<'source>(
@@ -39,7 +39,7 @@ pub trait ReadsExpressions {
     ) -> Result<Expr<'source>, Refusal>
         ensures parsed { let table = tokens.old.spans in
             ParsedAs node_of (filter_at table left (optional_node_in value.entry) tokens.old.left) tokens.new.left result }
-        ensures spans { tokens.new.spans ≡ tokens.old.spans };
+        ensures spans { KeepsSpans tokens.old tokens.new };
 
     /// Reads the filters behind the value, or behind none, each after a `|`: the value itself where no `|` stands next.
     fn read_filter_chain<'source>(
@@ -50,5 +50,5 @@ pub trait ReadsExpressions {
     ) -> Result<Option<Expr<'source>>, Refusal>
         ensures parsed { let table = tokens.old.spans in
             ParsedAs optional_node_in (filter_chain_at table left (optional_node_in value.entry) tokens.old.left) tokens.new.left result }
-        ensures spans { tokens.new.spans ≡ tokens.old.spans };
+        ensures spans { KeepsSpans tokens.old tokens.new };
 }

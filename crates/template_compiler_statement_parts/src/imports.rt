@@ -1,11 +1,11 @@
 //! Imported names.
-ghost use Rattle.std.specs.Prelude.{◌≡◌};
 ghost use Rattle.template_compiler_tokens.specs.Steps.{and_then, all};
 ghost use Rattle.template_compiler_statement_parts.specs.Parsed.{ParsedAs, SteppedTo, ParsedInto};
 ghost use Rattle.template_compiler_grammar.specs.TemplateReaderParts.{more_step};
 ghost use Rattle.template_compiler_grammar.specs.TemplateNodes.{no_placed_imports};
 ghost use Rattle.template_compiler_grammar.specs.TemplateReader.{import_by};
 ghost use Rattle.template_compiler_grammar.specs.Views.{placed_imports_in};
+ghost use Rattle.template_compiler_stream.specs.Spans.{KeepsSpans};
 
 use crate::growth::put;
 use crate::names::read_stored;
@@ -27,7 +27,7 @@ pub fn read_imports<'source>(
     ensures parsed { let table = tokens.old.spans in
         ParsedAs (λ v. placed_imports_in v.items)
         (and_then (import_by table no_placed_imports tokens.old.left) (all (more_step (import_by table)))) tokens.new.left result }
-    ensures spans { tokens.new.spans ≡ tokens.old.spans }
+    ensures spans { KeepsSpans tokens.old tokens.new }
 {
     let mut names = Vec::new(alloc);
     read_imported(tokens, &mut names)?;
@@ -42,7 +42,7 @@ fn read_imported<'source>(
 ) -> Result<(), Refusal>
     ensures parsed { ParsedInto (import_by tokens.old.spans (placed_imports_in names.old.items) tokens.old.left)
         (placed_imports_in names.new.items) tokens.new.left result }
-    ensures spans { tokens.new.spans ≡ tokens.old.spans }
+    ensures spans { KeepsSpans tokens.old tokens.new }
 {
     let name = read_stored(tokens)?;
     if tokens.skip_word("as") {
@@ -59,7 +59,7 @@ fn all_imported<'source>(
 ) -> Result<(), Refusal>
     ensures parsed { ParsedInto (all (more_step (import_by tokens.old.spans)) (placed_imports_in names.old.items) tokens.old.left)
         (placed_imports_in names.new.items) tokens.new.left result }
-    ensures spans { tokens.new.spans ≡ tokens.old.spans }
+    ensures spans { KeepsSpans tokens.old tokens.new }
 {
     loop {
         match next_imported(tokens, names) {
@@ -77,7 +77,7 @@ fn next_imported<'source>(
 ) -> Result<bool, Refusal>
     ensures parsed { SteppedTo (more_step (import_by tokens.old.spans) (placed_imports_in names.old.items) tokens.old.left)
         (placed_imports_in names.old.items) tokens.old.left (placed_imports_in names.new.items) tokens.new.left result }
-    ensures spans { tokens.new.spans ≡ tokens.old.spans }
+    ensures spans { KeepsSpans tokens.old tokens.new }
 {
     if tokens.skip(Sign::Comma) {
         read_imported(tokens, names)?;

@@ -3,6 +3,7 @@ ghost use Rattle.std.specs.Prelude.{◌≡◌};
 ghost use Rattle.template_compiler_statement_parts.specs.Parsed.{ParsedNode};
 ghost use Rattle.template_compiler_grammar.specs.TemplateReader.{stored_by};
 ghost use Rattle.template_compiler_grammar.specs.TemplateWords.{is_reserved};
+ghost use Rattle.template_compiler_stream.specs.Spans.{KeepsSpans};
 
 use template_compiler_stream::{Fault, Refusal, TokenStream};
 use template_compiler_tree::Expr;
@@ -26,7 +27,7 @@ pub fn is_reserved(name: &str) -> bool
 #[tactic(auto, using(crate::proofs::Placed::stored_word, crate::proofs::Placed::stored_none))]
 pub fn read_stored<'source>(tokens: &mut TokenStream<'source>) -> Result<Expr<'source>, Refusal>
     ensures parsed { ParsedNode (stored_by tokens.old.spans tokens.old.left) tokens.new.left result }
-    ensures spans { tokens.new.spans ≡ tokens.old.spans }
+    ensures spans { KeepsSpans tokens.old tokens.new }
 {
     let span = tokens.span();
     match tokens.word() {

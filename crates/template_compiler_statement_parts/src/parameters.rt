@@ -7,6 +7,7 @@ ghost use Rattle.template_compiler_grammar.specs.Reader.{expression_at};
 ghost use Rattle.template_compiler_grammar.specs.TemplateNodes.{no_placed_parameters};
 ghost use Rattle.template_compiler_grammar.specs.TemplateReader.{deeper_parameters, here, optional_parameters_by, parameter_by, parameters_by};
 ghost use Rattle.template_compiler_tokens.specs.Steps.{all};
+ghost use Rattle.template_compiler_stream.specs.Spans.{KeepsSpans};
 
 use crate::expressions::ReadsExpressions;
 use crate::{expect_paren_end, put, read_stored};
@@ -48,7 +49,7 @@ pub fn read_optional_parameters<'source, R: ReadsExpressions>(
 ) -> Result<Parameters<'source>, Refusal>
     ensures parsed { let table = tokens.old.spans in
         ParsedAs placed_parameters_of (optional_parameters_by table (here table left) tokens.old.left) tokens.new.left result }
-    ensures spans { tokens.new.spans ≡ tokens.old.spans }
+    ensures spans { KeepsSpans tokens.old tokens.new }
 {
     if tokens.skip(Sign::ParenOpen) {
         read_deeper_parameters::<R>(alloc, tokens, left)
@@ -73,7 +74,7 @@ pub fn read_deeper_parameters<'source, R: ReadsExpressions>(
     left: u32,
 ) -> Result<Parameters<'source>, Refusal>
     ensures parsed { ParsedAs placed_parameters_of (deeper_parameters tokens.old.spans left tokens.old.left) tokens.new.left result }
-    ensures spans { tokens.new.spans ≡ tokens.old.spans }
+    ensures spans { KeepsSpans tokens.old tokens.new }
 {
     if left == 0 {
         Err(Refusal::Token(Fault::Syntax))
@@ -90,7 +91,7 @@ fn read_parameters<'source, R: ReadsExpressions>(
 ) -> Result<Parameters<'source>, Refusal>
     ensures parsed { let table = tokens.old.spans in
         ParsedAs placed_parameters_of (parameters_by table (expression_at table left) tokens.old.left) tokens.new.left result }
-    ensures spans { tokens.new.spans ≡ tokens.old.spans }
+    ensures spans { KeepsSpans tokens.old tokens.new }
 {
     let mut parameters = no_parameters(alloc);
     if tokens.skip(Sign::ParenClose) {
@@ -112,7 +113,7 @@ fn read_parameter<'source, R: ReadsExpressions>(
     ensures parsed { let table = tokens.old.spans in
         ParsedInto (parameter_by table (expression_at table left) (placed_parameters_of parameters.old) tokens.old.left)
         (placed_parameters_of parameters.new) tokens.new.left result }
-    ensures spans { tokens.new.spans ≡ tokens.old.spans }
+    ensures spans { KeepsSpans tokens.old tokens.new }
 {
     let name = read_stored(tokens)?;
     if tokens.skip(Sign::Assign) {
@@ -142,7 +143,7 @@ fn all_parameters<'source, R: ReadsExpressions>(
     ensures parsed { let table = tokens.old.spans in
         ParsedInto (all (more_step (parameter_by table (expression_at table left))) (placed_parameters_of parameters.old) tokens.old.left)
         (placed_parameters_of parameters.new) tokens.new.left result }
-    ensures spans { tokens.new.spans ≡ tokens.old.spans }
+    ensures spans { KeepsSpans tokens.old tokens.new }
 {
     loop {
         match next_parameter::<R>(alloc, tokens, left, parameters) {
@@ -163,7 +164,7 @@ fn next_parameter<'source, R: ReadsExpressions>(
     ensures parsed { let table = tokens.old.spans in
         SteppedTo (more_step (parameter_by table (expression_at table left)) (placed_parameters_of parameters.old) tokens.old.left)
         (placed_parameters_of parameters.old) tokens.old.left (placed_parameters_of parameters.new) tokens.new.left result }
-    ensures spans { tokens.new.spans ≡ tokens.old.spans }
+    ensures spans { KeepsSpans tokens.old tokens.new }
 {
     if tokens.skip(Sign::Comma) {
         read_parameter::<R>(alloc, tokens, left, parameters)?;

@@ -6,6 +6,7 @@ ghost use Rattle.template_compiler_grammar.specs.TemplateNodes.{unpacked_node};
 ghost use Rattle.template_compiler_grammar.specs.TemplateReader.{inner_targets, more_targets_by, one_target_by, path_by, path_step, stored_by, target_by, targets_by};
 ghost use Rattle.template_compiler_grammar.specs.Views.{node_of, nodes_in};
 ghost use Rattle.template_compiler_stream.specs.Signs.{begins_symbol};
+ghost use Rattle.template_compiler_stream.specs.Spans.{KeepsSpans};
 ghost use Rattle.template_compiler_tokens.specs.Places.{next_span};
 ghost use Rattle.template_compiler_tokens.specs.Steps.{all, and_then};
 ghost use Rattle.template_compiler_tokens.specs.Token.{comma};
@@ -34,7 +35,7 @@ pub fn read_target<'source>(
 ) -> Result<Expr<'source>, Refusal>
     ensures parsed { let table = tokens.old.spans in
         ParsedNode (target_by table dots (inner_targets table dots left) tokens.old.left) tokens.new.left result }
-    ensures spans { tokens.new.spans ≡ tokens.old.spans }
+    ensures spans { KeepsSpans tokens.old tokens.new }
 {
     if tokens.skip(Sign::ParenOpen) {
         let targets = read_inner_targets(alloc, tokens, left, dots)?;
@@ -56,7 +57,7 @@ fn read_inner_targets<'source>(
     dots: bool,
 ) -> Result<Expr<'source>, Refusal>
     ensures parsed { ParsedNode (inner_targets tokens.old.spans dots left tokens.old.left) tokens.new.left result }
-    ensures spans { tokens.new.spans ≡ tokens.old.spans }
+    ensures spans { KeepsSpans tokens.old tokens.new }
 {
     if left == 0 {
         Err(Refusal::Token(Fault::Syntax))
@@ -81,7 +82,7 @@ pub fn read_targets<'source>(
 ) -> Result<Expr<'source>, Refusal>
     ensures parsed { let table = tokens.old.spans in
         ParsedNode (targets_by table dots (inner_targets table dots left) tokens.old.left) tokens.new.left result }
-    ensures spans { tokens.new.spans ≡ tokens.old.spans }
+    ensures spans { KeepsSpans tokens.old tokens.new }
 {
     let start = tokens.span();
     let first = read_target(alloc, tokens, left, dots)?;
@@ -106,7 +107,7 @@ pub fn read_more_targets<'source>(
     ensures parsed { let table = tokens.old.spans in
         ParsedNode (more_targets_by table dots (inner_targets table dots left) start (node_of first.entry) tokens.old.left)
         tokens.new.left result }
-    ensures spans { tokens.new.spans ≡ tokens.old.spans }
+    ensures spans { KeepsSpans tokens.old tokens.new }
 {
     if begins_more(tokens) {
         several_targets(alloc, tokens, left, dots, first, start)
@@ -130,7 +131,7 @@ fn several_targets<'source>(
     ensures parsed { let table = tokens.old.spans in
         ParsedNode (more_targets_by table dots (inner_targets table dots left) start (node_of first.entry) tokens.old.left)
         tokens.new.left result }
-    ensures spans { tokens.new.spans ≡ tokens.old.spans }
+    ensures spans { KeepsSpans tokens.old tokens.new }
 {
     let mut targets = Vec::new(alloc);
     put(&mut targets, first)?;
@@ -149,7 +150,7 @@ fn all_targets<'source>(
     ensures parsed { let table = tokens.old.spans in
         ParsedInto (all (more_step (one_target_by table dots (inner_targets table dots left))) (nodes_in targets.old.items) tokens.old.left)
         (nodes_in targets.new.items) tokens.new.left result }
-    ensures spans { tokens.new.spans ≡ tokens.old.spans }
+    ensures spans { KeepsSpans tokens.old tokens.new }
 {
     loop {
         match next_target(alloc, tokens, left, dots, targets) {
@@ -172,7 +173,7 @@ fn next_target<'source>(
     ensures parsed { let table = tokens.old.spans in
         SteppedTo (more_step (one_target_by table dots (inner_targets table dots left)) (nodes_in targets.old.items) tokens.old.left)
         (nodes_in targets.old.items) tokens.old.left (nodes_in targets.new.items) tokens.new.left result }
-    ensures spans { tokens.new.spans ≡ tokens.old.spans }
+    ensures spans { KeepsSpans tokens.old tokens.new }
 {
     if tokens.skip(Sign::Comma) {
         put(targets, read_target(alloc, tokens, left, dots)?)?;
@@ -207,7 +208,7 @@ fn read_path_target<'source>(
     ensures parsed { let table = tokens.old.spans in
         ParsedNode (and_then (stored_by table tokens.old.left) (path_by table dots (next_span table tokens.old.left)))
         tokens.new.left result }
-    ensures spans { tokens.new.spans ≡ tokens.old.spans }
+    ensures spans { KeepsSpans tokens.old tokens.new }
 {
     let start = tokens.span();
     let name = read_stored(tokens)?;
@@ -227,7 +228,7 @@ fn read_path<'source>(
     start: Span,
 ) -> Result<Expr<'source>, Refusal>
     ensures parsed { ParsedNode (all (path_step tokens.old.spans start) (node_of name.entry) tokens.old.left) tokens.new.left result }
-    ensures spans { tokens.new.spans ≡ tokens.old.spans }
+    ensures spans { KeepsSpans tokens.old tokens.new }
 {
     let mut target = name;
     loop {
@@ -244,7 +245,7 @@ fn read_path<'source>(
 #[tactic(auto, using(crate::proofs::Placed::no_part_word, crate::proofs::Placed::no_part_dot, crate::proofs::Standing::part_word))]
 fn next_part<'source>(tokens: &mut TokenStream<'source>) -> Option<&'source str>
     ensures parsed { PassesPart tokens.old.left tokens.new.left result }
-    ensures spans { tokens.new.spans ≡ tokens.old.spans }
+    ensures spans { KeepsSpans tokens.old tokens.new }
 {
     match tokens.second_word() {
         Some(part) => {

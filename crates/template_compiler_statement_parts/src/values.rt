@@ -7,6 +7,7 @@ ghost use Rattle.template_compiler_grammar.specs.TemplateNodes.{together_node};
 ghost use Rattle.template_compiler_grammar.specs.TemplateReader.{assignment_by, assignments_by, here, loop_filter_by, value_by, values_by};
 ghost use Rattle.template_compiler_grammar.specs.Views.{node_of, nodes_in, optional_node_in, placed_assignments_in};
 ghost use Rattle.template_compiler_tokens.specs.Steps.{all};
+ghost use Rattle.template_compiler_stream.specs.Spans.{KeepsSpans};
 
 use crate::expressions::ReadsExpressions;
 use crate::{expect_assign, put, read_target};
@@ -33,7 +34,7 @@ pub fn read_values<'source, R: ReadsExpressions>(
 ) -> Result<Expr<'source>, Refusal>
     ensures parsed { let table = tokens.old.spans in
         ParsedNode (values_by table (expression_at table left) tokens.old.left) tokens.new.left result }
-    ensures spans { tokens.new.spans ≡ tokens.old.spans }
+    ensures spans { KeepsSpans tokens.old tokens.new }
 {
     let span = tokens.span();
     let mut values = Vec::new(alloc);
@@ -52,7 +53,7 @@ fn read_value<'source, R: ReadsExpressions>(
     ensures parsed { let table = tokens.old.spans in
         ParsedInto (value_by table (expression_at table left) (nodes_in values.old.items) tokens.old.left)
         (nodes_in values.new.items) tokens.new.left result }
-    ensures spans { tokens.new.spans ≡ tokens.old.spans }
+    ensures spans { KeepsSpans tokens.old tokens.new }
 {
     put(values, R::read_expression(alloc, tokens, left)?)
 }
@@ -66,7 +67,7 @@ fn all_values<'source, R: ReadsExpressions>(
     ensures parsed { let table = tokens.old.spans in
         ParsedInto (all (more_step (value_by table (expression_at table left))) (nodes_in values.old.items) tokens.old.left)
         (nodes_in values.new.items) tokens.new.left result }
-    ensures spans { tokens.new.spans ≡ tokens.old.spans }
+    ensures spans { KeepsSpans tokens.old tokens.new }
 {
     loop {
         match next_value::<R>(alloc, tokens, left, values) {
@@ -87,7 +88,7 @@ fn next_value<'source, R: ReadsExpressions>(
     ensures parsed { let table = tokens.old.spans in
         SteppedTo (more_step (value_by table (expression_at table left)) (nodes_in values.old.items) tokens.old.left)
         (nodes_in values.old.items) tokens.old.left (nodes_in values.new.items) tokens.new.left result }
-    ensures spans { tokens.new.spans ≡ tokens.old.spans }
+    ensures spans { KeepsSpans tokens.old tokens.new }
 {
     if tokens.skip(Sign::Comma) {
         read_value::<R>(alloc, tokens, left, values)?;
@@ -131,7 +132,7 @@ pub fn read_assignments<'source, R: ReadsExpressions>(
 ) -> Result<Vec<(Expr<'source>, Expr<'source>)>, Refusal>
     ensures parsed { let table = tokens.old.spans in
         ParsedAs (λ v. placed_assignments_in v.items) (assignments_by table (here table left) tokens.old.left) tokens.new.left result }
-    ensures spans { tokens.new.spans ≡ tokens.old.spans }
+    ensures spans { KeepsSpans tokens.old tokens.new }
 {
     let mut pairs = Vec::new(alloc);
     if tokens.ends_tag() {
@@ -152,7 +153,7 @@ fn read_assignment<'source, R: ReadsExpressions>(
     ensures parsed { let table = tokens.old.spans in
         ParsedInto (assignment_by table (here table left) (placed_assignments_in pairs.old.items) tokens.old.left)
         (placed_assignments_in pairs.new.items) tokens.new.left result }
-    ensures spans { tokens.new.spans ≡ tokens.old.spans }
+    ensures spans { KeepsSpans tokens.old tokens.new }
 {
     let target = read_target(alloc, tokens, left, false)?;
     expect_assign(tokens)?;
@@ -169,7 +170,7 @@ fn all_assignments<'source, R: ReadsExpressions>(
     ensures parsed { let table = tokens.old.spans in
         ParsedInto (all (more_step (assignment_by table (here table left))) (placed_assignments_in pairs.old.items) tokens.old.left)
         (placed_assignments_in pairs.new.items) tokens.new.left result }
-    ensures spans { tokens.new.spans ≡ tokens.old.spans }
+    ensures spans { KeepsSpans tokens.old tokens.new }
 {
     loop {
         match next_assignment::<R>(alloc, tokens, left, pairs) {
@@ -190,7 +191,7 @@ fn next_assignment<'source, R: ReadsExpressions>(
     ensures parsed { let table = tokens.old.spans in
         SteppedTo (more_step (assignment_by table (here table left)) (placed_assignments_in pairs.old.items) tokens.old.left)
         (placed_assignments_in pairs.old.items) tokens.old.left (placed_assignments_in pairs.new.items) tokens.new.left result }
-    ensures spans { tokens.new.spans ≡ tokens.old.spans }
+    ensures spans { KeepsSpans tokens.old tokens.new }
 {
     if tokens.skip(Sign::Comma) {
         read_assignment::<R>(alloc, tokens, left, pairs)?;
@@ -217,7 +218,7 @@ pub fn read_loop_filter<'source, R: ReadsExpressions>(
 ) -> Result<Option<Expr<'source>>, Refusal>
     ensures parsed { let table = tokens.old.spans in
         ParsedAs optional_node_in (loop_filter_by table (expression_at table left) tokens.old.left) tokens.new.left result }
-    ensures spans { tokens.new.spans ≡ tokens.old.spans }
+    ensures spans { KeepsSpans tokens.old tokens.new }
 {
     if tokens.skip_word("if") {
         let filter = R::read_expression(alloc, tokens, left)?;

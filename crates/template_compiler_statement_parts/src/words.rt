@@ -3,6 +3,7 @@ ghost use Rattle.std.specs.Prelude.{◌≡◌, Ok, option_map};
 ghost use Rattle.template_compiler_statement_parts.specs.Parsed.{ParsedAs, passing};
 ghost use Rattle.template_compiler_statement_parts.specs.Tags.{next_tag};
 ghost use Rattle.template_compiler_grammar.specs.TemplateReaderParts.{begins_tag, begins_values, context_by, missing_by, word_by};
+ghost use Rattle.template_compiler_stream.specs.Spans.{KeepsSpans};
 
 use crate::ends::expect_word;
 use template_compiler_stream::{Refusal, TokenStream};
@@ -52,7 +53,7 @@ pub fn begins_values<'source>(tokens: &TokenStream<'source>) -> bool
 #[tactic(auto, using(crate::proofs::Standing::flag_none), unfolding(template_compiler_grammar::specs::TemplateReaderParts::word_by))]
 pub fn read_flag<'source>(tokens: &mut TokenStream<'source>, word: &str) -> bool
     ensures parsed { word_by word.now tokens.old.left ≡ Ok (result, tokens.new.left) }
-    ensures spans { tokens.new.spans ≡ tokens.old.spans }
+    ensures spans { KeepsSpans tokens.old tokens.new }
 {
     tokens.skip_word(word)
 }
@@ -65,7 +66,7 @@ pub fn read_flag<'source>(tokens: &mut TokenStream<'source>, word: &str) -> bool
 #[tactic(auto, using(crate::proofs::Standing::context_none), unfolding(template_compiler_grammar::specs::TemplateReaderParts::context_by))]
 pub fn pass_context<'source>(tokens: &mut TokenStream<'source>) -> Result<(), Refusal>
     ensures parsed { ParsedAs passing (context_by tt tokens.old.left) tokens.new.left result }
-    ensures spans { tokens.new.spans ≡ tokens.old.spans }
+    ensures spans { KeepsSpans tokens.old tokens.new }
 {
     if tokens.skip_word("with") {
         expect_word(tokens, "context")
@@ -82,7 +83,7 @@ pub fn pass_context<'source>(tokens: &mut TokenStream<'source>) -> Result<(), Re
 #[tactic(auto, using(crate::proofs::Parts::missing_next), unfolding(crate::proofs::Opened::missing_read))]
 pub fn read_missing<'source>(tokens: &mut TokenStream<'source>) -> Result<bool, Refusal>
     ensures parsed { ParsedAs (λ b. b) (missing_by tokens.old.left) tokens.new.left result }
-    ensures spans { tokens.new.spans ≡ tokens.old.spans }
+    ensures spans { KeepsSpans tokens.old tokens.new }
 {
     pass_context(tokens)?;
     if tokens.skip_word("ignore") {

@@ -15,6 +15,10 @@ pub record PlacedTokens : Type 0 where
   pub left : List token.Token
   pub spans : List Span
 
+-- all tokens stand where they stood
+abbrev pub KeepsSpans : PlacedTokens → PlacedTokens → Type 0
+KeepsSpans old new = new.spans ≡ old.spans
+
 unfoldable pub spans_of : List (scanned.Token × Span) → List Span
 spans_of held = map (λ t. t.1) held
 

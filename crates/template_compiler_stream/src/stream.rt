@@ -6,7 +6,7 @@ ghost use Rattle.template_compiler_grammar.specs.Words.{begins_bare};
 ghost use Rattle.template_compiler_grammar.specs.ReaderParts.{begins_closing, begins_bound_end};
 ghost use Rattle.template_compiler_stream.specs.Refusals.{fault_of};
 ghost use Rattle.template_compiler_stream.specs.Left.{Peeks, Shows, ahead, behind, ended, passed};
-ghost use Rattle.template_compiler_stream.specs.Spans.{ShownAt, TakenAt};
+ghost use Rattle.template_compiler_stream.specs.Spans.{KeepsSpans, ShownAt, TakenAt};
 ghost use Rattle.template_compiler_tokens.specs.Places.{last_span, next_span, no_span, token_count, until};
 ghost use Rattle.template_compiler_stream.specs.Signs.{assigned_behind, begins_alone, begins_symbol, is_symbol, level_of, second_word, next_number, next_operator, next_comparison, next_symbol, next_word, number_in, word_in};
 ghost use Rattle.template_compiler_tokens.specs.Signs.{symbol_of};
@@ -184,7 +184,7 @@ impl<'source> TokenStream<'source> {
     /// Passes the next token.
     pub fn advance(&mut self)
         ensures passed { self.new.left ≡ passed self.old.left }
-        ensures spans { self.new.spans ≡ self.old.spans }
+        ensures spans { KeepsSpans self.old self.new }
     {
         if self.place < self.tokens.len() {
             self.place += 1;
@@ -247,7 +247,7 @@ impl<'source> TokenStream<'source> {
     pub fn skip_operator(&mut self, level: Level) -> Option<BinOpKind>
         ensures operator { result ≡ next_operator (level_of level) self.old.left }
         ensures passed { self.new.left ≡ (if is_some result then passed self.old.left else self.old.left) }
-        ensures spans { self.new.spans ≡ self.old.spans }
+        ensures spans { KeepsSpans self.old self.new }
     {
         let found = match self.peek() {
             Next::Token(token, _) => operator_of(level, token),
@@ -264,7 +264,7 @@ impl<'source> TokenStream<'source> {
     pub fn skip_comparison(&mut self) -> Option<CompareOpKind>
         ensures operator { result ≡ next_comparison self.old.left }
         ensures passed { self.new.left ≡ (if is_some result then passed self.old.left else self.old.left) }
-        ensures spans { self.new.spans ≡ self.old.spans }
+        ensures spans { KeepsSpans self.old self.new }
     {
         let found = match self.peek() {
             Next::Token(token, _) => comparison_of(token),
@@ -292,7 +292,7 @@ impl<'source> TokenStream<'source> {
     pub fn take(&mut self) -> First<'source>
         ensures taken { self.old.left ≡ ahead result self.new.left }
         ensures span { TakenAt (next_span self.old.spans self.old.left) result }
-        ensures spans { self.new.spans ≡ self.old.spans }
+        ensures spans { KeepsSpans self.old self.new }
     {
         if self.place < self.tokens.len() {
             let (token, span) = take_from(&mut self.tokens[self.place]);
@@ -308,7 +308,7 @@ impl<'source> TokenStream<'source> {
     /// Passes the sign, where it stands next.
     pub fn skip(&mut self, sign: Sign) -> bool
         ensures passed { SkipsSign (symbol_of sign) self.old.left self.new.left result }
-        ensures spans { self.new.spans ≡ self.old.spans }
+        ensures spans { KeepsSpans self.old self.new }
     {
         match self.sign() {
             Some(next) => {
@@ -327,7 +327,7 @@ impl<'source> TokenStream<'source> {
     #[inline(always)]
     pub fn skip_word(&mut self, word: &str) -> bool
         ensures passed { SkipsWord word.now self.old.left self.new.left result }
-        ensures spans { self.new.spans ≡ self.old.spans }
+        ensures spans { KeepsSpans self.old self.new }
     {
         match self.word() {
             Some(next) => {
@@ -386,7 +386,7 @@ impl<'source> TokenStream<'source> {
     #[tactic(auto, using(crate::proofs::Skips::dotted_here, crate::proofs::Skips::no_dot, crate::proofs::Skips::no_dotted_word))]
     pub fn skip_dotted(&mut self) -> Option<&'source str>
         ensures passed { SkipsDotted self.old.left self.new.left result }
-        ensures spans { self.new.spans ≡ self.old.spans }
+        ensures spans { KeepsSpans self.old self.new }
     {
         match self.second_word() {
             Some(part) => {
@@ -406,7 +406,7 @@ impl<'source> TokenStream<'source> {
     #[tactic(auto, using(crate::proofs::Skips::keyword_here, crate::proofs::Skips::not_assigned, crate::proofs::Skips::no_keyword_word))]
     pub fn skip_keyword(&mut self) -> Option<&'source str>
         ensures passed { SkipsKeyword self.old.left self.new.left result }
-        ensures spans { self.new.spans ≡ self.old.spans }
+        ensures spans { KeepsSpans self.old self.new }
     {
         match self.word() {
             Some(name) => {
@@ -430,7 +430,7 @@ impl<'source> TokenStream<'source> {
     #[tactic(auto, using(crate::proofs::Skips::text_put, crate::proofs::Skips::no_text), unfolding(template_compiler_grammar::specs::ReaderParts::text_step))]
     pub fn skip_text(&mut self, text: &mut String) -> Result<bool, AllocError>
         ensures passed { SkipsText (string_bytes text.old) self.old.left (string_bytes text.new) self.new.left result }
-        ensures spans { self.new.spans ≡ self.old.spans }
+        ensures spans { KeepsSpans self.old self.new }
     {
         match self.peek() {
             Next::Token(token, _) => {
