@@ -1,9 +1,8 @@
 -- What is generated onto no code is the piece alone; and what is accepted of it.
-use Rattle.std.proofs.Common.{◌≡◌, List, [], ◌++◌, length, Result, Ok, Err, IfOk, inl, inr, ap, sym, subst, ◌∙◌}
+use Rattle.std.proofs.Common.{◌≡◌, List, [], ◌++◌, length, Result, Ok, Err, IfOk, ap, sym, subst, ◌∙◌}
 use Rattle.template_values_errors.specs.declared.ErrorKind.{ErrorKind}
 use Rattle.template_compiler_tree.specs.Tree.{Statement, template}
 use Rattle.template_compiler_code.specs.Code.{Code}
-use Rattle.template_compiler_code.specs.Listing.{TakesNoMore}
 use Rattle.template_compiler_code.specs.declared.listing.Instructions.{Instructions}
 use Rattle.template_compiler_code_shapes.specs.Checked.{kind_in, stream_in}
 use Rattle.template_compiler_code_shapes.specs.Streams.{IsGood}
@@ -11,7 +10,6 @@ use Rattle.template_compiler_code_shapes.specs.declared.StreamKind.TheVariants.{
 use Rattle.template_compiler_code_shapes.specs.declared.checked.Checked.{Checked}
 use Rattle.template_compiler_statement_codegen.specs.Listed.{IsRunnableTree}
 use Rattle.template_compiler_codegen.specs.Expressions.{Coded}
-use Rattle.template_compiler_emission.specs.Puts.{NoRoom}
 use Rattle.template_compiler_generator.specs.Alone.{CanStand}
 use Rattle.template_compiler_generator.specs.Drafts.{Draft, Generates}
 
@@ -34,8 +32,3 @@ pub told_stream : (P : Instructions → Type 0) (result : Result Checked (List E
     → IfOk result (λ checked. stream_in checked ≡ i) → IfOk result (λ checked. P (stream_in checked))
 told_stream P (Ok checked) i holds is = subst P (sym is) holds
 told_stream P (Err kinds) i holds is = tt
-
--- code that takes no further instruction has no room
-pub no_room : (code : List Code) {kinds : List ErrorKind} → TakesNoMore code kinds → NoRoom kinds
-no_room code (inl full) = inl full.1
-no_room code (inr want) = inr want

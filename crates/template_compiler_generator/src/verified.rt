@@ -6,7 +6,6 @@ ghost use Rattle.template_compiler_code_shapes.specs.Checked.{kind_in, stream_in
 ghost use Rattle.template_compiler_code_shapes.specs.Streams.{IsGood};
 ghost use Rattle.template_compiler_code_shapes.specs.declared.StreamKind.{StreamKind};
 ghost use Rattle.template_compiler_codegen.specs.Statements.{standalone_code, template_code};
-ghost use Rattle.template_compiler_emission.specs.Puts.{NoRoom};
 ghost use Rattle.template_compiler_generator.specs.Numbers.{numbered_in};
 ghost use Rattle.template_compiler_generator.specs.Acceptance.{ExpressionsAreAccepted, TemplatesAreAccepted};
 ghost use Rattle.template_compiler_generator.specs.Alone.{CanStand, statements_of};
@@ -21,7 +20,7 @@ use template_compiler_code::Instructions;
 use template_compiler_code_shapes::{Checked, StreamKind, certified_is_good, verify};
 use template_compiler_tree::Expr;
 use template_compiler_tree_statements::Stmt;
-use template_values_errors::Error;
+use template_values_errors::{Error, ErrorKind};
 
 /// Whatever draft is generated for a template, onto one without code, is a good stream of a template with its numbers. The
 /// function does nothing: it stands for the law in its contract.
@@ -62,8 +61,7 @@ fn accepted<'source>(
 ///
 /// # Errors
 ///
-/// Those of [`CodeGenerator::compile_stmt`], and
-/// [`ErrorKind::OutOfMemory`](template_values_errors::ErrorKind::OutOfMemory).
+/// [`ErrorKind::OutOfMemory`], also where the code would have 2^32 instructions.
 pub fn verified_template<'source>(
     alloc: Global,
     file: &'source str,
@@ -76,11 +74,14 @@ pub fn verified_template<'source>(
     ensures kind { IfOk result (λ checked. kind_in checked ≡ StreamKind.Template) }
     ensures file { IfOk result (λ checked. name_in (stream_in checked) ≡ file.now) }
     ensures source { IfOk result (λ checked. source_in (stream_in checked) ≡ source.now) }
-    ensures refused { IfErr result NoRoom }
+    ensures refused { IfErr result NoMemory }
 {
     templates_are_accepted();
     let mut generator = CodeGenerator::new(alloc, file, source);
-    generator.compile_stmt(tree)?;
+    match generator.compile_stmt(tree) {
+        Ok(()) => {}
+        Err(_full) => return Err(Error::new(ErrorKind::OutOfMemory)),
+    }
     let instructions = generator.finish()?;
     accepted(alloc, instructions)
 }
@@ -89,8 +90,7 @@ pub fn verified_template<'source>(
 ///
 /// # Errors
 ///
-/// Those of [`CodeGenerator::compile_expr`], and
-/// [`ErrorKind::OutOfMemory`](template_values_errors::ErrorKind::OutOfMemory).
+/// [`ErrorKind::OutOfMemory`], also where the code would have 2^32 instructions.
 pub fn verified_expression<'source>(
     alloc: Global,
     file: &'source str,
@@ -101,11 +101,14 @@ pub fn verified_expression<'source>(
     ensures code { IfOk result (λ checked. code_in (stream_in checked) ≡ numbered_in (standalone_code (expression_of expr.now))) }
     ensures file { IfOk result (λ checked. name_in (stream_in checked) ≡ file.now) }
     ensures source { IfOk result (λ checked. source_in (stream_in checked) ≡ source.now) }
-    ensures refused { IfErr result NoRoom }
+    ensures refused { IfErr result NoMemory }
 {
     expressions_are_accepted();
     let mut generator = CodeGenerator::new(alloc, file, source);
-    generator.compile_expr(expr)?;
+    match generator.compile_expr(expr) {
+        Ok(()) => {}
+        Err(_full) => return Err(Error::new(ErrorKind::OutOfMemory)),
+    }
     let instructions = generator.finish()?;
     accepted(alloc, instructions)
 }
