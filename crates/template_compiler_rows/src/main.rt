@@ -56,7 +56,7 @@
 //!   the check was refused memory, what comes back is checked again, and what that gives stands behind a `, `;
 //!   `references`, such an array: the names that those up to each one refer to, and up to one past the last, the latest first, as
 //!   `( name ..)`. An instruction is a word, or an array of a word and a number: the place where it leads, a count (`null` for a
-//!   counted run), or a name's letter. The words stand in `words.rt`;
+//!   counted run), or a name's letter. The words are in `template_rows_streams`;
 //! - `fuel`, a number and an array of instructions, as of a `stream`: whether the fuel lets each of them run, then what
 //!   remains of it and what was consumed, each with a `;` behind it;
 //! - `names`, two sources: the names that they use, put into one set;
