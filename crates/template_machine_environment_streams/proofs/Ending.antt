@@ -1,8 +1,8 @@
 -- Each run of a stream that is handed in ends, and leaves what was reached alone.
-use Rattle.std.proofs.Common.{◌≡◌, ℕ, suc, ◌==◌, Bool, true, false, if◌then◌else◌, List, [], ◌∷◌, Option, None, Some, IsSome, refl, sym, ap, subst, arith}
+use Rattle.std.proofs.Common.{◌≡◌, ℕ, suc, ◌<◌, ◌≤◌, ◌==◌, Bool, true, false, if◌then◌else◌, List, [], ◌∷◌, length, Option, None, Some, IsSome, refl, sym, ap, subst, arith}
 use Rattle.std.specs.Option.{option_and_then, option_map}
 use Rattle.std.proofs.lemmas.Bool.Decides.{nat_tests}
-use Rattle.std.proofs.lemmas.List.Elements.{All-cons}
+use Rattle.std.proofs.lemmas.List.Elements.{All-cons, All-nil}
 use Rattle.template_values_errors.specs.declared.ErrorKind.TheVariants.{InvalidOperation}
 use Rattle.template_compiler_process.specs.Approximants.{IsFinished}
 use Rattle.template_compiler_process.specs.Drive.{faults}
@@ -19,14 +19,14 @@ use Rattle.template_machine_meaning.specs.Keys.{Head, Part, whole, body_of, roun
 use Rattle.template_machine_meaning.specs.Plans.{calls_block, caller_of}
 use Rattle.template_machine_meaning.specs.Records.{all_loops}
 use Rattle.template_machine_meaning.specs.Surroundings.{Programs}
-use Rattle.template_machine_meaning.specs.World.{Globals, World, has_room}
+use Rattle.template_machine_meaning.specs.World.{Globals, Macro, World, has_room}
 use Rattle.template_machine_renders.specs.Handed.{backed, begun_run, handed, handing, own_run}
 use Rattle.template_machine_renders.specs.Programs as units
 use Rattle.template_machine_renders.proofs.Handed.{stream_stays}
 use Rattle.template_machine_state.specs.Changes.{stream_begun}
 use Rattle.template_machine_codes.specs.StreamLaws.{EveryStreamEnds, EveryStreamLeaves, Leaves, ListsAll, MayRun}
 use Rattle.template_machine_codes.specs.Streams as streams
-use Rattle.template_machine_codes.specs.Streams.{Codes, IsLoopReached, IsSound, part_run}
+use Rattle.template_machine_codes.specs.Streams.{Codes, IsBodyReached, IsLoopReached, IsSound, part_run}
 use Rattle.template_machine_codes.proofs.Sound.{sound_after, sound_left, sound_of}
 use Rattle.template_compiled.specs.Compiled.{Compiled}
 use Rattle.template_compiled.specs.Standing.{compiled_at}
@@ -66,7 +66,10 @@ module _ (codes : Codes) where
 
 -- nothing was made yet
 none_held : (codes : Codes) (id : ℕ) (globals : Globals) (head : Head) → IsSound codes (frameless id globals head)
-none_held codes id globals head = record { macros = λ k d less. absurd (omega (arith, less)); loops = λ k d less. absurd (omega (arith, less)) }
+none_held codes id globals head = record {
+  macros = All-nil (λ (m : Macro). IsBodyReached codes m.stream m.number);
+  loops = All-nil (IsLoopReached codes);
+}
 
 module _ {E C M F J R : Type 0} (says : UserAnswers C M F J) (s : State E C M F J R) (stream : Checked) where
   abbrev e : Registry
@@ -105,8 +108,10 @@ module _ {E C M F J R : Type 0} (says : UserAnswers C M F J) (s : State E C M F 
     may_run : HoldsReached s → MayRun here (handed (streams_in s)) begun
     may_run held =
         let sound = sound_with e (template_in s) (streams_in s) code (world_in s) held in
+        let framed : 0 < suc (length (world_in s).frames) = omega arith in
+        let floor : suc (length (world_in s).frames) ≤ suc (length (world_in s).frames) = omega arith in
         record {
-          start = record { framed = omega arith; floor = omega arith; alone = refl };
+          start = record { framed = framed; floor = floor; alone = refl };
           here = refl;
           reached = tt;
           sound = record { macros = sound.macros; loops = All-cons (IsLoopReached here) None (all_loops (world_in s)) tt sound.loops };

@@ -1,6 +1,6 @@
 -- A state that a render left holds what was reached alone.
-use Rattle.std.proofs.Common.{◌≡◌, ℕ, ◌+◌, true, List, [], Option, None, Some, IsSome, refl, sym, ap, subst, ◌∙◌, arith}
-use Rattle.std.proofs.lemmas.List.Elements.{All-cons}
+use Rattle.std.proofs.Common.{◌≡◌, ℕ, ◌+◌, ◌<◌, ◌≤◌, true, List, [], Option, None, Some, IsSome, refl, sym, ap, subst, ◌∙◌, arith}
+use Rattle.std.proofs.lemmas.List.Elements.{All-cons, All-nil}
 use Rattle.template_values_model.specs.Val.{Val}
 use Rattle.template_compiler_process.specs.Approximants.{IsFinished}
 use Rattle.template_compiler_process.specs.Trace.{Run}
@@ -9,14 +9,14 @@ use Rattle.template_machine_meaning.specs.Blocks.{is_among}
 use Rattle.template_machine_meaning.specs.Meaning.{head_of, meaning, top}
 use Rattle.template_machine_meaning.specs.Plans.{ran}
 use Rattle.template_machine_meaning.specs.Surroundings.{Programs, runners}
-use Rattle.template_machine_meaning.specs.World.{World, first_world}
+use Rattle.template_machine_meaning.specs.World.{Macro, World, first_world}
 use Rattle.template_machine_codes.specs.Codes.{codes_of}
 use Rattle.template_machine_codes.proofs.Alike.{code_means_tree}
 use Rattle.template_machine_renders.specs.Programs as units
 use Rattle.template_machine_renders.proofs.Handed.{key_stays}
 use Rattle.template_machine_codes.specs.StreamLaws.{EveryStreamEnds, ListsAll, MayRun}
 use Rattle.template_machine_codes.specs.Streams as streams
-use Rattle.template_machine_codes.specs.Streams.{Codes, IsLoopReached, IsSound}
+use Rattle.template_machine_codes.specs.Streams.{Codes, IsBodyReached, IsLoopReached, IsSound}
 use Rattle.template_compiled.specs.Compiled.{Compiled, standing_of}
 use Rattle.template_compiled.specs.Standing.{compiled_at}
 use Rattle.template_machine_environment.specs.Extras.{Brought, UserAnswers}
@@ -51,15 +51,18 @@ module _ (k : Brought) (e : Registry) (c : Compiled) (numbers : ℕ) (accepted :
   all_listed name some = listed name (head_there (compiled_at e.templates name) some)
 
   may_run : MayRun codes top first
-  may_run = record {
-    start = record { framed = omega arith; floor = omega arith; alone = refl };
-    here = refl;
-    reached = tt;
-    sound = record {
-      macros = λ n d less. absurd (omega (arith, less));
-      loops = All-cons (IsLoopReached codes) None [] tt (λ n d less. absurd (omega (arith, less)));
-    };
-  }
+  may_run =
+      let framed : 0 < 1 = omega arith in
+      let floor : 1 ≤ 1 = omega arith in
+      record {
+        start = record { framed = framed; floor = floor; alone = refl };
+        here = refl;
+        reached = tt;
+        sound = record {
+          macros = All-nil (λ (m : Macro). IsBodyReached codes m.stream m.number);
+          loops = All-cons (IsLoopReached codes) None [] tt (All-nil (IsLoopReached codes));
+        };
+      }
 
   machine_ends : (n : ℕ) × IsFinished (ran (runners machine n top) first).end × IsSound codes (ran (runners machine n top) first).after
   machine_ends =
