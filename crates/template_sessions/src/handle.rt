@@ -1,6 +1,6 @@
 //! What holds a session for who calls from C.
 ghost use Rattle.std.specs.Prelude.{◌≡◌, Option, None, Some};
-ghost use Rattle.template_sessions.specs.Handles.{IsOpen, held_at};
+ghost use Rattle.template_sessions.specs.Handles.{IsOpen, held_at, session_code};
 ghost use Rattle.template_sessions.specs.declared.session.Session.{Session};
 
 use crate::session::Session;
@@ -15,7 +15,7 @@ use template_handles::RawBox;
 pub struct Handle {
     at: *mut u8,
     /// The session.
-    pub ghost session: { Option Session },
+    pub ghost session: { Option Session } by { session_code },
 }
 
 impl Model for Handle {
