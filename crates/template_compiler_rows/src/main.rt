@@ -52,8 +52,7 @@
 //!   in that line and has nothing else, or `"drop"`, which drops the last one;
 //! - `many` and `pairs`, two counts: how many numbers lie on one another, from 0 on, and how many values or pairs of them
 //!   are taken: what was taken, the lowest first, then the number on top, if there is one, each with a `;` behind it;
-//! - `stream`, an array of instructions: of what it is a stream, or why it is none, and how many instructions come back; where
-//!   the check was refused memory, what comes back is checked again, and what that gives stands behind a `, `;
+//! - `stream`, an array of instructions: of what it is a stream, or why it is none, and how many instructions come back;
 //!   `references`, such an array: the names that those up to each one refer to, and up to one past the last, the latest first, as
 //!   `( name ..)`. An instruction is a word, or an array of a word and a number: the place where it leads, a count (`null` for a
 //!   counted run), or a name's letter. The words are in `template_rows_streams`;

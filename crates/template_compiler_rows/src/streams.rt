@@ -3,12 +3,10 @@ use crate::report::Report;
 use serde_json::Value as Json;
 use std::alloc::Global;
 use template_compiler_code::{Instructions, get_referenced_names};
-use template_compiler_code_shapes::{Checked, verify};
+use template_compiler_code_shapes::verify;
 use template_rows_streams::stream_of;
-use template_values_errors::{Error, ErrorKind};
 
-/// What the steps are a stream of, or why they are refused, and how many of them come back. Where memory was refused, what comes
-/// back is asked again.
+/// What the steps are a stream of, or why they are refused, and how many of them come back.
 pub(crate) fn verified(alloc: Global, steps: &[Json], out: &mut Report) {
     match stream_of(alloc, steps) {
         Ok(code) => tell_verified(alloc, code, out),
@@ -17,21 +15,7 @@ pub(crate) fn verified(alloc: Global, steps: &[Json], out: &mut Report) {
 }
 
 fn tell_verified(alloc: Global, code: Instructions<'_>, out: &mut Report) {
-    let checked = verify(alloc, code);
-    tell_checked(&checked, out);
-    if let Err((error, back)) = checked
-        && error.kind() == ErrorKind::OutOfMemory
-    {
-        out.push_str(", ");
-        tell_checked(&verify(alloc, back), out)
-    }
-}
-
-fn tell_checked<'line>(
-    checked: &Result<Checked<'line>, (Error, Instructions<'line>)>,
-    out: &mut Report,
-) {
-    match checked {
+    match &verify(alloc, code) {
         Ok(checked) => {
             out.tell("", &checked.kind());
             out.tell(" ", &checked.instructions().len())
