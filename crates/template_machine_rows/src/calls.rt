@@ -1,6 +1,5 @@
 //! What is asked for behind the steps.
 use crate::case::{Call, Case, Source, Subject};
-use crate::handed::checked_all;
 use crate::invoked::call_all;
 use crate::renders::{tell_captured, tell_render};
 use crate::report::Report;
@@ -28,13 +27,7 @@ pub(crate) fn ask<'line, E: Extension>(
         }
         Call::Calls => {
             drop(context);
-            let streams = checked_all(out.alloc(), case.streams, out);
-            call_all(
-                environment.empty_state(ids),
-                &case.calls,
-                streams.as_slice(),
-                out,
-            )
+            call_all(environment.empty_state(ids), &case.calls, out)
         }
         _ => ask_subject(environment, ids, case, context, out),
     }
@@ -150,15 +143,7 @@ fn tell_of_template<'line, E: Extension>(
 ) {
     match case.setting.call {
         Call::States => tell_states(environment, template, ids, out),
-        Call::TemplateCalls => {
-            let streams = checked_all(out.alloc(), case.streams, out);
-            call_all(
-                template.new_state(ids),
-                &case.calls,
-                streams.as_slice(),
-                out,
-            )
-        }
+        Call::TemplateCalls => call_all(template.new_state(ids), &case.calls, out),
         Call::UsedNames => tell_used_names(template, out),
         Call::ContextNames => out.names(&environment.context_names(template)),
         Call::Escape => out.tell("", &template.initial_auto_escape()),

@@ -10,7 +10,7 @@ use template_values_errors::{Error, ErrorKind, UndefinedBehavior};
 use template_values_json::context_from_json;
 
 // The names of a case's entries.
-const KNOWN: [&str; 33] = [
+const KNOWN: [&str; 32] = [
     "globals",
     "remove_globals",
     "filters",
@@ -26,7 +26,6 @@ const KNOWN: [&str; 33] = [
     "held",
     "calls",
     "after",
-    "streams",
     "temps",
     "templates",
     "main",
@@ -73,8 +72,6 @@ pub(crate) struct Case<'line> {
     pub(crate) calls: Value,
     /// Such a map, of the calls that are made on the state that a render left.
     pub(crate) after: Value,
-    /// The streams that such calls may run, each an array of steps.
-    pub(crate) streams: &'line [Json],
     /// The names of the temps that are told behind a render.
     pub(crate) temps: Vec<&'line str>,
     pub(crate) setting: Setting,
@@ -200,7 +197,6 @@ impl<'line> Case<'line> {
             steps,
             calls: out.or(calls, Value::none()),
             after: out.or(after, Value::none()),
-            streams: streams_of(entries.get("streams"), out),
             temps: out.or(temps, Vec::new(alloc)),
             setting: Setting::read(entries, out),
             context: out.or(context, Value::none()),
@@ -323,18 +319,6 @@ impl Setting {
             is_owned: truth_of(entries.get("owned"), out),
             tells_state: truth_of(entries.get("state"), out),
             skips_refusals: truth_of(entries.get("skip"), out),
-        }
-    }
-}
-
-// The streams that an array lists; none, where none stands.
-fn streams_of<'line>(streams: Option<&'line Json>, out: &mut Report) -> &'line [Json] {
-    match streams {
-        None => &[],
-        Some(Json::Array(streams)) => streams.as_slice(),
-        Some(_) => {
-            out.refuse(ErrorKind::SyntaxError);
-            &[]
         }
     }
 }

@@ -1,12 +1,10 @@
 //! Calls on a state.
 use crate::described::text_at;
-use crate::handed::tell_run;
 use crate::report::Report;
 use crate::tellings::{tell_state, tell_temp};
 use crate::writers::{Taker, Taking};
 use std::alloc::Global;
 use template_callables::Extension;
-use template_compiler_code_shapes::Checked;
 use template_machine_environment::{State, Template, escape_formatter, namespace};
 use template_machine_operations::{dict, range};
 use template_machine_surroundings::WriteWrapper;
@@ -15,45 +13,31 @@ use template_values_core::Value;
 use template_values_errors::{Error, ErrorKind};
 
 /// Makes the calls of a list on the state, in turn, and tells what each gives.
-pub(crate) fn call_all<'env, 'line, E: Extension>(
-    state: Result<State<'env, 'line, E>, Error>,
+pub(crate) fn call_all<E: Extension>(
+    state: Result<State<'_, '_, E>, Error>,
     calls: &Value,
-    streams: &'env [Result<Checked<'line>, Error>],
     out: &mut Report,
 ) {
     match state {
-        Ok(state) => call_in(state, calls, streams, out),
+        Ok(state) => call_in(state, calls, out),
         Err(error) => out.fault(&error),
     }
 }
 
 /// The same on a state that there is.
-pub(crate) fn call_in<'env, 'line, E: Extension>(
-    state: State<'env, 'line, E>,
-    calls: &Value,
-    streams: &'env [Result<Checked<'line>, Error>],
-    out: &mut Report,
-) {
+pub(crate) fn call_in<E: Extension>(state: State<'_, '_, E>, calls: &Value, out: &mut Report) {
     let mut state = state;
-    call_each(&mut state, items_at(calls, "it"), streams, out)
+    call_each(&mut state, items_at(calls, "it"), out)
 }
 
-fn call_each<'env, 'line, E: Extension>(
-    state: &mut State<'env, 'line, E>,
-    calls: &[Value],
-    streams: &'env [Result<Checked<'line>, Error>],
-    out: &mut Report,
-) {
+fn call_each<E: Extension>(state: &mut State<'_, '_, E>, calls: &[Value], out: &mut Report) {
     let mut first = true;
     for call in calls {
         if !first {
             out.push_str(", ");
         }
         first = false;
-        match call.value_at("run") {
-            Some(number) => tell_run(state, streams, number, call.value_at("room"), out),
-            None => tell_call(state, call, out),
-        }
+        tell_call(state, call, out);
     }
 }
 

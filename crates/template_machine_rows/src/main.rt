@@ -19,11 +19,9 @@
 //!   `args`, an array, and so `call_macro`; `lookup`, a name; `get_temp`, a name; `set_temp`, a name, with a `value`; `format`, a
 //!   value; `render_block`, a name; `escape`, a value; `range`, one, two or three numbers; `dict` or `namespace`, an array of
 //!   arguments; `get_template`, a name; `current_block`; or `tell`, which tells the state. With a `room` beside it, a writer as
-//!   below, `render_block`, `escape` and `run` write into that; `run`, the number of a stream, runs that. The state is a new one of the template `main`, where this is named, else
+//!   below, `render_block` and `escape` write into that. The state is a new one of the template `main`, where this is named, else
 //!   one without a template;
 //! - `after`: such calls on the state that a render left;
-//! - `streams`: the streams that such calls run, by their numbers from 0 on, an array of arrays of steps, which are words as the table of
-//!   the compiler has them, and `["constant", text]`;
 //! - `temps`: the names of the temps that are told behind a render, an array of texts;
 //! - `templates`: what is done before the render, in order: `[name, source]` adds a template, `[name, null]` removes
 //!   the one of that name, `null` removes all, an object with `line_statement` and `line_comment` sets the prefixes of
@@ -88,8 +86,7 @@
 //! - ` temps [name value, name -]` behind that, where temps are asked for, with `-` where there is none; ` after ` and what the
 //!   calls on the state that is left give, where there are such;
 //! - what each of the calls on a state gives, with `, ` between: a value, a text, `true` or `false`, the name of a template or of
-//!   a block, and `-` where there is no temp or no block; of a namespace its number and its printed form; of a stream that is run its text,
-//!   the value that it leaves or how it ended, and ` price N` under a fuel, or why the check of streams refuses it;
+//!   a block, and `-` where there is no temp or no block; of a namespace its number and its printed form;
 //! - `[name, name]` where names are asked for, and two such lists for those that are used: without what stands behind
 //!   dots, then with it;
 //! - `[name "source", name "source"]` for the templates that stand, and `[name value, name value]` for the globals;
@@ -122,7 +119,6 @@ mod builtins;
 mod calls;
 mod case;
 mod described;
-mod handed;
 mod invoked;
 mod own;
 mod renders;

@@ -1,6 +1,5 @@
 //! Renders, by the place that their text goes to.
 use crate::case::{Case, Place};
-use crate::handed::checked_all;
 use crate::invoked::call_in;
 use crate::report::Report;
 use crate::tellings::{tell_state, tell_temps};
@@ -138,8 +137,7 @@ fn tell_left<E: Extension>(captured: Captured<'_, '_, E>, case: &Case<'_>, out: 
     }
     if case.after.value_at("it").is_some() {
         out.push_str(" after ");
-        let streams = checked_all(out.alloc(), case.streams, out);
-        call_in(captured.into_state(), &case.after, streams.as_slice(), out);
+        call_in(captured.into_state(), &case.after, out);
     }
 }
 
