@@ -46,7 +46,8 @@ blocks_plan s w name levels begin =
     bodies_plan s.around w name (λ home. room_for s.around.limit levels w (begin name home)) (bodies_at name w.blocks)
 
 -- whichever way a call of the block begins, it enters the body that was found, where there is room for it
-pub record FindsBody (s : Programs) (standing : List ℕ → Option Standing) (roots : Roots) (w : World) (name : List ℕ) (found : Found) : Type 0 where
+pub record FindsBody (s : Programs) (standing : List ℕ → Option Standing) (roots : Roots) (w : World) (name : List ℕ) (found : Found)
+    : Type 0 where
   pub planned : (levels : ℕ) (begin : List ℕ → Home → Within)
       → blocks_plan s w name levels begin ≡ room_for s.around.limit levels w (begin (name_in found) (home_of found.home))
   pub stands : StandsThere standing roots found
@@ -54,7 +55,8 @@ pub record FindsBody (s : Programs) (standing : List ℕ → Option Standing) (r
 -- it is refused with the kinds
 abbrev pub RefusesBody : Programs → World → List ℕ → List ErrorKind → Type 0
 RefusesBody s w name kinds =
-    (levels : ℕ) (begin : List ℕ → Home → Within) → ((called : List ℕ) (home : Home) → (begin called home).key ≡ whole_of (block_of home called))
+    (levels : ℕ) (begin : List ℕ → Home → Within)
+    → ((called : List ℕ) (home : Home) → (begin called home).key ≡ whole_of (block_of home called))
     → ((called : List ℕ) (home : Home) → as_set w (begin called home) ≡ w) → IsRefused s (blocks_plan s w name levels begin) w kinds
 
 -- `super()`, by its name or printed, enters the body that was found, where there is room for it
@@ -69,7 +71,8 @@ abbrev pub found_of : Standing → includes.Found
 found_of t = record { name = t.name; head = head_of t }
 
 -- the include enters the template that was found, where there is room for it; or there is none, and nothing is done
-pub record FindsTemplate (s : Programs) (standing : List ℕ → Option Standing) (w : World) (ignore : Bool) (v : Val) (t : Standing) : Type 0 where
+pub record FindsTemplate (s : Programs) (standing : List ℕ → Option Standing) (w : World) (ignore : Bool) (v : Val) (t : Standing)
+    : Type 0 where
   pub planned : include_plan (known_of w) s.around w ignore v ≡ room_for s.around.limit include_levels w (include_within w (found_of t))
   pub stands : standing t.name ≡ Some t
 
@@ -78,7 +81,8 @@ FindsTemplateOrNone s standing w ignore v (Some t) = FindsTemplate s standing w 
 FindsTemplateOrNone s standing w ignore v None = include_plan (known_of w) s.around w ignore v ≡ replies (told w (tells done))
 
 -- the macro's body begins where it stands in its stream, over the arguments that were bound, where there is room for it
-pub record FindsMacro (s : Programs) (standing : List ℕ → Option Standing) (roots : Roots) (w : World) (pending : ℕ) (p : Plan) (begun : body.Begun) : Type 0 where
+pub record FindsMacro (s : Programs) (standing : List ℕ → Option Standing) (roots : Roots) (w : World) (pending : ℕ) (p : Plan)
+    (begun : body.Begun) : Type 0 where
   pub called : Macro
   pub over : Bound
   pub planned : p ≡ room_for s.around.limit (macro_levels + pending) w (macro_within w pending called over)
@@ -94,8 +98,8 @@ pub record FindsMacro (s : Programs) (standing : List ℕ → Option Standing) (
   pub operands : operands_in begun.operands ≡ map single over.arguments
 
 -- the rounds of a loop that is called again begin where they stand in its stream, over the items of a value, where there is room for them
-pub record FindsRounds (s : Programs) (standing : List ℕ → Option Standing) (roots : Roots) (w : World) (named : Bool) (l : Loop) (home : Rounds) (v : Val)
-    (begun : rounds.Begun) : Type 0 where
+pub record FindsRounds (s : Programs) (standing : List ℕ → Option Standing) (roots : Roots) (w : World) (named : Bool) (l : Loop)
+    (home : Rounds) (v : Val) (begun : rounds.Begun) : Type 0 where
   pub planned : rounds_plan s.around w named v l ≡ room_for s.around.limit 1 w (rounds_within w named l home begun.items)
   pub room : has_room s.around.limit 1 w ≡ true
   pub there : code_at standing roots home.stream ≡ Some (code_in begun.code.now)

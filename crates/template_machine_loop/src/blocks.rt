@@ -10,7 +10,7 @@ ghost use Rattle.template_machine_meaning.specs.World.{has_room};
 ghost use Rattle.template_machine_going.specs.Told.{CountsFailures};
 ghost use Rattle.template_machine_loop.specs.Found.{StandsThere, name_in};
 ghost use Rattle.template_machine_loop.specs.Plans.{DoesPlan, PutsBack};
-ghost use Rattle.template_machine_loop.specs.Programs.{programs_under, roots_of};
+ghost use Rattle.template_machine_loop.specs.Programs.{programs_in, roots_of};
 
 use crate::found::{Found, body_behind, body_to_run};
 use crate::templates::{Program, Templates};
@@ -41,9 +41,9 @@ pub fn run_block<'env, T: Templates, S: Sink>(
     scratch: &mut String,
     sink: &mut S,
 ) -> Result<(), Stop>
-    ensures plan { let templates = program.entry.templates.now in let roots = roots_of program.entry in
-        let s = programs_under (T.standing templates) (T.joins templates) (T.callables templates) roots program.entry.rules in
-        DoesPlan (λ u. done) s (block_plan s.around state.old name.now) state.old left.old (S.taken sink.old) result state.new left.new (S.taken sink.new) }
+    ensures plan { let s = programs_in T.standing T.joins T.callables program.entry in
+        DoesPlan (λ u. done) s (block_plan s.around state.old name.now)
+        state.old left.old (S.taken sink.old) result state.new left.new (S.taken sink.new) }
     ensures back { PutsBack state.old state.new }
     ensures keeps { KeepsWorld state.old state.new }
     ensures frames { state.new.frames ≡ state.old.frames }
@@ -69,9 +69,9 @@ pub(crate) fn call_block<'env, T: Templates, S: Sink>(
     scratch: &mut String,
     sink: &mut S,
 ) -> Result<(), Stop>
-    ensures plan { let templates = program.entry.templates.now in let roots = roots_of program.entry in
-        let s = programs_under (T.standing templates) (T.joins templates) (T.callables templates) roots program.entry.rules in
-        DoesPlan (λ u. done) s (block_called s.around state.old name.now) state.old left.old (S.taken sink.old) result state.new left.new (S.taken sink.new) }
+    ensures plan { let s = programs_in T.standing T.joins T.callables program.entry in
+        DoesPlan (λ u. done) s (block_called s.around state.old name.now)
+        state.old left.old (S.taken sink.old) result state.new left.new (S.taken sink.new) }
     ensures keeps { KeepsWorld state.old state.new }
     ensures failures { CountsFailures result (S.failures sink.old) (S.failures sink.new) }
 {
@@ -100,9 +100,9 @@ fn run_body<'env, T: Templates, S: Sink>(
     sink: &mut S,
 ) -> Result<(), Stop>
     requires { StandsThere (T.standing program.templates.now) (roots_of program) found }
-    ensures plan { let templates = program.entry.templates.now in let roots = roots_of program.entry in
-        let s = programs_under (T.standing templates) (T.joins templates) (T.callables templates) roots program.entry.rules in
-        DoesPlan (λ u. done) s (room_for s.around.limit 1 state.old (block_within state.old (name_in found.entry) (home_of found.entry.home)))
+    ensures plan { let s = programs_in T.standing T.joins T.callables program.entry in
+        let within = block_within state.old (name_in found.entry) (home_of found.entry.home) in
+        DoesPlan (λ u. done) s (room_for s.around.limit 1 state.old within)
         state.old left.old (S.taken sink.old) result state.new left.new (S.taken sink.new) }
     ensures back { PutsBack state.old state.new }
     ensures keeps { KeepsWorld state.old state.new }
@@ -142,9 +142,9 @@ pub(crate) fn print_super<'env, T: Templates, S: Sink>(
     scratch: &mut String,
     sink: &mut S,
 ) -> Result<(), Stop>
-    ensures plan { let templates = program.entry.templates.now in let roots = roots_of program.entry in
-        let s = programs_under (T.standing templates) (T.joins templates) (T.callables templates) roots program.entry.rules in
-        DoesPlan (λ u. done) s (super_plan s.around state.old false) state.old left.old (S.taken sink.old) result state.new left.new (S.taken sink.new) }
+    ensures plan { let s = programs_in T.standing T.joins T.callables program.entry in
+        DoesPlan (λ u. done) s (super_plan s.around state.old false)
+        state.old left.old (S.taken sink.old) result state.new left.new (S.taken sink.new) }
     ensures keeps { KeepsWorld state.old state.new }
     ensures failures { CountsFailures result (S.failures sink.old) (S.failures sink.new) }
 {
@@ -186,9 +186,9 @@ pub(crate) fn call_super<'env, T: Templates, S: Sink>(
     scratch: &mut String,
     sink: &mut S,
 ) -> Result<Value, Stop>
-    ensures plan { let templates = program.entry.templates.now in let roots = roots_of program.entry in
-        let s = programs_under (T.standing templates) (T.joins templates) (T.callables templates) roots program.entry.rules in
-        DoesPlan value s (super_plan s.around state.old true) state.old left.old (S.taken sink.old) result state.new left.new (S.taken sink.new) }
+    ensures plan { let s = programs_in T.standing T.joins T.callables program.entry in
+        DoesPlan value s (super_plan s.around state.old true)
+        state.old left.old (S.taken sink.old) result state.new left.new (S.taken sink.new) }
     ensures keeps { KeepsWorld state.old state.new }
     ensures failures { CountsFailures result (S.failures sink.old) (S.failures sink.new) }
 {
@@ -234,9 +234,9 @@ pub(crate) fn run_block_text<'env, T: Templates, S: Sink>(
     scratch: &mut String,
     sink: &mut S,
 ) -> Result<Value, Stop>
-    ensures plan { let templates = program.entry.templates.now in let roots = roots_of program.entry in
-        let s = programs_under (T.standing templates) (T.joins templates) (T.callables templates) roots program.entry.rules in
-        DoesPlan value s (text_plan s.around pending state.old name.now) state.old left.old (S.taken sink.old) result state.new left.new (S.taken sink.new) }
+    ensures plan { let s = programs_in T.standing T.joins T.callables program.entry in
+        DoesPlan value s (text_plan s.around pending state.old name.now)
+        state.old left.old (S.taken sink.old) result state.new left.new (S.taken sink.new) }
     ensures keeps { KeepsWorld state.old state.new }
     ensures frames { state.new.frames ≡ state.old.frames }
     ensures failures { CountsFailures result (S.failures sink.old) (S.failures sink.new) }

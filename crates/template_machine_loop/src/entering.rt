@@ -4,7 +4,7 @@ ghost use Rattle.template_compiler_code.specs.View.{code_of};
 ghost use Rattle.template_machine_going.specs.Told.{CountsFailures};
 ghost use Rattle.template_machine_operands.specs.Operands.{operands_in};
 ghost use Rattle.template_machine_loop.specs.Entering.{Does};
-ghost use Rattle.template_machine_loop.specs.Programs.{programs_under, roots_of, task_of};
+ghost use Rattle.template_machine_loop.specs.Programs.{programs_in, task_of};
 ghost use Rattle.template_machine_loop.specs.declared.tasks.Task.TheVariants.{Enters};
 
 use crate::blocks::{call_block, call_super, print_super};
@@ -26,8 +26,8 @@ use template_values_errors::{Error, ErrorKind};
 ///
 /// # Errors
 ///
-/// Those of `include`, `call_block`, `print_super`, `print_rounds`, `call_super` and `extend`; `InvalidOperation` where `super` is called with
-/// arguments; and `BadStream` where operands are missing, which no verified code meets.
+/// Those of `include`, `call_block`, `print_super`, `print_rounds`, `call_super` and `extend`; `InvalidOperation` where `super` is called
+/// with arguments; and `BadStream` where operands are missing, which no verified code meets.
 #[cycle(running)]
 #[cold]
 #[inline(never)]
@@ -42,9 +42,9 @@ pub(crate) fn enter<'env, T: Templates, S: Sink>(
     sink: &mut S,
 ) -> Result<(), Stop>
     requires { task_of (code_of instruction.now) ≡ Enters }
-    ensures does { let templates = program.entry.templates.now in let roots = roots_of program.entry in
-        Does (programs_under (T.standing templates) (T.joins templates) (T.callables templates) roots program.entry.rules) (code_of instruction.now)
-        (operands_in operands.old) state.old left.old (S.taken sink.old) result (operands_in operands.new) state.new left.new (S.taken sink.new) }
+    ensures does { Does (programs_in T.standing T.joins T.callables program.entry) (code_of instruction.now)
+        (operands_in operands.old) state.old left.old (S.taken sink.old) result
+        (operands_in operands.new) state.new left.new (S.taken sink.new) }
     ensures failures { CountsFailures result (S.failures sink.old) (S.failures sink.new) }
 {
     match instruction {

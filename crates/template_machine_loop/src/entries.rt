@@ -10,7 +10,7 @@ ghost use Rattle.template_machine_meaning.specs.World.{World};
 ghost use Rattle.template_machine_operands.specs.Operands.{operands_in};
 ghost use Rattle.template_machine_loop.specs.Entering.{Does};
 ghost use Rattle.template_machine_loop.specs.Plans.{DoesPlan};
-ghost use Rattle.template_machine_loop.specs.Programs.{programs_under, roots_of};
+ghost use Rattle.template_machine_loop.specs.Programs.{programs_in};
 
 use crate::blocks::run_block_text;
 use crate::macros::call_macro;
@@ -43,8 +43,7 @@ pub(crate) fn enter_call<'env, T: Templates, S: Sink>(
     scratch: &mut String,
     sink: &mut S,
 ) -> Result<(), Stop>
-    ensures does { let templates = program.entry.templates.now in let roots = roots_of program.entry in
-        let s = programs_under (T.standing templates) (T.joins templates) (T.callables templates) roots program.entry.rules in
+    ensures does { let s = programs_in T.standing T.joins T.callables program.entry in
         (c : Code) (start : List Operand) (w : World) → calls.Enters s c start w entry (operands_in operands.old) state.old →
         Does s c start w left.old (S.taken sink.old) result (operands_in operands.new) state.new left.new (S.taken sink.new) }
     ensures failures { CountsFailures result (S.failures sink.old) (S.failures sink.new) }
@@ -69,8 +68,7 @@ pub fn run_entry<'env, T: Templates, S: Sink>(
     scratch: &mut String,
     sink: &mut S,
 ) -> Result<Value, Stop>
-    ensures plan { let templates = program.entry.templates.now in let roots = roots_of program.entry in
-        let s = programs_under (T.standing templates) (T.joins templates) (T.callables templates) roots program.entry.rules in
+    ensures plan { let s = programs_in T.standing T.joins T.callables program.entry in
         DoesPlan value s (entry_plan s.around entry state.old)
         state.old left.old (S.taken sink.old) result state.new left.new (S.taken sink.new) }
     ensures keeps { KeepsWorld state.old state.new }
@@ -100,8 +98,7 @@ fn run_entering<'env, T: Templates, S: Sink>(
     scratch: &mut String,
     sink: &mut S,
 ) -> Result<Value, Stop>
-    ensures plan { let templates = program.entry.templates.now in let roots = roots_of program.entry in
-        let s = programs_under (T.standing templates) (T.joins templates) (T.callables templates) roots program.entry.rules in
+    ensures plan { let s = programs_in T.standing T.joins T.callables program.entry in
         DoesPlan value s (entering_plan s.around pending state.old entering)
         state.old left.old (S.taken sink.old) result state.new left.new (S.taken sink.new) }
     ensures keeps { KeepsWorld state.old state.new }

@@ -5,7 +5,7 @@ ghost use Rattle.template_machine_meaning.specs.Blocks.{load_plan};
 ghost use Rattle.template_machine_meaning.specs.Keeps.{KeepsWorld};
 ghost use Rattle.template_machine_going.specs.Told.{SparesSink};
 ghost use Rattle.template_machine_loop.specs.Plans.{DoesPlan};
-ghost use Rattle.template_machine_loop.specs.Programs.{programs_under, roots_of};
+ghost use Rattle.template_machine_loop.specs.Programs.{programs_in};
 
 use crate::templates::{Program, Templates};
 use crate::told::told_by;
@@ -30,8 +30,7 @@ pub(crate) fn extend<'env, T: Templates>(
     value: &Value,
     state: &mut State<'env>,
 ) -> Result<(), Stop>
-    ensures plan { let templates = program.entry.templates.now in let roots = roots_of program.entry in
-        let s = programs_under (T.standing templates) (T.joins templates) (T.callables templates) roots program.entry.rules in
+    ensures plan { let s = programs_in T.standing T.joins T.callables program.entry in
         (left : Option ℕ) (taken : Option (List ℕ)) →
         DoesPlan (λ u. done) s (load_plan s.around state.old state.old.parent value.now) state.old left taken result state.new left taken }
     ensures keeps { OnErr result (KeepsWorld state.old state.new) }

@@ -7,7 +7,7 @@ ghost use Rattle.template_machine_tables.specs.Streams.{home_of, stream_of};
 ghost use Rattle.template_machine_meaning.specs.Blocks.{super_plan};
 ghost use Rattle.template_machine_steps.specs.Performs.{SparesSink};
 ghost use Rattle.template_machine_loop.specs.Found.{FindsBehind, FindsBody, IsRefused, RefusesBody};
-ghost use Rattle.template_machine_loop.specs.Programs.{block_at, code_at, kept_code, own_code, programs_under, roots_of, standing_of, template_at};
+ghost use Rattle.template_machine_loop.specs.Programs.{block_at, code_at, kept_code, own_code, programs_in, roots_of, standing_of, template_at};
 
 use crate::templates::{Compiled, Program, Templates};
 use template_compiler_code::{CompiledBlock, Instructions, block_among};
@@ -35,11 +35,9 @@ pub(crate) fn body_to_run<'env, T: Templates>(
     name: &str,
     state: &State<'env>,
 ) -> Result<Found<'env>, Error>
-    ensures found { let templates = program.entry.templates.now in let roots = roots_of program.entry in
-        let s = programs_under (T.standing templates) (T.joins templates) (T.callables templates) roots program.entry.rules in
-        IfOk result (FindsBody s (T.standing templates) roots state.now name.now) }
-    ensures refused { let templates = program.entry.templates.now in let roots = roots_of program.entry in
-        let s = programs_under (T.standing templates) (T.joins templates) (T.callables templates) roots program.entry.rules in
+    ensures found { let s = programs_in T.standing T.joins T.callables program.entry in
+        IfOk result (FindsBody s (T.standing program.entry.templates.now) (roots_of program.entry) state.now name.now) }
+    ensures refused { let s = programs_in T.standing T.joins T.callables program.entry in
         IfErr result (RefusesBody s state.now name.now) }
     ensures spares { IfErr result SparesSink }
 {
@@ -64,11 +62,9 @@ pub(crate) fn body_behind<'env, T: Templates>(
     program: Program<'env, '_, T>,
     state: &State<'env>,
 ) -> Option<Found<'env>>
-    ensures found { let templates = program.entry.templates.now in let roots = roots_of program.entry in
-        let s = programs_under (T.standing templates) (T.joins templates) (T.callables templates) roots program.entry.rules in
-        IfSome result (FindsBehind s (T.standing templates) roots state.now) }
-    ensures none { let templates = program.entry.templates.now in let roots = roots_of program.entry in
-        let s = programs_under (T.standing templates) (T.joins templates) (T.callables templates) roots program.entry.rules in
+    ensures found { let s = programs_in T.standing T.joins T.callables program.entry in
+        IfSome result (FindsBehind s (T.standing program.entry.templates.now) (roots_of program.entry) state.now) }
+    ensures none { let s = programs_in T.standing T.joins T.callables program.entry in
         IfNone result ((named : Bool) → IsRefused s (super_plan s.around state.now named) state.now (InvalidOperation ∷ [])) }
 {
     let Some(name) = state.block() else {

@@ -8,7 +8,7 @@ ghost use Rattle.template_machine_meaning.specs.Records.{known_of};
 ghost use Rattle.template_machine_going.specs.Told.{CountsFailures, FaultsSo};
 ghost use Rattle.template_machine_loop.specs.Found.{FindsTemplateOrNone, IsRefused, found_of};
 ghost use Rattle.template_machine_loop.specs.Plans.{DoesPlan};
-ghost use Rattle.template_machine_loop.specs.Programs.{programs_under, roots_of, standing_of};
+ghost use Rattle.template_machine_loop.specs.Programs.{programs_in, standing_of};
 
 use crate::templates::{Compiled, Program, Templates};
 use crate::whole::run_whole;
@@ -43,8 +43,7 @@ pub(crate) fn include<'env, T: Templates, S: Sink>(
     scratch: &mut String,
     sink: &mut S,
 ) -> Result<(), Stop>
-    ensures plan { let templates = program.entry.templates.now in let roots = roots_of program.entry in
-        let s = programs_under (T.standing templates) (T.joins templates) (T.callables templates) roots program.entry.rules in
+    ensures plan { let s = programs_in T.standing T.joins T.callables program.entry in
         DoesPlan (λ u. done) s (include_plan (known_of state.old) s.around state.old ignore_missing value)
         state.old left.old (S.taken sink.old) result state.new left.new (S.taken sink.new) }
     ensures keeps { KeepsWorld state.old state.new }
@@ -69,9 +68,9 @@ fn run_included<'env, T: Templates, S: Sink>(
     sink: &mut S,
 ) -> Result<(), Stop>
     requires { T.standing program.templates.now found.name.now ≡ Some (standing_of found) }
-    ensures plan { let templates = program.entry.templates.now in let roots = roots_of program.entry in
-        let s = programs_under (T.standing templates) (T.joins templates) (T.callables templates) roots program.entry.rules in
-        DoesPlan (λ u. done) s (room_for s.around.limit include_levels state.old (include_within state.old (found_of (standing_of found.entry))))
+    ensures plan { let s = programs_in T.standing T.joins T.callables program.entry in
+        let within = include_within state.old (found_of (standing_of found.entry)) in
+        DoesPlan (λ u. done) s (room_for s.around.limit include_levels state.old within)
         state.old left.old (S.taken sink.old) result state.new left.new (S.taken sink.new) }
     ensures keeps { KeepsWorld state.old state.new }
     ensures failures { CountsFailures result (S.failures sink.old) (S.failures sink.new) }
@@ -100,11 +99,10 @@ fn chosen<'env, T: Templates>(
     value: Value,
     state: &State<'env>,
 ) -> Result<Option<Compiled<'env>>, Stop>
-    ensures found { let templates = program.entry.templates.now in let roots = roots_of program.entry in
-        let s = programs_under (T.standing templates) (T.joins templates) (T.callables templates) roots program.entry.rules in
-        IfOk result (λ found. FindsTemplateOrNone s (T.standing templates) state.now ignore_missing value (option_map standing_of found)) }
-    ensures refused { let templates = program.entry.templates.now in let roots = roots_of program.entry in
-        let s = programs_under (T.standing templates) (T.joins templates) (T.callables templates) roots program.entry.rules in
+    ensures found { let s = programs_in T.standing T.joins T.callables program.entry in
+        IfOk result (λ found.
+        FindsTemplateOrNone s (T.standing program.entry.templates.now) state.now ignore_missing value (option_map standing_of found)) }
+    ensures refused { let s = programs_in T.standing T.joins T.callables program.entry in
         IfErr result (FaultsSo (IsRefused s (include_plan (known_of state.now) s.around state.now ignore_missing value) state.now)) }
 {
     let choices = choices_in(alloc, value, state)?;
@@ -131,12 +129,10 @@ fn first_standing<'env, T: Templates>(
     here: &str,
     choices: &Items,
 ) -> Result<Option<Compiled<'env>>, Stop>
-    ensures found { let templates = program.entry.templates.now in let roots = roots_of program.entry in
-        let s = programs_under (T.standing templates) (T.joins templates) (T.callables templates) roots program.entry.rules in
+    ensures found { let s = programs_in T.standing T.joins T.callables program.entry in
         IfOk result (λ found. first_standing s.around here.now choices.now ≡ Ok (option_map (λ c. found_of (standing_of c)) found)) }
     ensures stands { IfOk result (λ found. IfSome found (λ c. T.standing program.entry.templates.now c.name.now ≡ Some (standing_of c))) }
-    ensures refused { let templates = program.entry.templates.now in let roots = roots_of program.entry in
-        let s = programs_under (T.standing templates) (T.joins templates) (T.callables templates) roots program.entry.rules in
+    ensures refused { let s = programs_in T.standing T.joins T.callables program.entry in
         IfErr result (FaultsSo (λ kinds. first_standing s.around here.now choices.now ≡ Err kinds)) }
 {
     for place in 0..choices.len() {

@@ -11,7 +11,7 @@ ghost use Rattle.template_machine_operands.specs.Operands.{operands_in};
 ghost use Rattle.template_machine_steps.specs.Performs.{SparesSink};
 ghost use Rattle.template_machine_loop.specs.Found.{FindsMacro, IsRefused};
 ghost use Rattle.template_machine_loop.specs.Plans.{DoesPlan};
-ghost use Rattle.template_machine_loop.specs.Programs.{programs_under, roots_of};
+ghost use Rattle.template_machine_loop.specs.Programs.{programs_in, roots_of};
 
 use crate::blocks::has_room_beside;
 use crate::counting::macro_at;
@@ -64,8 +64,7 @@ pub(crate) fn call_macro<'env, T: Templates, S: Sink>(
     scratch: &mut String,
     sink: &mut S,
 ) -> Result<Value, Stop>
-    ensures plan { let templates = program.entry.templates.now in let roots = roots_of program.entry in
-        let s = programs_under (T.standing templates) (T.joins templates) (T.callables templates) roots program.entry.rules in
+    ensures plan { let s = programs_in T.standing T.joins T.callables program.entry in
         DoesPlan value s (macro_plan s.around.limit pending state.old args.items (macro_of state.old id number))
         state.old left.old (S.taken sink.old) result state.new left.new (S.taken sink.new) }
     ensures keeps { KeepsWorld state.old state.new }
@@ -108,12 +107,10 @@ fn begin<'env, T: Templates>(
     pending: usize,
     state: &State<'env>,
 ) -> Result<Begun<'env>, Error>
-    ensures begun { let templates = program.entry.templates.now in let roots = roots_of program.entry in
-        let s = programs_under (T.standing templates) (T.joins templates) (T.callables templates) roots program.entry.rules in
+    ensures begun { let s = programs_in T.standing T.joins T.callables program.entry in
         let planned = macro_plan s.around.limit pending state.now args.items (macro_of state.now id number) in
-        IfOk result (FindsMacro s (T.standing templates) roots state.now pending planned) }
-    ensures refused { let templates = program.entry.templates.now in let roots = roots_of program.entry in
-        let s = programs_under (T.standing templates) (T.joins templates) (T.callables templates) roots program.entry.rules in
+        IfOk result (FindsMacro s (T.standing program.entry.templates.now) (roots_of program.entry) state.now pending planned) }
+    ensures refused { let s = programs_in T.standing T.joins T.callables program.entry in
         let planned = macro_plan s.around.limit pending state.now args.items (macro_of state.now id number) in
         IfErr result (λ kinds. NoMemory kinds ⊎ IsRefused s planned state.now kinds) }
     ensures spares { IfErr result SparesSink }

@@ -13,7 +13,7 @@ ghost use Rattle.template_machine_meaning.specs.World.{Loop, World};
 ghost use Rattle.template_machine_going.specs.Told.{CountsFailures, FaultsSo, SparesSink};
 ghost use Rattle.template_machine_loop.specs.Found.{FindsRounds, IsRefused};
 ghost use Rattle.template_machine_loop.specs.Plans.{DoesPlan};
-ghost use Rattle.template_machine_loop.specs.Programs.{programs_under, roots_of};
+ghost use Rattle.template_machine_loop.specs.Programs.{programs_in, roots_of};
 
 use crate::counting::rounds_at;
 use crate::found::code_of_stream;
@@ -63,9 +63,9 @@ pub(crate) fn print_rounds<'env, T: Templates, S: Sink>(
     scratch: &mut String,
     sink: &mut S,
 ) -> Result<(), Stop>
-    ensures plan { let templates = program.entry.templates.now in let roots = roots_of program.entry in
-        let s = programs_under (T.standing templates) (T.joins templates) (T.callables templates) roots program.entry.rules in
-        DoesPlan (λ u. done) s (recurse_plan s.around state.old over) state.old left.old (S.taken sink.old) result state.new left.new (S.taken sink.new) }
+    ensures plan { let s = programs_in T.standing T.joins T.callables program.entry in
+        DoesPlan (λ u. done) s (recurse_plan s.around state.old over)
+        state.old left.old (S.taken sink.old) result state.new left.new (S.taken sink.new) }
     ensures keeps { KeepsWorld state.old state.new }
     ensures failures { CountsFailures result (S.failures sink.old) (S.failures sink.new) }
 {
@@ -106,8 +106,7 @@ pub(crate) fn call_rounds<'env, T: Templates, S: Sink>(
     scratch: &mut String,
     sink: &mut S,
 ) -> Result<Value, Stop>
-    ensures plan { let templates = program.entry.templates.now in let roots = roots_of program.entry in
-        let s = programs_under (T.standing templates) (T.joins templates) (T.callables templates) roots program.entry.rules in
+    ensures plan { let s = programs_in T.standing T.joins T.callables program.entry in
         DoesPlan value s (again_plan s.around state.old args.items (loop_of state.old id number))
         state.old left.old (S.taken sink.old) result state.new left.new (S.taken sink.new) }
     ensures keeps { KeepsWorld state.old state.new }
@@ -161,7 +160,8 @@ fn only(args: Vec<Value>) -> Result<Value, Error>
 //
 // `InvalidOperation` where it is not recursive.
 fn again_of<'env>(current: &LoopState<'env>) -> Result<Again<'env>, Error>
-    ensures again { IfOk result (λ again. (current.now.rounds ≡ Some (rounds_in again.rounds)) × (is_some current.now.variable ≡ again.variable)) }
+    ensures again { IfOk result (λ again.
+        (current.now.rounds ≡ Some (rounds_in again.rounds)) × (is_some current.now.variable ≡ again.variable)) }
     ensures refused { IfErr result (λ kinds. (current.now.rounds ≡ None) × (kinds ≡ InvalidOperation ∷ [])) }
 {
     match current.rounds() {
@@ -185,12 +185,11 @@ fn begin<'env, T: Templates>(
     over: Value,
     state: &State<'env>,
 ) -> Result<Begun<'env>, Stop>
-    ensures begun { let templates = program.entry.templates.now in let roots = roots_of program.entry in
-        let s = programs_under (T.standing templates) (T.joins templates) (T.callables templates) roots program.entry.rules in
-        IfOk result (λ begun. (named : Bool) (l : Loop) → l.rounds ≡ Some (rounds_in again.entry.rounds) →
-        FindsRounds s (T.standing templates) roots state.now named l (rounds_in again.entry.rounds) over begun) }
-    ensures refused { let templates = program.entry.templates.now in let roots = roots_of program.entry in
-        let s = programs_under (T.standing templates) (T.joins templates) (T.callables templates) roots program.entry.rules in
+    ensures begun { let s = programs_in T.standing T.joins T.callables program.entry in
+        let home = rounds_in again.entry.rounds in
+        IfOk result (λ begun. (named : Bool) (l : Loop) → l.rounds ≡ Some home →
+        FindsRounds s (T.standing program.entry.templates.now) (roots_of program.entry) state.now named l home over begun) }
+    ensures refused { let s = programs_in T.standing T.joins T.callables program.entry in
         IfErr result (FaultsSo (λ kinds. (named : Bool) (l : Loop) → l.rounds ≡ Some (rounds_in again.entry.rounds) →
         IsRefused s (rounds_plan s.around state.now named over l) state.now kinds)) }
     ensures spares { IfErr result SparesSink }

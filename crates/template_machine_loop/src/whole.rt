@@ -4,7 +4,7 @@ ghost use Rattle.template_compiler_code.specs.Listing.{code_in};
 ghost use Rattle.template_machine_going.specs.Told.{CountsFailures};
 ghost use Rattle.template_machine_meaning.specs.Keeps.{KeepsWorld};
 ghost use Rattle.template_machine_meaning.specs.Keys.{Stream, whole_of};
-ghost use Rattle.template_machine_loop.specs.Programs.{code_at, programs_under, roots_of};
+ghost use Rattle.template_machine_loop.specs.Programs.{code_at, programs_in, roots_of};
 ghost use Rattle.template_machine_loop.specs.Runs.{KeyRuns};
 
 use crate::running::run_to_end;
@@ -33,10 +33,10 @@ pub fn run_whole<'env, T: Templates, S: Sink>(
     sink: &mut S,
 ) -> Result<(), Stop>
     requires { state.old.floor ≤ length state.old.frames }
-    ensures runs { let templates = program.entry.templates.now in let roots = roots_of program.entry in
-        (here : Stream) → code_at (T.standing templates) roots here ≡ Some (code_in code.now) →
-        KeyRuns (programs_under (T.standing templates) (T.joins templates) (T.callables templates) roots program.entry.rules)
-        (whole_of here) state.old left.old (S.taken sink.old) result state.new left.new (S.taken sink.new) }
+    ensures runs { (here : Stream) →
+        code_at (T.standing program.entry.templates.now) (roots_of program.entry) here ≡ Some (code_in code.now) →
+        KeyRuns (programs_in T.standing T.joins T.callables program.entry) (whole_of here)
+        state.old left.old (S.taken sink.old) result state.new left.new (S.taken sink.new) }
     ensures keeps { KeepsWorld state.old state.new }
     ensures failures { CountsFailures result (S.failures sink.old) (S.failures sink.new) }
 {

@@ -50,7 +50,8 @@ at_most_one None = []
 at_most_one (Some v) = v ∷ []
 
 -- A call comes to the end of runs, and gives the value that others leave; or it stops before it.
-abbrev pub ComesGiving : (ℕ → Run World) → (ℕ → Run World) → Option ℕ → Option (List ℕ) → Result (Option Val) Stop → World → Option ℕ → Option (List ℕ) → Type 0
+abbrev pub ComesGiving : (ℕ → Run World) → (ℕ → Run World) → Option ℕ → Option (List ℕ) → Result (Option Val) Stop → World → Option ℕ
+    → Option (List ℕ) → Type 0
 ComesGiving alone runs left taken (Ok value) after rest written =
     EndsSo runs after left rest taken written × LeavesAtEnd alone (at_most_one value)
 ComesGiving alone runs left taken (Err stop) after rest written = Breaks runs stop after left rest taken written

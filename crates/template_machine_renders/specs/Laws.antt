@@ -51,8 +51,9 @@ block_run s w block n = run_of (replies_of s (block_plan s.around w block) w n)
 
 -- A run of a block's code is what the block means.
 abbrev pub BlocksRender : Type 0 → Type 0
-BlocksRender X = (setting : Setting) (root : Option Standing) (name block : List ℕ) (w after : World) (fuel left : Option ℕ) (before taken : Option (List ℕ))
-    (result : Result X Stop)
-    → DoesPlan (λ x. done) (named_so name (codes_of setting root)) (block_plan (named_so name (codes_of setting root)).around w block) w fuel before result after left taken
+BlocksRender X = (setting : Setting) (root : Option Standing) (name block : List ℕ) (w after : World) (fuel left : Option ℕ)
+    (before taken : Option (List ℕ)) (result : Result X Stop)
+    → DoesPlan (λ x. done) (named_so name (codes_of setting root)) (block_plan (named_so name (codes_of setting root)).around w block)
+    w fuel before result after left taken
     → (n : ℕ) → IsFinished (block_run (named_so name (walks_of setting root)) w block n).end
     → RendersTo fuel (block_run (named_so name (walks_of setting root)) w block n) result after left before taken

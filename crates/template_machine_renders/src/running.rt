@@ -4,7 +4,7 @@ ghost use Rattle.template_compiler_code.specs.Listing.{code_in};
 ghost use Rattle.template_machine_going.specs.Told.{CountsFailures};
 ghost use Rattle.template_machine_meaning.specs.Keeps.{KeepsWorld};
 ghost use Rattle.template_machine_meaning.specs.Meaning.{top};
-ghost use Rattle.template_machine_loop.specs.Programs.{programs_under, roots_of};
+ghost use Rattle.template_machine_loop.specs.Programs.{programs_in};
 ghost use Rattle.template_machine_loop.specs.Runs.{Evaluates, KeyRuns};
 
 use std::alloc::Global;
@@ -34,8 +34,7 @@ pub fn run_template<'env, T: Templates, S: Sink>(
     sink: &mut S,
 ) -> Result<(), Stop>
     requires { state.old.floor ≤ length state.old.frames }
-    ensures runs { KeyRuns (programs_under (T.standing program.entry.templates.now) (T.joins program.entry.templates.now)
-        (T.callables program.entry.templates.now) (roots_of program.entry) program.entry.rules) top
+    ensures runs { KeyRuns (programs_in T.standing T.joins T.callables program.entry) top
         state.old left.old (S.taken sink.old) result state.new left.new (S.taken sink.new) }
     ensures failures { CountsFailures result (S.failures sink.old) (S.failures sink.new) }
 {
@@ -62,8 +61,7 @@ pub fn run_expression<'env, T: Templates, S: Sink>(
     sink: &mut S,
 ) -> Result<Value, Stop>
     requires { state.old.floor ≤ length state.old.frames }
-    ensures evaluates { Evaluates (programs_under (T.standing program.entry.templates.now) (T.joins program.entry.templates.now)
-        (T.callables program.entry.templates.now) (roots_of program.entry) program.entry.rules) (code_in code.now)
+    ensures evaluates { Evaluates (programs_in T.standing T.joins T.callables program.entry) (code_in code.now)
         state.old left.old (S.taken sink.old) result state.new left.new (S.taken sink.new) }
     ensures keeps { KeepsWorld state.old state.new }
     ensures failures { CountsFailures result (S.failures sink.old) (S.failures sink.new) }

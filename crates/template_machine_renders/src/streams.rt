@@ -9,7 +9,7 @@ ghost use Rattle.template_machine_meaning.specs.Keeps.{KeepsWorld};
 ghost use Rattle.template_machine_operands.specs.Operands.{operands_in};
 ghost use Rattle.template_machine_state.specs.Changes.{stream_begun};
 ghost use Rattle.template_machine_loop.specs.Plans.{PutsBack};
-ghost use Rattle.template_machine_loop.specs.Programs.{programs_under, roots_of};
+ghost use Rattle.template_machine_loop.specs.Programs.{programs_in, programs_under, roots_of};
 ghost use Rattle.template_machine_loop.specs.Runs.{KeyRuns};
 ghost use Rattle.template_machine_renders.specs.Handed.{ComesGiving, LeavesAtEnd, begun_run, handed, handing, own_run, stream_run};
 
@@ -44,7 +44,8 @@ pub fn run_stream<'env, T: Templates, S: Sink>(
     sink: &mut S,
 ) -> Result<Option<Value>, Stop>
     ensures runs { let templates = program.entry.templates.now in let code = code_in (stream_in stream.now) in
-        let s = programs_under (T.standing templates) (T.joins templates) (T.callables templates) (handing number code (roots_of program.entry)) program.entry.rules in
+        let roots = handing number code (roots_of program.entry) in
+        let s = programs_under (T.standing templates) (T.joins templates) (T.callables templates) roots program.entry.rules in
         ComesGiving (own_run s code (stream_begun number state.old)) (stream_run s number state.old)
         left.old (S.taken sink.old) result state.new left.new (S.taken sink.new) }
     ensures template { IfOk result (λ value. kind_in stream.now ≡ StreamKind.Template → value ≡ None) }
@@ -83,10 +84,10 @@ fn run_begun<'env, T: Templates, S: Sink>(
     sink: &mut S,
 ) -> Result<Option<Value>, Stop>
     requires { state.old.floor ≤ length state.old.frames }
-    ensures runs { let templates = program.entry.templates.now in let code = code_in (stream_in stream.now) in
-        let s = programs_under (T.standing templates) (T.joins templates) (T.callables templates) (roots_of program.entry) program.entry.rules in
+    ensures runs { let s = programs_in T.standing T.joins T.callables program.entry in let code = code_in (stream_in stream.now) in
         (number : ℕ) → (roots_of program.entry).kept ≡ Some (number, code) →
-        ComesGiving (own_run s code state.old) (begun_run s number state.old) left.old (S.taken sink.old) result state.new left.new (S.taken sink.new) }
+        ComesGiving (own_run s code state.old) (begun_run s number state.old)
+        left.old (S.taken sink.old) result state.new left.new (S.taken sink.new) }
     ensures template { IfOk result (λ value. kind_in stream.now ≡ StreamKind.Template → value ≡ None) }
     ensures keeps { KeepsWorld state.old state.new }
     ensures failures { CountsFailures result (S.failures sink.old) (S.failures sink.new) }
@@ -111,12 +112,10 @@ fn run_followed<'env, T: Templates, S: Sink>(
     sink: &mut S,
 ) -> Result<Operands, Stop>
     requires { state.old.floor ≤ length state.old.frames }
-    ensures runs { let templates = program.entry.templates.now in
-        (number : ℕ) → (roots_of program.entry).kept ≡ Some (number, code_in code.now) →
-        KeyRuns (programs_under (T.standing templates) (T.joins templates) (T.callables templates) (roots_of program.entry) program.entry.rules)
-        (handed number) state.old left.old (S.taken sink.old) result state.new left.new (S.taken sink.new) }
-    ensures leaves { let templates = program.entry.templates.now in
-        let s = programs_under (T.standing templates) (T.joins templates) (T.callables templates) (roots_of program.entry) program.entry.rules in
+    ensures runs { (number : ℕ) → (roots_of program.entry).kept ≡ Some (number, code_in code.now) →
+        KeyRuns (programs_in T.standing T.joins T.callables program.entry) (handed number)
+        state.old left.old (S.taken sink.old) result state.new left.new (S.taken sink.new) }
+    ensures leaves { let s = programs_in T.standing T.joins T.callables program.entry in
         IfOk result (λ operands. LeavesAtEnd (own_run s (code_in code.now) state.old) (values_in (operands_in operands))) }
     ensures keeps { KeepsWorld state.old state.new }
     ensures failures { CountsFailures result (S.failures sink.old) (S.failures sink.new) }

@@ -27,7 +27,7 @@ use Rattle.template_machine_calls.specs.Left.{entering_plan, entry_plan, turning
 use Rattle.template_machine_operands.specs.Operands.{operands_in}
 use Rattle.template_machine_operands.specs.declared.Operands.{Operands}
 use Rattle.template_machine_loop.specs.Found.{name_in, found_of, FindsTemplateOrNone, IsRefused}
-use Rattle.template_machine_loop.specs.Programs.{standing_of, programs_under, task_of, roots_of}
+use Rattle.template_machine_loop.specs.Programs.{standing_of, programs_in, task_of, roots_of}
 use Rattle.template_machine_loop.specs.Runs.{RunsFrom}
 use Rattle.template_machine_loop.proofs.Advancing.{advance_over, ended_task, heard_acts, place_fits, goes_further, ends_keep, run_ended, run_over, run_stopped, run_wanting}
 use Rattle.template_machine_loop.proofs.Onward.{heard_lost, paid_leads, paid_onward, steps_on_there, steps_over, steps_spent, steps_to, tells_on_led, tells_on_there, tells_onward}
@@ -45,7 +45,7 @@ use Rattle.template_machine_loop.proofs.+running.Goals as goal
 -- one instruction
 pub running::step-returns-in_err-pay-clause-advances : goal.running::step-returns-in_err-pay-clause-advances
 running::step-returns-in_err-pay-clause-advances g t c at =
-    steps_spent (programs_under (g.T.Templates.standing c.args.program.templates.now) (g.T.Templates.joins c.args.program.templates.now) (g.T.Callbacks.callables c.args.program.templates.now) (roots_of c.args.program) c.args.program.rules)
+    steps_spent (programs_in g.T.Templates.standing g.T.Templates.joins g.T.Callbacks.callables c.args.program)
     (code_in c.args.code.now) (code_of c.args.instruction.now) c.args.place (operands_in c.args.operands.now) c.args.state.now c.args.left.now (g.S.Sink.taken c.args.sink.now)
     c.from_residual.result (operands_in c.args.operands.now) c.args.state.now c.pay.new.left _ (world_stays c.args.state.now) at c.in_err-pay.ensures.priced c.in_err-pay.ensures.spent c.in_err-pay.ensures.nothing
     c.in_err-pay.ensures.kind c.from_residual.ensures.1
@@ -56,7 +56,7 @@ running::step-returns-in_err-pay-clause-failures g t c =
 
 pub running::step-returns-in-Performs-clause-advances : goal.running::step-returns-in-Performs-clause-advances
 running::step-returns-in-Performs-clause-advances g t c at =
-    let s = programs_under (g.T.Templates.standing c.args.program.templates.now) (g.T.Templates.joins c.args.program.templates.now) (g.T.Callbacks.callables c.args.program.templates.now) (roots_of c.args.program) c.args.program.rules in
+    let s = programs_in g.T.Templates.standing g.T.Templates.joins g.T.Callbacks.callables c.args.program in
     steps_on_there s _ c.args.place _ _ _ _ _ _ _ _ c.led.result c.on.result
     (paid_leads s _ _ c.args.place _ _ _ _ _ _ _ _ c.perform_ahead.result c.led.result at c.in_ok-pay.ensures.paid (c.perform_ahead.ensures.steps s) c.led.ensures) c.on.ensures
 
@@ -68,7 +68,7 @@ running::step-returns-in-Performs-clause-failures g t c =
 -- one that calls
 pub running::step-returns-in_err-called-in-Calls-clause-advances : goal.running::step-returns-in_err-called-in-Calls-clause-advances
 running::step-returns-in_err-called-in-Calls-clause-advances g t c at =
-    let s = programs_under (g.T.Templates.standing c.args.program.templates.now) (g.T.Templates.joins c.args.program.templates.now) (g.T.Callbacks.callables c.args.program.templates.now) (roots_of c.args.program) c.args.program.rules in
+    let s = programs_in g.T.Templates.standing g.T.Templates.joins g.T.Callbacks.callables c.args.program in
     heard_lost s _ _ c.args.place _ _ _ _ _ c.from_residual-in_err-called-in-Calls.result (c.in_err-called-in-Calls.ensures s) c.from_residual-in_err-called-in-Calls.ensures.1 _ _ _ at
     c.in_ok-pay.ensures.paid
 
@@ -78,7 +78,7 @@ running::step-returns-in_err-called-in-Calls-clause-failures g t c =
 
 pub running::step-returns-in-Some-clause-advances : goal.running::step-returns-in-Some-clause-advances
 running::step-returns-in-Some-clause-advances g t c at =
-    let s = programs_under (g.T.Templates.standing c.args.program.templates.now) (g.T.Templates.joins c.args.program.templates.now) (g.T.Callbacks.callables c.args.program.templates.now) (roots_of c.args.program) c.args.program.rules in
+    let s = programs_in g.T.Templates.standing g.T.Templates.joins g.T.Callbacks.callables c.args.program in
     let entered = call_enters s _ _ _ _ _ _ c.in-Some.is (c.in_ok-called-in-Calls.ensures s) in
     steps_on_there s _ c.args.place _ _ _ _ _ _ _ _ c.onward.result c.on-in-Some.result
     (paid_onward s _ _ c.args.place _ _ _ _ _ _ _ _ _ c.enter_call.result c.onward.result at c.in_ok-pay.ensures.paid (c.enter_call.ensures.does _ _ _ entered) c.onward.ensures)
@@ -91,7 +91,7 @@ running::step-returns-in-Some-clause-failures g t c =
 
 pub running::step-enter_call-requires : goal.running::step-enter_call-requires
 running::step-enter_call-requires g t c κs within =
-    let s = programs_under (g.T.Templates.standing c.args.program.templates.now) (g.T.Templates.joins c.args.program.templates.now) (g.T.Callbacks.callables c.args.program.templates.now) (roots_of c.args.program) c.args.program.rules in
+    let s = programs_in g.T.Templates.standing g.T.Templates.joins g.T.Callbacks.callables c.args.program in
     let same = (call_enters s _ _ _ _ _ _ c.in-Some.is (c.in_ok-called-in-Calls.ensures s)).kept in
     let outer : c.call.new.state.outer ≡ c.args.state.now.outer = ap (λ w. w.outer) same in
     let many : length c.call.new.state.frames ≡ length c.args.state.now.frames = ap (λ w. length w.frames) same in
@@ -102,14 +102,14 @@ running::step-enter_call-requires g t c κs within =
 
 pub running::step-returns-in-None-clause-advances : goal.running::step-returns-in-None-clause-advances
 running::step-returns-in-None-clause-advances g t c at =
-    let s = programs_under (g.T.Templates.standing c.args.program.templates.now) (g.T.Templates.joins c.args.program.templates.now) (g.T.Callbacks.callables c.args.program.templates.now) (roots_of c.args.program) c.args.program.rules in
+    let s = programs_in g.T.Templates.standing g.T.Templates.joins g.T.Callbacks.callables c.args.program in
     heard_acts (tt {0}) s _ _ c.args.place (c.args.place + 1) _ _ _ _ _ _ _ at c.in_ok-pay.ensures.paid
     (call_done s _ _ _ _ _ c.in-None.is (c.in_ok-called-in-Calls.ensures s)) (omega arith)
 
 -- one that may enter a run within
 pub running::step-returns-in-Enters-clause-advances : goal.running::step-returns-in-Enters-clause-advances
 running::step-returns-in-Enters-clause-advances g t c at =
-    let s = programs_under (g.T.Templates.standing c.args.program.templates.now) (g.T.Templates.joins c.args.program.templates.now) (g.T.Callbacks.callables c.args.program.templates.now) (roots_of c.args.program) c.args.program.rules in
+    let s = programs_in g.T.Templates.standing g.T.Templates.joins g.T.Callbacks.callables c.args.program in
     steps_on_there s _ c.args.place _ _ _ _ _ _ _ _ c.onward-in-Enters.result c.on-in-Enters.result
     (paid_onward s _ _ c.args.place _ _ _ _ _ _ _ _ _ c.enter.result c.onward-in-Enters.result at c.in_ok-pay.ensures.paid c.enter.ensures.does c.onward-in-Enters.ensures)
     c.on-in-Enters.ensures
@@ -125,7 +125,7 @@ running::step-scope-requires-clause-task g t c = sym c.in-Scopes.ensures
 
 pub running::step-returns-in-Scopes-clause-advances : goal.running::step-returns-in-Scopes-clause-advances
 running::step-returns-in-Scopes-clause-advances g t c at =
-    c.scope.ensures.steps (programs_under (g.T.Templates.standing c.args.program.templates.now) (g.T.Templates.joins c.args.program.templates.now) (g.T.Callbacks.callables c.args.program.templates.now) (roots_of c.args.program) c.args.program.rules) c.args.left.now c.pay.new.left (g.S.Sink.taken c.args.sink.now) at c.in_ok-pay.ensures.paid
+    c.scope.ensures.steps (programs_in g.T.Templates.standing g.T.Templates.joins g.T.Callbacks.callables c.args.program) c.args.left.now c.pay.new.left (g.S.Sink.taken c.args.sink.now) at c.in_ok-pay.ensures.paid
 
 pub running::step-returns-in-Scopes-clause-failures : goal.running::step-returns-in-Scopes-clause-failures
 running::step-returns-in-Scopes-clause-failures g t c = spared c.scope.result (g.S.Sink.failures c.args.sink.now) c.scope.ensures.spares
@@ -133,7 +133,7 @@ running::step-returns-in-Scopes-clause-failures g t c = spared c.scope.result (g
 -- the run is over
 pub running::step-returns-in-Ends-clause-advances : goal.running::step-returns-in-Ends-clause-advances
 running::step-returns-in-Ends-clause-advances g t c at =
-    let s = programs_under (g.T.Templates.standing c.args.program.templates.now) (g.T.Templates.joins c.args.program.templates.now) (g.T.Callbacks.callables c.args.program.templates.now) (roots_of c.args.program) c.args.program.rules in
+    let s = programs_in g.T.Templates.standing g.T.Templates.joins g.T.Callbacks.callables c.args.program in
     advance_over s _ _ c.args.place _ _ _ _ _ at (ended_task _ (sym c.in-Ends.ensures)) c.in_ok-pay.ensures.paid
 
 pub running::step-enter-requires : goal.running::step-enter-requires
@@ -149,7 +149,7 @@ running::run_from-loop-init g t c = (goes_nowhere World _ (code_in c.args.code.n
 
 pub running::run_from-returns-in_err-ahead-clause-runs : goal.running::run_from-returns-in_err-ahead-clause-runs
 running::run_from-returns-in_err-ahead-clause-runs g t c =
-    let s = programs_under (g.T.Templates.standing c.args.program.templates.now) (g.T.Templates.joins c.args.program.templates.now) (g.T.Callbacks.callables c.args.program.templates.now) (roots_of c.args.program) c.args.program.rules in
+    let s = programs_in g.T.Templates.standing g.T.Templates.joins g.T.Callbacks.callables c.args.program in
     run_stopped s _ _ _ _ _ _ _ _ _ _ _ _ _ _ _ _ _ c.loop.invariant.0 (c.in_err-ahead.ensures.advances s c.formats-formatted.ensures) c.from_residual.ensures.1
 
 pub running::run_from-returns-in_err-ahead-clause-failures : goal.running::run_from-returns-in_err-ahead-clause-failures
@@ -159,24 +159,24 @@ running::run_from-returns-in_err-ahead-clause-failures g t c =
 
 pub running::run_from-returns-in_err-ahead-clause-keeps : goal.running::run_from-returns-in_err-ahead-clause-keeps
 running::run_from-returns-in_err-ahead-clause-keeps g t c =
-    let s = programs_under (g.T.Templates.standing c.args.program.templates.now) (g.T.Templates.joins c.args.program.templates.now) (g.T.Callbacks.callables c.args.program.templates.now) (roots_of c.args.program) c.args.program.rules in
+    let s = programs_in g.T.Templates.standing g.T.Templates.joins g.T.Callbacks.callables c.args.program in
     let so_far : KeepsWorld c.args.state.now c.loop.state = goes_keep s (code_in c.args.code.now) _ _ c.loop.invariant.0 in
     world_on c.args.state.now c.loop.state c.advance_unpaid.new.state so_far (c.in_err-ahead.ensures.advances s c.formats-formatted.ensures).keeps
 
 pub running::run_from-returns-in_default-clause-runs : goal.running::run_from-returns-in_default-clause-runs
 running::run_from-returns-in_default-clause-runs g t c =
-    let s = programs_under (g.T.Templates.standing c.args.program.templates.now) (g.T.Templates.joins c.args.program.templates.now) (g.T.Callbacks.callables c.args.program.templates.now) (roots_of c.args.program) c.args.program.rules in
+    let s = programs_in g.T.Templates.standing g.T.Templates.joins g.T.Callbacks.callables c.args.program in
     run_ended s _ _ _ _ _ _ _ _ _ _ _
     (goes_further s _ _ _ _ _ _ _ _ _ _ _ _ c.loop.invariant.0 (c.in_ok-ahead.ensures.advances s c.formats-formatted.ensures)) (sym c.in_default.ensures)
 
 pub running::run_from-returns-in_default-clause-keeps : goal.running::run_from-returns-in_default-clause-keeps
 running::run_from-returns-in_default-clause-keeps g t c =
-    let s = programs_under (g.T.Templates.standing c.args.program.templates.now) (g.T.Templates.joins c.args.program.templates.now) (g.T.Callbacks.callables c.args.program.templates.now) (roots_of c.args.program) c.args.program.rules in
+    let s = programs_in g.T.Templates.standing g.T.Templates.joins g.T.Callbacks.callables c.args.program in
     goes_keep s (code_in c.args.code.now) _ _ (goes_further s _ _ _ _ _ _ _ _ _ _ _ _ c.loop.invariant.0 (c.in_ok-ahead.ensures.advances s c.formats-formatted.ensures))
 
 pub running::run_from-returns-in_err-next-clause-runs : goal.running::run_from-returns-in_err-next-clause-runs
 running::run_from-returns-in_err-next-clause-runs g t c =
-    let s = programs_under (g.T.Templates.standing c.args.program.templates.now) (g.T.Templates.joins c.args.program.templates.now) (g.T.Callbacks.callables c.args.program.templates.now) (roots_of c.args.program) c.args.program.rules in
+    let s = programs_in g.T.Templates.standing g.T.Templates.joins g.T.Callbacks.callables c.args.program in
     run_stopped s _ _ _ _ _ _ _ _ _ _ _ _ _ _ _ _ _
     (goes_further s _ _ _ _ _ _ _ _ _ _ _ _ c.loop.invariant.0 (c.in_ok-ahead.ensures.advances s c.formats-formatted.ensures))
     (c.in_err-next.ensures.advances (sym c.in-Some.ensures)) c.from_residual-in_err-next.ensures.1
@@ -188,13 +188,13 @@ running::run_from-returns-in_err-next-clause-failures g t c =
 
 pub running::run_from-returns-in_err-next-clause-keeps : goal.running::run_from-returns-in_err-next-clause-keeps
 running::run_from-returns-in_err-next-clause-keeps g t c =
-    let s = programs_under (g.T.Templates.standing c.args.program.templates.now) (g.T.Templates.joins c.args.program.templates.now) (g.T.Callbacks.callables c.args.program.templates.now) (roots_of c.args.program) c.args.program.rules in
+    let s = programs_in g.T.Templates.standing g.T.Templates.joins g.T.Callbacks.callables c.args.program in
     let on : KeepsWorld c.args.state.now c.advance_unpaid.new.state = goes_keep s (code_in c.args.code.now) _ _ (goes_further s _ _ _ _ _ _ _ _ _ _ _ _ c.loop.invariant.0 (c.in_ok-ahead.ensures.advances s c.formats-formatted.ensures)) in
     world_on c.args.state.now c.advance_unpaid.new.state c.step.new.state on (c.in_err-next.ensures.advances (sym c.in-Some.ensures)).keeps
 
 pub running::run_from-returns-in-None-clause-runs : goal.running::run_from-returns-in-None-clause-runs
 running::run_from-returns-in-None-clause-runs g t c =
-    let s = programs_under (g.T.Templates.standing c.args.program.templates.now) (g.T.Templates.joins c.args.program.templates.now) (g.T.Callbacks.callables c.args.program.templates.now) (roots_of c.args.program) c.args.program.rules in
+    let s = programs_in g.T.Templates.standing g.T.Templates.joins g.T.Callbacks.callables c.args.program in
     run_over s _ _ _ _ _ _ _ _ _ _ _ _ _ _ _
     (goes_further s _ _ _ _ _ _ _ _ _ _ _ _ c.loop.invariant.0 (c.in_ok-ahead.ensures.advances s c.formats-formatted.ensures))
     (steps_over s _ _ _ _ _ _ _ _ _ _ _ c.in-None.is (c.in_ok-next.ensures.advances (sym c.in-Some.ensures)))
@@ -204,7 +204,7 @@ running::run_from-returns-in-None-clause-failures g t c = c.in_ok-next.ensures.f
 
 pub running::run_from-returns-in-None-clause-keeps : goal.running::run_from-returns-in-None-clause-keeps
 running::run_from-returns-in-None-clause-keeps g t c =
-    let s = programs_under (g.T.Templates.standing c.args.program.templates.now) (g.T.Templates.joins c.args.program.templates.now) (g.T.Callbacks.callables c.args.program.templates.now) (roots_of c.args.program) c.args.program.rules in
+    let s = programs_in g.T.Templates.standing g.T.Templates.joins g.T.Callbacks.callables c.args.program in
     let on : KeepsWorld c.args.state.now c.advance_unpaid.new.state = goes_keep s (code_in c.args.code.now) _ _ (goes_further s _ _ _ _ _ _ _ _ _ _ _ _ c.loop.invariant.0 (c.in_ok-ahead.ensures.advances s c.formats-formatted.ensures)) in
     let over : KeepsWorld c.advance_unpaid.new.state c.step.new.state =
     ends_keep s (code_in c.args.code.now) _ _ _ _ _ (steps_over s _ _ _ _ _ _ _ _ _ _ _ c.in-None.is (c.in_ok-next.ensures.advances (sym c.in-Some.ensures))) in
@@ -212,7 +212,7 @@ running::run_from-returns-in-None-clause-keeps g t c =
 
 pub running::run_from-loop-preserved : goal.running::run_from-loop-preserved
 running::run_from-loop-preserved g t c = (
-  let s = programs_under (g.T.Templates.standing c.args.program.templates.now) (g.T.Templates.joins c.args.program.templates.now) (g.T.Callbacks.callables c.args.program.templates.now) (roots_of c.args.program) c.args.program.rules in
+  let s = programs_in g.T.Templates.standing g.T.Templates.joins g.T.Callbacks.callables c.args.program in
       goes_further s _ _ _ _ _ _ _ _ _ _ _ _
       (goes_further s _ _ _ _ _ _ _ _ _ _ _ _ c.loop.invariant.0 (c.in_ok-ahead.ensures.advances s c.formats-formatted.ensures))
       (steps_to s _ _ _ _ _ _ _ _ _ _ _ _ c.in-Some-next.is (c.in_ok-next.ensures.advances (sym c.in-Some.ensures))),
@@ -221,7 +221,7 @@ running::run_from-loop-preserved g t c = (
 
 pub running::run_from-step-requires : goal.running::run_from-step-requires
 running::run_from-step-requires g t c κs within =
-    let s = programs_under (g.T.Templates.standing c.args.program.templates.now) (g.T.Templates.joins c.args.program.templates.now) (g.T.Callbacks.callables c.args.program.templates.now) (roots_of c.args.program) c.args.program.rules in
+    let s = programs_in g.T.Templates.standing g.T.Templates.joins g.T.Callbacks.callables c.args.program in
     let kept : KeepsWorld c.args.state.now c.advance_unpaid.new.state =
     goes_keep s (code_in c.args.code.now) _ _ (goes_further s _ _ _ _ _ _ _ _ _ _ _ _ c.loop.invariant.0 (c.in_ok-ahead.ensures.advances s c.formats-formatted.ensures)) in
     let outer : c.advance_unpaid.new.state.outer ≡ c.args.state.now.outer = kept.outer in
@@ -235,14 +235,14 @@ running::run_from-step-requires g t c κs within =
     (below, (within.0, (within.1, (c.formats-formatted.ensures, (there, place_fits c.args.code.now c.in_ok-ahead.ahead _ (sym c.in-Some.ensures))))))
 
 pub running::run_from-returns-clause-runs : goal.running::run_from-returns-clause-runs
-running::run_from-returns-clause-runs g t c = run_wanting (programs_under (g.T.Templates.standing c.args.program.templates.now) (g.T.Templates.joins c.args.program.templates.now) (g.T.Callbacks.callables c.args.program.templates.now) (roots_of c.args.program) c.args.program.rules) _ _ _ _ _ _ _ _ _ _ _ _ c.loop.invariant.0 c.new.ensures
+running::run_from-returns-clause-runs g t c = run_wanting (programs_in g.T.Templates.standing g.T.Templates.joins g.T.Callbacks.callables c.args.program) _ _ _ _ _ _ _ _ _ _ _ _ c.loop.invariant.0 c.new.ensures
 
 pub running::run_from-returns-clause-failures : goal.running::run_from-returns-clause-failures
 running::run_from-returns-clause-failures g t c = inr (other c.new.result (OutOfMemory ∷ []) c.new.ensures tt, c.loop.invariant.1)
 
 pub running::run_from-returns-clause-keeps : goal.running::run_from-returns-clause-keeps
 running::run_from-returns-clause-keeps g t c =
-    let s = programs_under (g.T.Templates.standing c.args.program.templates.now) (g.T.Templates.joins c.args.program.templates.now) (g.T.Callbacks.callables c.args.program.templates.now) (roots_of c.args.program) c.args.program.rules in
+    let s = programs_in g.T.Templates.standing g.T.Templates.joins g.T.Callbacks.callables c.args.program in
     goes_keep s (code_in c.args.code.now) _ _ c.loop.invariant.0
 
 -- from its first place on
@@ -254,7 +254,7 @@ running::run_to_end-run_from-requires g t c κs within =
 
 pub running::run_to_end-returns-clause-runs : goal.running::run_to_end-returns-clause-runs
 running::run_to_end-returns-clause-runs g t c =
-    let s = programs_under (g.T.Templates.standing c.args.program.templates.now) (g.T.Templates.joins c.args.program.templates.now) (g.T.Callbacks.callables c.args.program.templates.now) (roots_of c.args.program) c.args.program.rules in
+    let s = programs_in g.T.Templates.standing g.T.Templates.joins g.T.Callbacks.callables c.args.program in
     subst
     (λ o. RunsFrom s (code_in c.args.code.now) 0 o c.args.state.now c.args.left.now (g.S.Sink.taken c.args.sink.now) c.run_from.result c.run_from.new.state c.run_from.new.left (g.S.Sink.taken c.run_from.new.sink))
     c.new-operands.ensures c.run_from.ensures.runs
@@ -262,7 +262,7 @@ running::run_to_end-returns-clause-runs g t c =
 -- a body of a block
 pub blocks::run_body-returns-then-not-has_room-clause-plan : goal.blocks::run_body-returns-then-not-has_room-clause-plan
 blocks::run_body-returns-then-not-has_room-clause-plan g t c =
-    let s = programs_under (g.T.Templates.standing c.args.program.templates.now) (g.T.Templates.joins c.args.program.templates.now) (g.T.Callbacks.callables c.args.program.templates.now) (roots_of c.args.program) c.args.program.rules in
+    let s = programs_in g.T.Templates.standing g.T.Templates.joins g.T.Callbacks.callables c.args.program in
     refuses s (room_for s.around.limit 1 c.args.state.now (block_within c.args.state.now (name_in c.args.found) (home_of c.args.found.home))) c.args.state.now c.args.left.now (g.S.Sink.taken c.args.sink.now) (λ (u : Unit {0}). done) c.new.result
     (refused_as s (room_for s.around.limit 1 c.args.state.now (block_within c.args.state.now (name_in c.args.found) (home_of c.args.found.home))) c.args.state.now (InvalidOperation ∷ []) c.new.result c.new.ensures (roomless s 1 c.args.state.now (block_within c.args.state.now (name_in c.args.found) (home_of c.args.found.home)) (sym c.has_room.ensures ∙ c.if-not-has_room.true)))
 
@@ -279,7 +279,7 @@ blocks::run_body-enter_block-requires g t c =
 
 pub blocks::run_body-returns-in_err-caller-clause-plan : goal.blocks::run_body-returns-in_err-caller-clause-plan
 blocks::run_body-returns-in_err-caller-clause-plan g t c =
-    let s = programs_under (g.T.Templates.standing c.args.program.templates.now) (g.T.Templates.joins c.args.program.templates.now) (g.T.Callbacks.callables c.args.program.templates.now) (roots_of c.args.program) c.args.program.rules in
+    let s = programs_in g.T.Templates.standing g.T.Templates.joins g.T.Callbacks.callables c.args.program in
     lacks_first (λ (u : Unit {0}). done) s (room_for s.around.limit 1 c.args.state.now (block_within c.args.state.now (name_in c.args.found) (home_of c.args.found.home))) c.args.state.now c.args.left.now (g.S.Sink.taken c.args.sink.now) _ c.from_residual.result c.enter_block.new.self c.from_residual.ensures.1
     c.in_err-caller.ensures.refused
 
@@ -345,7 +345,7 @@ blocks::run_body-returns-clause-back g t c = record {
 -- a block
 pub blocks::run_block-returns-in_err-found-clause-plan : goal.blocks::run_block-returns-in_err-found-clause-plan
 blocks::run_block-returns-in_err-found-clause-plan g t c =
-    let s = programs_under (g.T.Templates.standing c.args.program.templates.now) (g.T.Templates.joins c.args.program.templates.now) (g.T.Callbacks.callables c.args.program.templates.now) (roots_of c.args.program) c.args.program.rules in
+    let s = programs_in g.T.Templates.standing g.T.Templates.joins g.T.Callbacks.callables c.args.program in
     stops_first (λ (u : Unit {0}). done) s (block_plan s.around c.args.state.now c.args.name.now) c.args.state.now c.args.left.now (g.S.Sink.taken c.args.sink.now) _ c.from_residual.result c.from_residual.ensures.1
     (inr (c.in_err-found.ensures.refused 1 (block_within c.args.state.now) (λ called home. refl) (λ called home. refl)))
 
@@ -367,13 +367,13 @@ blocks::run_block-run_body-requires g t c κs within =
 
 pub blocks::run_block-returns-clause-plan : goal.blocks::run_block-returns-clause-plan
 blocks::run_block-returns-clause-plan g t c =
-    let s = programs_under (g.T.Templates.standing c.args.program.templates.now) (g.T.Templates.joins c.args.program.templates.now) (g.T.Callbacks.callables c.args.program.templates.now) (roots_of c.args.program) c.args.program.rules in
+    let s = programs_in g.T.Templates.standing g.T.Templates.joins g.T.Callbacks.callables c.args.program in
     plan_as (λ (u : Unit {0}). done) s (block_plan s.around c.args.state.now c.args.name.now) _ c.args.state.now c.args.left.now (g.S.Sink.taken c.args.sink.now) c.run_body.result c.run_body.new.state c.run_body.new.left (g.S.Sink.taken c.run_body.new.sink)
     (c.in_ok-found.ensures.found.planned 1 (block_within c.args.state.now)) c.run_body.ensures.plan
 
 pub blocks::call_block-returns-then-is_passed_over-clause-plan : goal.blocks::call_block-returns-then-is_passed_over-clause-plan
 blocks::call_block-returns-then-is_passed_over-clause-plan g t c =
-    let s = programs_under (g.T.Templates.standing c.args.program.templates.now) (g.T.Templates.joins c.args.program.templates.now) (g.T.Callbacks.callables c.args.program.templates.now) (roots_of c.args.program) c.args.program.rules in
+    let s = programs_in g.T.Templates.standing g.T.Templates.joins g.T.Callbacks.callables c.args.program in
     answers s (block_called s.around c.args.state.now c.args.name.now) c.args.state.now c.args.left.now (g.S.Sink.taken c.args.sink.now) (λ (u : Unit {0}). done) _ c.args.state.now
     (passed_over s c.args.state.now c.args.name.now (sym c.is_passed_over.ensures ∙ c.if-is_passed_over.true))
 
@@ -388,14 +388,14 @@ blocks::call_block-run_block-requires g t c κs within =
 
 pub blocks::call_block-returns-clause-plan : goal.blocks::call_block-returns-clause-plan
 blocks::call_block-returns-clause-plan g t c =
-    let s = programs_under (g.T.Templates.standing c.args.program.templates.now) (g.T.Templates.joins c.args.program.templates.now) (g.T.Callbacks.callables c.args.program.templates.now) (roots_of c.args.program) c.args.program.rules in
+    let s = programs_in g.T.Templates.standing g.T.Templates.joins g.T.Callbacks.callables c.args.program in
     plan_as (λ (u : Unit {0}). done) s (block_called s.around c.args.state.now c.args.name.now) (block_plan s.around c.args.state.now c.args.name.now) c.args.state.now c.args.left.now (g.S.Sink.taken c.args.sink.now) c.run_block.result c.run_block.new.state c.run_block.new.left
     (g.S.Sink.taken c.run_block.new.sink) (looked_for s c.args.state.now c.args.name.now (sym c.is_passed_over.ensures ∙ c.if-is_passed_over.false)) c.run_block.ensures.plan
 
 -- the body behind: print_super
 pub blocks::print_super-returns-in_default-clause-plan : goal.blocks::print_super-returns-in_default-clause-plan
 blocks::print_super-returns-in_default-clause-plan g t c =
-    let s = programs_under (g.T.Templates.standing c.args.program.templates.now) (g.T.Templates.joins c.args.program.templates.now) (g.T.Callbacks.callables c.args.program.templates.now) (roots_of c.args.program) c.args.program.rules in
+    let s = programs_in g.T.Templates.standing g.T.Templates.joins g.T.Callbacks.callables c.args.program in
     refuses s (super_plan s.around c.args.state.now false) c.args.state.now c.args.left.now (g.S.Sink.taken c.args.sink.now) (λ (u : Unit {0}). done) c.new.result
     (refused_as s (super_plan s.around c.args.state.now false) c.args.state.now (InvalidOperation ∷ []) c.new.result c.new.ensures (c.in_default.ensures.none false))
 
@@ -404,7 +404,7 @@ blocks::print_super-returns-in_default-clause-keeps g t c = world_stays c.args.s
 
 pub blocks::print_super-returns-then-not-has_room-clause-plan : goal.blocks::print_super-returns-then-not-has_room-clause-plan
 blocks::print_super-returns-then-not-has_room-clause-plan g t c =
-    let s = programs_under (g.T.Templates.standing c.args.program.templates.now) (g.T.Templates.joins c.args.program.templates.now) (g.T.Callbacks.callables c.args.program.templates.now) (roots_of c.args.program) c.args.program.rules in
+    let s = programs_in g.T.Templates.standing g.T.Templates.joins g.T.Callbacks.callables c.args.program in
     refuses s (super_plan s.around c.args.state.now false) c.args.state.now c.args.left.now (g.S.Sink.taken c.args.sink.now) (λ (u : Unit {0}). done) c.new-then-not-has_room.result
     (refused_as s (super_plan s.around c.args.state.now false) c.args.state.now (InvalidOperation ∷ []) c.new-then-not-has_room.result c.new-then-not-has_room.ensures
     (refused_plan s (super_plan s.around c.args.state.now false) (room_for s.around.limit 1 c.args.state.now (super_within c.args.state.now false (name_in c.in-Some.found) c.in-Some.found.place (home_of c.in-Some.found.home))) c.args.state.now (InvalidOperation ∷ []) (c.in-Some.ensures.found.planned false)
@@ -423,7 +423,7 @@ blocks::print_super-enter_super-requires-clause-place g t c = c.in-Some.ensures.
 
 pub blocks::print_super-returns-in_err-caller-clause-plan : goal.blocks::print_super-returns-in_err-caller-clause-plan
 blocks::print_super-returns-in_err-caller-clause-plan g t c =
-    let s = programs_under (g.T.Templates.standing c.args.program.templates.now) (g.T.Templates.joins c.args.program.templates.now) (g.T.Callbacks.callables c.args.program.templates.now) (roots_of c.args.program) c.args.program.rules in
+    let s = programs_in g.T.Templates.standing g.T.Templates.joins g.T.Callbacks.callables c.args.program in
     lacks_first (λ (u : Unit {0}). done) s (super_plan s.around c.args.state.now false) c.args.state.now c.args.left.now (g.S.Sink.taken c.args.sink.now) _ c.from_residual.result c.enter_super.new.self c.from_residual.ensures.1
     c.in_err-caller.ensures.refused
 
@@ -447,7 +447,7 @@ blocks::print_super-run_whole-ran-requires g t c κs within =
 
 pub blocks::print_super-returns-in-Ok-clause-plan : goal.blocks::print_super-returns-in-Ok-clause-plan
 blocks::print_super-returns-in-Ok-clause-plan g t c =
-    let s = programs_under (g.T.Templates.standing c.args.program.templates.now) (g.T.Templates.joins c.args.program.templates.now) (g.T.Callbacks.callables c.args.program.templates.now) (roots_of c.args.program) c.args.program.rules in
+    let s = programs_in g.T.Templates.standing g.T.Templates.joins g.T.Callbacks.callables c.args.program in
     let home = home_of c.in-Some.found.home in
     let stream = stream_in c.in-Some.found.block.now in
     let y = super_within c.args.state.now false (name_in c.in-Some.found) c.in-Some.found.place home in
@@ -463,7 +463,7 @@ blocks::print_super-returns-in-Ok-clause-plan g t c =
 
 pub blocks::print_super-returns-in-Err-clause-plan : goal.blocks::print_super-returns-in-Err-clause-plan
 blocks::print_super-returns-in-Err-clause-plan g t c =
-    let s = programs_under (g.T.Templates.standing c.args.program.templates.now) (g.T.Templates.joins c.args.program.templates.now) (g.T.Callbacks.callables c.args.program.templates.now) (roots_of c.args.program) c.args.program.rules in
+    let s = programs_in g.T.Templates.standing g.T.Templates.joins g.T.Callbacks.callables c.args.program in
     let home = home_of c.in-Some.found.home in
     let stream = stream_in c.in-Some.found.block.now in
     let y = super_within c.args.state.now false (name_in c.in-Some.found) c.in-Some.found.place home in
@@ -482,7 +482,7 @@ blocks::print_super-returns-in-Ok-clause-failures g t c = ended_tells _ c.run_wh
 
 pub blocks::print_super-returns-in-Ok-clause-keeps : goal.blocks::print_super-returns-in-Ok-clause-keeps
 blocks::print_super-returns-in-Ok-clause-keeps g t c =
-    let s = programs_under (g.T.Templates.standing c.args.program.templates.now) (g.T.Templates.joins c.args.program.templates.now) (g.T.Callbacks.callables c.args.program.templates.now) (roots_of c.args.program) c.args.program.rules in
+    let s = programs_in g.T.Templates.standing g.T.Templates.joins g.T.Callbacks.callables c.args.program in
     let home = home_of c.in-Some.found.home in
     let y = super_within c.args.state.now false (name_in c.in-Some.found) c.in-Some.found.place home in
     comes_back c.args.state.now y c.enter_super.new.self c.run_whole-ran.new.state
@@ -498,7 +498,7 @@ blocks::print_super-returns-in-Err-clause-failures g t c =
 
 pub blocks::print_super-returns-in-Err-clause-keeps : goal.blocks::print_super-returns-in-Err-clause-keeps
 blocks::print_super-returns-in-Err-clause-keeps g t c =
-    let s = programs_under (g.T.Templates.standing c.args.program.templates.now) (g.T.Templates.joins c.args.program.templates.now) (g.T.Callbacks.callables c.args.program.templates.now) (roots_of c.args.program) c.args.program.rules in
+    let s = programs_in g.T.Templates.standing g.T.Templates.joins g.T.Callbacks.callables c.args.program in
     let home = home_of c.in-Some.found.home in
     let y = super_within c.args.state.now false (name_in c.in-Some.found) c.in-Some.found.place home in
     comes_back c.args.state.now y c.enter_super.new.self c.run_whole-ran.new.state
@@ -510,7 +510,7 @@ blocks::print_super-returns-in-Err-clause-keeps g t c =
 -- the body behind: call_super
 pub blocks::call_super-returns-in_default-clause-plan : goal.blocks::call_super-returns-in_default-clause-plan
 blocks::call_super-returns-in_default-clause-plan g t c =
-    let s = programs_under (g.T.Templates.standing c.args.program.templates.now) (g.T.Templates.joins c.args.program.templates.now) (g.T.Callbacks.callables c.args.program.templates.now) (roots_of c.args.program) c.args.program.rules in
+    let s = programs_in g.T.Templates.standing g.T.Templates.joins g.T.Callbacks.callables c.args.program in
     refuses s (super_plan s.around c.args.state.now true) c.args.state.now c.args.left.now (g.S.Sink.taken c.args.sink.now) value c.new.result
     (refused_as s (super_plan s.around c.args.state.now true) c.args.state.now (InvalidOperation ∷ []) c.new.result c.new.ensures (c.in_default.ensures.none true))
 
@@ -519,7 +519,7 @@ blocks::call_super-returns-in_default-clause-keeps g t c = world_stays c.args.st
 
 pub blocks::call_super-returns-then-not-has_room-clause-plan : goal.blocks::call_super-returns-then-not-has_room-clause-plan
 blocks::call_super-returns-then-not-has_room-clause-plan g t c =
-    let s = programs_under (g.T.Templates.standing c.args.program.templates.now) (g.T.Templates.joins c.args.program.templates.now) (g.T.Callbacks.callables c.args.program.templates.now) (roots_of c.args.program) c.args.program.rules in
+    let s = programs_in g.T.Templates.standing g.T.Templates.joins g.T.Callbacks.callables c.args.program in
     refuses s (super_plan s.around c.args.state.now true) c.args.state.now c.args.left.now (g.S.Sink.taken c.args.sink.now) value c.new-then-not-has_room.result
     (refused_as s (super_plan s.around c.args.state.now true) c.args.state.now (InvalidOperation ∷ []) c.new-then-not-has_room.result c.new-then-not-has_room.ensures
     (refused_plan s (super_plan s.around c.args.state.now true) (room_for s.around.limit 1 c.args.state.now (super_within c.args.state.now true (name_in c.in-Some.found) c.in-Some.found.place (home_of c.in-Some.found.home))) c.args.state.now (InvalidOperation ∷ []) (c.in-Some.ensures.found.planned true)
@@ -538,7 +538,7 @@ blocks::call_super-enter_super-requires-clause-place g t c = c.in-Some.ensures.f
 
 pub blocks::call_super-returns-in_err-caller-clause-plan : goal.blocks::call_super-returns-in_err-caller-clause-plan
 blocks::call_super-returns-in_err-caller-clause-plan g t c =
-    let s = programs_under (g.T.Templates.standing c.args.program.templates.now) (g.T.Templates.joins c.args.program.templates.now) (g.T.Callbacks.callables c.args.program.templates.now) (roots_of c.args.program) c.args.program.rules in
+    let s = programs_in g.T.Templates.standing g.T.Templates.joins g.T.Callbacks.callables c.args.program in
     lacks_first value s (super_plan s.around c.args.state.now true) c.args.state.now c.args.left.now (g.S.Sink.taken c.args.sink.now) _ c.from_residual.result c.enter_super.new.self c.from_residual.ensures.1
     c.in_err-caller.ensures.refused
 
@@ -562,7 +562,7 @@ blocks::call_super-run_whole-ran-requires g t c κs within =
 
 pub blocks::call_super-returns-in-Ok-clause-plan : goal.blocks::call_super-returns-in-Ok-clause-plan
 blocks::call_super-returns-in-Ok-clause-plan g t c =
-    let s = programs_under (g.T.Templates.standing c.args.program.templates.now) (g.T.Templates.joins c.args.program.templates.now) (g.T.Callbacks.callables c.args.program.templates.now) (roots_of c.args.program) c.args.program.rules in
+    let s = programs_in g.T.Templates.standing g.T.Templates.joins g.T.Callbacks.callables c.args.program in
     let home = home_of c.in-Some.found.home in
     let stream = stream_in c.in-Some.found.block.now in
     let y = super_within c.args.state.now true (name_in c.in-Some.found) c.in-Some.found.place home in
@@ -581,7 +581,7 @@ blocks::call_super-returns-in-Ok-clause-plan g t c =
 
 pub blocks::call_super-returns-in-Err-clause-plan : goal.blocks::call_super-returns-in-Err-clause-plan
 blocks::call_super-returns-in-Err-clause-plan g t c =
-    let s = programs_under (g.T.Templates.standing c.args.program.templates.now) (g.T.Templates.joins c.args.program.templates.now) (g.T.Callbacks.callables c.args.program.templates.now) (roots_of c.args.program) c.args.program.rules in
+    let s = programs_in g.T.Templates.standing g.T.Templates.joins g.T.Callbacks.callables c.args.program in
     let home = home_of c.in-Some.found.home in
     let stream = stream_in c.in-Some.found.block.now in
     let y = super_within c.args.state.now true (name_in c.in-Some.found) c.in-Some.found.place home in
@@ -601,7 +601,7 @@ blocks::call_super-returns-in-Ok-clause-failures g t c =
 
 pub blocks::call_super-returns-in-Ok-clause-keeps : goal.blocks::call_super-returns-in-Ok-clause-keeps
 blocks::call_super-returns-in-Ok-clause-keeps g t c =
-    let s = programs_under (g.T.Templates.standing c.args.program.templates.now) (g.T.Templates.joins c.args.program.templates.now) (g.T.Callbacks.callables c.args.program.templates.now) (roots_of c.args.program) c.args.program.rules in
+    let s = programs_in g.T.Templates.standing g.T.Templates.joins g.T.Callbacks.callables c.args.program in
     let home = home_of c.in-Some.found.home in
     let y = super_within c.args.state.now true (name_in c.in-Some.found) c.in-Some.found.place home in
     comes_back c.args.state.now y c.enter_super.new.self c.run_whole-ran.new.state
@@ -617,7 +617,7 @@ blocks::call_super-returns-in-Err-clause-failures g t c =
 
 pub blocks::call_super-returns-in-Err-clause-keeps : goal.blocks::call_super-returns-in-Err-clause-keeps
 blocks::call_super-returns-in-Err-clause-keeps g t c =
-    let s = programs_under (g.T.Templates.standing c.args.program.templates.now) (g.T.Templates.joins c.args.program.templates.now) (g.T.Callbacks.callables c.args.program.templates.now) (roots_of c.args.program) c.args.program.rules in
+    let s = programs_in g.T.Templates.standing g.T.Templates.joins g.T.Callbacks.callables c.args.program in
     let home = home_of c.in-Some.found.home in
     let y = super_within c.args.state.now true (name_in c.in-Some.found) c.in-Some.found.place home in
     comes_back c.args.state.now y c.enter_super.new.self c.run_whole-ran.new.state
@@ -629,12 +629,12 @@ blocks::call_super-returns-in-Err-clause-keeps g t c =
 -- includes
 pub includes::include-returns-in_err-choice-clause-plan : goal.includes::include-returns-in_err-choice-clause-plan
 includes::include-returns-in_err-choice-clause-plan g t c =
-    let s = programs_under (g.T.Templates.standing c.args.program.templates.now) (g.T.Templates.joins c.args.program.templates.now) (g.T.Callbacks.callables c.args.program.templates.now) (roots_of c.args.program) c.args.program.rules in
+    let s = programs_in g.T.Templates.standing g.T.Templates.joins g.T.Callbacks.callables c.args.program in
     stops_so (λ (u : Unit {0}). done) s (include_plan (known_of c.args.state.now) s.around c.args.state.now c.args.ignore_missing c.args.value) c.args.state.now c.args.left.now (g.S.Sink.taken c.args.sink.now) _ c.from_residual.result c.from_residual.ensures.1 c.in_err-choice.ensures.refused
 
 pub includes::include-returns-in_err-choice-clause-failures : goal.includes::include-returns-in_err-choice-clause-failures
 includes::include-returns-in_err-choice-clause-failures g t c =
-    let s = programs_under (g.T.Templates.standing c.args.program.templates.now) (g.T.Templates.joins c.args.program.templates.now) (g.T.Callbacks.callables c.args.program.templates.now) (roots_of c.args.program) c.args.program.rules in
+    let s = programs_in g.T.Templates.standing g.T.Templates.joins g.T.Callbacks.callables c.args.program in
     tells_so (IsRefused s (include_plan (known_of c.args.state.now) s.around c.args.state.now c.args.ignore_missing c.args.value) c.args.state.now) _ c.from_residual.result (g.S.Sink.failures c.args.sink.now) c.from_residual.ensures.1
     c.in_err-choice.ensures.refused
 
@@ -645,20 +645,20 @@ pub includes::include-run_included-requires : goal.includes::include-run_include
 includes::include-run_included-requires g t c κs within =
     let bound : 8 * (c.args.program.rules.limit - (length c.args.state.now.frames + c.args.state.now.outer)) + 3 ≡ t = c.decreases in
     let below : 8 * (c.args.program.rules.limit - (length c.args.state.now.frames + c.args.state.now.outer)) + 1 < t = omega (arith, bound) in
-    let s = programs_under (g.T.Templates.standing c.args.program.templates.now) (g.T.Templates.joins c.args.program.templates.now) (g.T.Callbacks.callables c.args.program.templates.now) (roots_of c.args.program) c.args.program.rules in
+    let s = programs_in g.T.Templates.standing g.T.Templates.joins g.T.Callbacks.callables c.args.program in
     let found = subst (λ o. FindsTemplateOrNone s (g.T.Templates.standing c.args.program.templates.now) c.args.state.now c.args.ignore_missing c.args.value (option_map standing_of o)) c.in-Some.is c.in_ok-choice.ensures.found in
     (below, (within.0, (within.1, found.stands)))
 
 pub includes::include-returns-in-Some-clause-plan : goal.includes::include-returns-in-Some-clause-plan
 includes::include-returns-in-Some-clause-plan g t c =
-    let s = programs_under (g.T.Templates.standing c.args.program.templates.now) (g.T.Templates.joins c.args.program.templates.now) (g.T.Callbacks.callables c.args.program.templates.now) (roots_of c.args.program) c.args.program.rules in
+    let s = programs_in g.T.Templates.standing g.T.Templates.joins g.T.Callbacks.callables c.args.program in
     let found = subst (λ o. FindsTemplateOrNone s (g.T.Templates.standing c.args.program.templates.now) c.args.state.now c.args.ignore_missing c.args.value (option_map standing_of o)) c.in-Some.is c.in_ok-choice.ensures.found in
     plan_as (λ (u : Unit {0}). done) s (include_plan (known_of c.args.state.now) s.around c.args.state.now c.args.ignore_missing c.args.value) _ c.args.state.now c.args.left.now (g.S.Sink.taken c.args.sink.now) c.run_included.result c.run_included.new.state c.run_included.new.left (g.S.Sink.taken c.run_included.new.sink)
     found.planned c.run_included.ensures.plan
 
 pub includes::include-returns-in-None-clause-plan : goal.includes::include-returns-in-None-clause-plan
 includes::include-returns-in-None-clause-plan g t c =
-    let s = programs_under (g.T.Templates.standing c.args.program.templates.now) (g.T.Templates.joins c.args.program.templates.now) (g.T.Callbacks.callables c.args.program.templates.now) (roots_of c.args.program) c.args.program.rules in
+    let s = programs_in g.T.Templates.standing g.T.Templates.joins g.T.Callbacks.callables c.args.program in
     let found = subst (λ o. FindsTemplateOrNone s (g.T.Templates.standing c.args.program.templates.now) c.args.state.now c.args.ignore_missing c.args.value (option_map standing_of o)) c.in-None.is c.in_ok-choice.ensures.found in
     answers s (include_plan (known_of c.args.state.now) s.around c.args.state.now c.args.ignore_missing c.args.value) c.args.state.now c.args.left.now (g.S.Sink.taken c.args.sink.now) (λ (u : Unit {0}). done) _ c.args.state.now found
 
@@ -667,7 +667,7 @@ includes::include-returns-in-None-clause-keeps g t c = world_stays c.args.state.
 
 pub includes::run_included-returns-then-not-has_room-clause-plan : goal.includes::run_included-returns-then-not-has_room-clause-plan
 includes::run_included-returns-then-not-has_room-clause-plan g t c =
-    let s = programs_under (g.T.Templates.standing c.args.program.templates.now) (g.T.Templates.joins c.args.program.templates.now) (g.T.Callbacks.callables c.args.program.templates.now) (roots_of c.args.program) c.args.program.rules in
+    let s = programs_in g.T.Templates.standing g.T.Templates.joins g.T.Callbacks.callables c.args.program in
     refuses s (room_for s.around.limit include_levels c.args.state.now (include_within c.args.state.now (found_of (standing_of c.args.found)))) c.args.state.now c.args.left.now (g.S.Sink.taken c.args.sink.now) (λ (u : Unit {0}). done) c.new.result
     (refused_as s (room_for s.around.limit include_levels c.args.state.now (include_within c.args.state.now (found_of (standing_of c.args.found)))) c.args.state.now (InvalidOperation ∷ []) c.new.result c.new.ensures (roomless s include_levels c.args.state.now (include_within c.args.state.now (found_of (standing_of c.args.found))) (sym c.has_room.ensures ∙ c.if-not-has_room.true)))
 
@@ -681,7 +681,7 @@ includes::run_included-enter_include-requires g t c =
 
 pub includes::run_included-returns-in_err-caller-clause-plan : goal.includes::run_included-returns-in_err-caller-clause-plan
 includes::run_included-returns-in_err-caller-clause-plan g t c =
-    let s = programs_under (g.T.Templates.standing c.args.program.templates.now) (g.T.Templates.joins c.args.program.templates.now) (g.T.Callbacks.callables c.args.program.templates.now) (roots_of c.args.program) c.args.program.rules in
+    let s = programs_in g.T.Templates.standing g.T.Templates.joins g.T.Callbacks.callables c.args.program in
     lacks_first (λ (u : Unit {0}). done) s (room_for s.around.limit include_levels c.args.state.now (include_within c.args.state.now (found_of (standing_of c.args.found)))) c.args.state.now c.args.left.now (g.S.Sink.taken c.args.sink.now) _ c.from_residual.result c.enter_include.new.self c.from_residual.ensures.1
     c.in_err-caller.ensures.refused
 
@@ -706,7 +706,7 @@ includes::run_included-run_whole-ran-requires g t c κs within =
 
 pub includes::run_included-returns-in-Ok-clause-plan : goal.includes::run_included-returns-in-Ok-clause-plan
 includes::run_included-returns-in-Ok-clause-plan g t c =
-    let s = programs_under (g.T.Templates.standing c.args.program.templates.now) (g.T.Templates.joins c.args.program.templates.now) (g.T.Callbacks.callables c.args.program.templates.now) (roots_of c.args.program) c.args.program.rules in
+    let s = programs_in g.T.Templates.standing g.T.Templates.joins g.T.Callbacks.callables c.args.program in
     let y = include_within c.args.state.now (found_of (standing_of c.args.found)) in
     let at = template_code (g.T.Templates.standing c.args.program.templates.now) (g.T.Templates.joins c.args.program.templates.now) (g.T.Callbacks.callables c.args.program.templates.now) (roots_of c.args.program) c.args.program.rules c.args.found.name.now (standing_of c.args.found) c.requires in
     within_ends
@@ -718,7 +718,7 @@ includes::run_included-returns-in-Ok-clause-plan g t c =
 
 pub includes::run_included-returns-in-Err-clause-plan : goal.includes::run_included-returns-in-Err-clause-plan
 includes::run_included-returns-in-Err-clause-plan g t c =
-    let s = programs_under (g.T.Templates.standing c.args.program.templates.now) (g.T.Templates.joins c.args.program.templates.now) (g.T.Callbacks.callables c.args.program.templates.now) (roots_of c.args.program) c.args.program.rules in
+    let s = programs_in g.T.Templates.standing g.T.Templates.joins g.T.Callbacks.callables c.args.program in
     let y = include_within c.args.state.now (found_of (standing_of c.args.found)) in
     let at = template_code (g.T.Templates.standing c.args.program.templates.now) (g.T.Templates.joins c.args.program.templates.now) (g.T.Callbacks.callables c.args.program.templates.now) (roots_of c.args.program) c.args.program.rules c.args.found.name.now (standing_of c.args.found) c.requires in
     within_breaks
@@ -888,7 +888,7 @@ entering::enter-print_rounds-requires g t c κs within =
 
 pub entering::enter-returns-in_err-value-in-FastRecurse-clause-does : goal.entering::enter-returns-in_err-value-in-FastRecurse-clause-does
 entering::enter-returns-in_err-value-in-FastRecurse-clause-does g t c =
-    let s = programs_under (g.T.Templates.standing c.args.program.templates.now) (g.T.Templates.joins c.args.program.templates.now) (g.T.Callbacks.callables c.args.program.templates.now) (roots_of c.args.program) c.args.program.rules in
+    let s = programs_in g.T.Templates.standing g.T.Templates.joins g.T.Callbacks.callables c.args.program in
     does_as s codes.fast_recurse (code_of c.args.instruction.now) _ _ _ _ c.from_residual-in_err-value-in-FastRecurse.result _ _ _ _ (ap code_of c.in-FastRecurse.is)
     (does_lost s codes.fast_recurse _ _ _ _ _ c.from_residual-in_err-value-in-FastRecurse.result _ _ c.from_residual-in_err-value-in-FastRecurse.ensures.1
     (lost_out s codes.fast_recurse _ _ (Err _) suc _ _ _ (world_stays c.args.state.now)
@@ -900,12 +900,12 @@ entering::enter-returns-in_err-value-in-FastRecurse-clause-failures g t c =
 
 pub entering::enter-returns-in_ok-value-in-FastRecurse-clause-does : goal.entering::enter-returns-in_ok-value-in-FastRecurse-clause-does
 entering::enter-returns-in_ok-value-in-FastRecurse-clause-does g t c =
-    let s = programs_under (g.T.Templates.standing c.args.program.templates.now) (g.T.Templates.joins c.args.program.templates.now) (g.T.Callbacks.callables c.args.program.templates.now) (roots_of c.args.program) c.args.program.rules in
+    let s = programs_in g.T.Templates.standing g.T.Templates.joins g.T.Callbacks.callables c.args.program in
     recurse_does s (code_of c.args.instruction.now) c.in_ok-value-in-FastRecurse.value _ _ _ _ _ c.print_rounds.result _ _ _ (keeps_so c.print_rounds.result c.args.state.now c.print_rounds.new.state c.print_rounds.ensures.keeps) (ap code_of c.in-FastRecurse.is) c.in_ok-value-in-FastRecurse.ensures.taken c.print_rounds.ensures.plan
 
 pub entering::enter-returns-in_err-value-in-Include-clause-does : goal.entering::enter-returns-in_err-value-in-Include-clause-does
 entering::enter-returns-in_err-value-in-Include-clause-does g t c =
-    let s = programs_under (g.T.Templates.standing c.args.program.templates.now) (g.T.Templates.joins c.args.program.templates.now) (g.T.Callbacks.callables c.args.program.templates.now) (roots_of c.args.program) c.args.program.rules in
+    let s = programs_in g.T.Templates.standing g.T.Templates.joins g.T.Callbacks.callables c.args.program in
     does_as s (codes.include c.in-Include.ignore_missing) (code_of c.args.instruction.now) _ _ _ _ c.from_residual.result _ _ _ _ (ap code_of c.in-Include.is)
     (does_lost s (codes.include c.in-Include.ignore_missing) _ _ _ _ _ c.from_residual.result _ _ c.from_residual.ensures.1
     (lost_one s (codes.include c.in-Include.ignore_missing) _ _ (Err _) suc _ _ _ (world_stays c.args.state.now) tt c.in_err-value-in-Include.ensures.none c.in_err-value-in-Include.ensures.kind refl))
@@ -916,22 +916,22 @@ entering::enter-returns-in_err-value-in-Include-clause-failures g t c =
 
 pub entering::enter-returns-in_ok-value-in-Include-clause-does : goal.entering::enter-returns-in_ok-value-in-Include-clause-does
 entering::enter-returns-in_ok-value-in-Include-clause-does g t c =
-    let s = programs_under (g.T.Templates.standing c.args.program.templates.now) (g.T.Templates.joins c.args.program.templates.now) (g.T.Callbacks.callables c.args.program.templates.now) (roots_of c.args.program) c.args.program.rules in
+    let s = programs_in g.T.Templates.standing g.T.Templates.joins g.T.Callbacks.callables c.args.program in
     include_does s (code_of c.args.instruction.now) c.in-Include.ignore_missing c.in_ok-value-in-Include.value _ _ _ _ _ c.include.result _ _ _ (keeps_so c.include.result c.args.state.now c.include.new.state c.include.ensures.keeps) (ap code_of c.in-Include.is) c.in_ok-value-in-Include.ensures.taken c.include.ensures.plan
 
 pub entering::enter-returns-in-CallBlock-clause-does : goal.entering::enter-returns-in-CallBlock-clause-does
 entering::enter-returns-in-CallBlock-clause-does g t c =
-    let s = programs_under (g.T.Templates.standing c.args.program.templates.now) (g.T.Templates.joins c.args.program.templates.now) (g.T.Callbacks.callables c.args.program.templates.now) (roots_of c.args.program) c.args.program.rules in
+    let s = programs_in g.T.Templates.standing g.T.Templates.joins g.T.Callbacks.callables c.args.program in
     block_does s (code_of c.args.instruction.now) c.as_str.result.now _ _ _ _ c.call_block.result _ _ _ (keeps_so c.call_block.result c.args.state.now c.call_block.new.state c.call_block.ensures.keeps) (ap code_of c.in-CallBlock.is ∙ ap (λ n. codes.call_block n) (sym c.as_str.ensures.value)) c.call_block.ensures.plan
 
 pub entering::enter-returns-in-FastSuper-clause-does : goal.entering::enter-returns-in-FastSuper-clause-does
 entering::enter-returns-in-FastSuper-clause-does g t c =
-    let s = programs_under (g.T.Templates.standing c.args.program.templates.now) (g.T.Templates.joins c.args.program.templates.now) (g.T.Callbacks.callables c.args.program.templates.now) (roots_of c.args.program) c.args.program.rules in
+    let s = programs_in g.T.Templates.standing g.T.Templates.joins g.T.Callbacks.callables c.args.program in
     printed_does s (code_of c.args.instruction.now) _ _ _ _ c.print_super.result _ _ _ (keeps_so c.print_super.result c.args.state.now c.print_super.new.state c.print_super.ensures.keeps) (ap code_of c.in-FastSuper.is) c.print_super.ensures.plan
 
 pub entering::enter-returns-in_err-value-in-LoadBlocks-clause-does : goal.entering::enter-returns-in_err-value-in-LoadBlocks-clause-does
 entering::enter-returns-in_err-value-in-LoadBlocks-clause-does g t c =
-    let s = programs_under (g.T.Templates.standing c.args.program.templates.now) (g.T.Templates.joins c.args.program.templates.now) (g.T.Callbacks.callables c.args.program.templates.now) (roots_of c.args.program) c.args.program.rules in
+    let s = programs_in g.T.Templates.standing g.T.Templates.joins g.T.Callbacks.callables c.args.program in
     does_as s codes.load_blocks (code_of c.args.instruction.now) _ _ _ _ c.from_residual-in_err-value-in-LoadBlocks.result _ _ _ _ (ap code_of c.in-LoadBlocks.is)
     (does_lost s codes.load_blocks _ _ _ _ _ c.from_residual-in_err-value-in-LoadBlocks.result _ _ c.from_residual-in_err-value-in-LoadBlocks.ensures.1
     (lost_one s codes.load_blocks _ _ (Err _) suc _ _ _ (world_stays c.args.state.now) tt c.in_err-value-in-LoadBlocks.ensures.none c.in_err-value-in-LoadBlocks.ensures.kind refl))
@@ -942,7 +942,7 @@ entering::enter-returns-in_err-value-in-LoadBlocks-clause-failures g t c =
 
 pub entering::enter-returns-in_ok-value-in-LoadBlocks-clause-does : goal.entering::enter-returns-in_ok-value-in-LoadBlocks-clause-does
 entering::enter-returns-in_ok-value-in-LoadBlocks-clause-does g t c =
-    let s = programs_under (g.T.Templates.standing c.args.program.templates.now) (g.T.Templates.joins c.args.program.templates.now) (g.T.Callbacks.callables c.args.program.templates.now) (roots_of c.args.program) c.args.program.rules in
+    let s = programs_in g.T.Templates.standing g.T.Templates.joins g.T.Callbacks.callables c.args.program in
     load_does s (code_of c.args.instruction.now) c.in_ok-value-in-LoadBlocks.value _ _ _ _ _ c.extend.result _ _ _ c.extend.ensures.keeps (ap code_of c.in-LoadBlocks.is) c.in_ok-value-in-LoadBlocks.ensures.taken (c.extend.ensures.plan c.args.left.now (g.S.Sink.taken c.args.sink.now))
 
 pub entering::enter-returns-in_ok-value-in-LoadBlocks-clause-failures : goal.entering::enter-returns-in_ok-value-in-LoadBlocks-clause-failures
@@ -950,7 +950,7 @@ entering::enter-returns-in_ok-value-in-LoadBlocks-clause-failures g t c = spared
 
 pub entering::enter-returns-in_err-args-in-CallFunction-clause-does : goal.entering::enter-returns-in_err-args-in-CallFunction-clause-does
 entering::enter-returns-in_err-args-in-CallFunction-clause-does g t c =
-    let s = programs_under (g.T.Templates.standing c.args.program.templates.now) (g.T.Templates.joins c.args.program.templates.now) (g.T.Callbacks.callables c.args.program.templates.now) (roots_of c.args.program) c.args.program.rules in
+    let s = programs_in g.T.Templates.standing g.T.Templates.joins g.T.Callbacks.callables c.args.program in
     super_lost s (code_of c.args.instruction.now) _ c.in-CallFunction.count c.widened.result (ap code_of c.in-CallFunction.is) c.widened.ensures _ c.args.state.now c.args.left.now (g.S.Sink.taken c.args.sink.now) _
     c.from_residual-in_err-args-in-CallFunction.result _ c.args.state.now (world_stays c.args.state.now) c.in_err-args-in-CallFunction.ensures.refused c.from_residual-in_err-args-in-CallFunction.ensures.1
 
@@ -960,13 +960,13 @@ entering::enter-returns-in_err-args-in-CallFunction-clause-failures g t c =
 
 pub entering::enter-returns-then-not-is_none-clause-does : goal.entering::enter-returns-then-not-is_none-clause-does
 entering::enter-returns-then-not-is_none-clause-does g t c =
-    let s = programs_under (g.T.Templates.standing c.args.program.templates.now) (g.T.Templates.joins c.args.program.templates.now) (g.T.Callbacks.callables c.args.program.templates.now) (roots_of c.args.program) c.args.program.rules in
+    let s = programs_in g.T.Templates.standing g.T.Templates.joins g.T.Callbacks.callables c.args.program in
     named_refused s (code_of c.args.instruction.now) _ c.in-CallFunction.count c.widened.result (ap code_of c.in-CallFunction.is) c.widened.ensures (sym (ap task_of (ap code_of c.in-CallFunction.is)) ∙ c.requires) _ _ c.args.state.now c.args.left.now (g.S.Sink.taken c.args.sink.now) c.in_ok-args-in-CallFunction.args.items c.in_ok-args-in-CallFunction.ensures.taken _ c.new.result _
     (ap (λ vs. length vs == 0) (sym c.as_slice.ensures.value) ∙ sym c.is_none.ensures ∙ c.if-not-is_none.true) c.new.ensures
 
 pub entering::enter-returns-in_err-text-in-CallFunction-clause-does : goal.entering::enter-returns-in_err-text-in-CallFunction-clause-does
 entering::enter-returns-in_err-text-in-CallFunction-clause-does g t c =
-    let s = programs_under (g.T.Templates.standing c.args.program.templates.now) (g.T.Templates.joins c.args.program.templates.now) (g.T.Callbacks.callables c.args.program.templates.now) (roots_of c.args.program) c.args.program.rules in
+    let s = programs_in g.T.Templates.standing g.T.Templates.joins g.T.Callbacks.callables c.args.program in
     named_halted s (code_of c.args.instruction.now) _ c.in-CallFunction.count c.widened.result (ap code_of c.in-CallFunction.is) c.widened.ensures (sym (ap task_of (ap code_of c.in-CallFunction.is)) ∙ c.requires) _ _ c.args.state.now c.args.left.now (g.S.Sink.taken c.args.sink.now) c.in_ok-args-in-CallFunction.args.items c.in_ok-args-in-CallFunction.ensures.taken
     (ap (λ vs. length vs == 0) (sym c.as_slice.ensures.value) ∙ sym c.is_none.ensures ∙ c.if-not-is_none.false) c.call_super.new.state c.call_super.new.left (g.S.Sink.taken c.call_super.new.sink) _ _
     c.from_residual-in_err-text-in-CallFunction.result _ c.in_err-text-in-CallFunction.ensures.keeps c.in_err-text-in-CallFunction.ensures.plan c.from_residual-in_err-text-in-CallFunction.ensures.1
@@ -982,7 +982,7 @@ entering::enter-returns-in_ok-text-in-CallFunction-clause-failures g t c =
 
 pub entering::enter-returns-in_ok-text-in-CallFunction-clause-does : goal.entering::enter-returns-in_ok-text-in-CallFunction-clause-does
 entering::enter-returns-in_ok-text-in-CallFunction-clause-does g t c =
-    let s = programs_under (g.T.Templates.standing c.args.program.templates.now) (g.T.Templates.joins c.args.program.templates.now) (g.T.Callbacks.callables c.args.program.templates.now) (roots_of c.args.program) c.args.program.rules in
+    let s = programs_in g.T.Templates.standing g.T.Templates.joins g.T.Callbacks.callables c.args.program in
     named_does s (code_of c.args.instruction.now) _ c.in-CallFunction.count c.widened.result (ap code_of c.in-CallFunction.is) c.widened.ensures (sym (ap task_of (ap code_of c.in-CallFunction.is)) ∙ c.requires) _ _ c.args.state.now c.args.left.now (g.S.Sink.taken c.args.sink.now) c.in_ok-args-in-CallFunction.args.items c.in_ok-args-in-CallFunction.ensures.taken
     (ap (λ vs. length vs == 0) (sym c.as_slice.ensures.value) ∙ sym c.is_none.ensures ∙ c.if-not-is_none.false) c.call_super.new.state c.call_super.new.left (g.S.Sink.taken c.call_super.new.sink)
     c.in_ok-text-in-CallFunction.text c.push.result c.told_by.result _ c.in_ok-text-in-CallFunction.ensures.keeps c.in_ok-text-in-CallFunction.ensures.plan c.push.ensures.pushed c.push.ensures.refused c.told_by.ensures
@@ -990,7 +990,7 @@ entering::enter-returns-in_ok-text-in-CallFunction-clause-does g t c =
 -- macros that are called
 pub macros::call_macro-returns-in_err-begun-clause-plan : goal.macros::call_macro-returns-in_err-begun-clause-plan
 macros::call_macro-returns-in_err-begun-clause-plan g t c =
-    let s = programs_under (g.T.Templates.standing c.args.program.templates.now) (g.T.Templates.joins c.args.program.templates.now) (g.T.Callbacks.callables c.args.program.templates.now) (roots_of c.args.program) c.args.program.rules in
+    let s = programs_in g.T.Templates.standing g.T.Templates.joins g.T.Callbacks.callables c.args.program in
     stops_first value s (macro_plan s.around.limit c.args.pending c.args.state.now c.args.args.items (macro_of c.args.state.now c.args.id c.args.number)) c.args.state.now c.args.left.now (g.S.Sink.taken c.args.sink.now) _ c.from_residual.result c.from_residual.ensures.1 c.in_err-begun.ensures.refused
 
 pub macros::call_macro-returns-in_err-begun-clause-failures : goal.macros::call_macro-returns-in_err-begun-clause-failures
@@ -1008,7 +1008,7 @@ macros::call_macro-enter_macro-requires g t c =
 
 pub macros::call_macro-returns-in_err-caller-clause-plan : goal.macros::call_macro-returns-in_err-caller-clause-plan
 macros::call_macro-returns-in_err-caller-clause-plan g t c =
-    let s = programs_under (g.T.Templates.standing c.args.program.templates.now) (g.T.Templates.joins c.args.program.templates.now) (g.T.Callbacks.callables c.args.program.templates.now) (roots_of c.args.program) c.args.program.rules in
+    let s = programs_in g.T.Templates.standing g.T.Templates.joins g.T.Callbacks.callables c.args.program in
     lacks_first value s (macro_plan s.around.limit c.args.pending c.args.state.now c.args.args.items (macro_of c.args.state.now c.args.id c.args.number)) c.args.state.now c.args.left.now (g.S.Sink.taken c.args.sink.now) _ c.from_residual-in_err-caller.result c.enter_macro.new.self c.from_residual-in_err-caller.ensures.1 c.in_err-caller.ensures.refused
 
 pub macros::call_macro-returns-in_err-caller-clause-failures : goal.macros::call_macro-returns-in_err-caller-clause-failures
@@ -1035,7 +1035,7 @@ macros::call_macro-run_from-ran-requires g t c κs within =
 
 pub macros::call_macro-returns-in-Ok-clause-plan : goal.macros::call_macro-returns-in-Ok-clause-plan
 macros::call_macro-returns-in-Ok-clause-plan g t c =
-    let s = programs_under (g.T.Templates.standing c.args.program.templates.now) (g.T.Templates.joins c.args.program.templates.now) (g.T.Callbacks.callables c.args.program.templates.now) (roots_of c.args.program) c.args.program.rules in
+    let s = programs_in g.T.Templates.standing g.T.Templates.joins g.T.Callbacks.callables c.args.program in
     let begun = c.in_ok-begun.begun in
     let found = c.in_ok-begun.ensures.begun in
     let y = macro_entered (g.T.Templates.standing c.args.program.templates.now) (g.T.Templates.joins c.args.program.templates.now) (g.T.Callbacks.callables c.args.program.templates.now) (roots_of c.args.program) c.args.program.rules c.args.state.now c.args.pending (macro_plan s.around.limit c.args.pending c.args.state.now c.args.args.items (macro_of c.args.state.now c.args.id c.args.number)) begun found in
@@ -1050,7 +1050,7 @@ macros::call_macro-returns-in-Ok-clause-plan g t c =
 
 pub macros::call_macro-returns-clause-plan : goal.macros::call_macro-returns-clause-plan
 macros::call_macro-returns-clause-plan g t c =
-    let s = programs_under (g.T.Templates.standing c.args.program.templates.now) (g.T.Templates.joins c.args.program.templates.now) (g.T.Callbacks.callables c.args.program.templates.now) (roots_of c.args.program) c.args.program.rules in
+    let s = programs_in g.T.Templates.standing g.T.Templates.joins g.T.Callbacks.callables c.args.program in
     let begun = c.in_ok-begun.begun in
     let found = c.in_ok-begun.ensures.begun in
     let y = macro_entered (g.T.Templates.standing c.args.program.templates.now) (g.T.Templates.joins c.args.program.templates.now) (g.T.Callbacks.callables c.args.program.templates.now) (roots_of c.args.program) c.args.program.rules c.args.state.now c.args.pending (macro_plan s.around.limit c.args.pending c.args.state.now c.args.args.items (macro_of c.args.state.now c.args.id c.args.number)) begun found in
@@ -1068,7 +1068,7 @@ macros::call_macro-returns-in-Ok-clause-failures g t c =
 
 pub macros::call_macro-returns-in-Ok-clause-keeps : goal.macros::call_macro-returns-in-Ok-clause-keeps
 macros::call_macro-returns-in-Ok-clause-keeps g t c =
-    let s = programs_under (g.T.Templates.standing c.args.program.templates.now) (g.T.Templates.joins c.args.program.templates.now) (g.T.Callbacks.callables c.args.program.templates.now) (roots_of c.args.program) c.args.program.rules in
+    let s = programs_in g.T.Templates.standing g.T.Templates.joins g.T.Callbacks.callables c.args.program in
     let begun = c.in_ok-begun.begun in
     let found = c.in_ok-begun.ensures.begun in
     comes_back c.args.state.now (macro_entered (g.T.Templates.standing c.args.program.templates.now) (g.T.Templates.joins c.args.program.templates.now) (g.T.Callbacks.callables c.args.program.templates.now) (roots_of c.args.program) c.args.program.rules c.args.state.now c.args.pending (macro_plan s.around.limit c.args.pending c.args.state.now c.args.args.items (macro_of c.args.state.now c.args.id c.args.number)) begun found) c.enter_macro.new.self c.run_from-ran.new.state
@@ -1078,7 +1078,7 @@ macros::call_macro-returns-in-Ok-clause-keeps g t c =
 
 pub macros::call_macro-returns-in-Ok-clause-frames : goal.macros::call_macro-returns-in-Ok-clause-frames
 macros::call_macro-returns-in-Ok-clause-frames g t c =
-    let s = programs_under (g.T.Templates.standing c.args.program.templates.now) (g.T.Templates.joins c.args.program.templates.now) (g.T.Callbacks.callables c.args.program.templates.now) (roots_of c.args.program) c.args.program.rules in
+    let s = programs_in g.T.Templates.standing g.T.Templates.joins g.T.Callbacks.callables c.args.program in
     let begun = c.in_ok-begun.begun in
     let found = c.in_ok-begun.ensures.begun in
     frames_back c.args.state.now (macro_entered (g.T.Templates.standing c.args.program.templates.now) (g.T.Templates.joins c.args.program.templates.now) (g.T.Callbacks.callables c.args.program.templates.now) (roots_of c.args.program) c.args.program.rules c.args.state.now c.args.pending (macro_plan s.around.limit c.args.pending c.args.state.now c.args.args.items (macro_of c.args.state.now c.args.id c.args.number)) begun found) c.enter_macro.new.self c.run_from-ran.new.state
@@ -1093,7 +1093,7 @@ macros::call_macro-returns-clause-failures g t c =
 
 pub macros::call_macro-returns-clause-keeps : goal.macros::call_macro-returns-clause-keeps
 macros::call_macro-returns-clause-keeps g t c =
-    let s = programs_under (g.T.Templates.standing c.args.program.templates.now) (g.T.Templates.joins c.args.program.templates.now) (g.T.Callbacks.callables c.args.program.templates.now) (roots_of c.args.program) c.args.program.rules in
+    let s = programs_in g.T.Templates.standing g.T.Templates.joins g.T.Callbacks.callables c.args.program in
     let begun = c.in_ok-begun.begun in
     let found = c.in_ok-begun.ensures.begun in
     comes_back c.args.state.now (macro_entered (g.T.Templates.standing c.args.program.templates.now) (g.T.Templates.joins c.args.program.templates.now) (g.T.Callbacks.callables c.args.program.templates.now) (roots_of c.args.program) c.args.program.rules c.args.state.now c.args.pending (macro_plan s.around.limit c.args.pending c.args.state.now c.args.args.items (macro_of c.args.state.now c.args.id c.args.number)) begun found) c.enter_macro.new.self c.run_from-ran.new.state
@@ -1103,7 +1103,7 @@ macros::call_macro-returns-clause-keeps g t c =
 
 pub macros::call_macro-returns-clause-frames : goal.macros::call_macro-returns-clause-frames
 macros::call_macro-returns-clause-frames g t c =
-    let s = programs_under (g.T.Templates.standing c.args.program.templates.now) (g.T.Templates.joins c.args.program.templates.now) (g.T.Callbacks.callables c.args.program.templates.now) (roots_of c.args.program) c.args.program.rules in
+    let s = programs_in g.T.Templates.standing g.T.Templates.joins g.T.Callbacks.callables c.args.program in
     let begun = c.in_ok-begun.begun in
     let found = c.in_ok-begun.ensures.begun in
     frames_back c.args.state.now (macro_entered (g.T.Templates.standing c.args.program.templates.now) (g.T.Templates.joins c.args.program.templates.now) (g.T.Callbacks.callables c.args.program.templates.now) (roots_of c.args.program) c.args.program.rules c.args.state.now c.args.pending (macro_plan s.around.limit c.args.pending c.args.state.now c.args.args.items (macro_of c.args.state.now c.args.id c.args.number)) begun found) c.enter_macro.new.self c.run_from-ran.new.state
@@ -1115,7 +1115,7 @@ macros::call_macro-returns-clause-frames g t c =
 -- a block for its text
 pub blocks::run_block_text-returns-in_err-found-clause-plan : goal.blocks::run_block_text-returns-in_err-found-clause-plan
 blocks::run_block_text-returns-in_err-found-clause-plan g t c =
-    let s = programs_under (g.T.Templates.standing c.args.program.templates.now) (g.T.Templates.joins c.args.program.templates.now) (g.T.Callbacks.callables c.args.program.templates.now) (roots_of c.args.program) c.args.program.rules in
+    let s = programs_in g.T.Templates.standing g.T.Templates.joins g.T.Callbacks.callables c.args.program in
     stops_first value s (text_plan s.around c.args.pending c.args.state.now c.args.name.now) c.args.state.now c.args.left.now (g.S.Sink.taken c.args.sink.now) _ c.from_residual.result c.from_residual.ensures.1
     (inr (c.in_err-found.ensures.refused (1 + c.args.pending) (text_within c.args.state.now c.args.pending) (λ called home. refl) (λ called home. refl)))
 
@@ -1128,7 +1128,7 @@ blocks::run_block_text-returns-in_err-found-clause-keeps g t c = world_stays c.a
 
 pub blocks::run_block_text-returns-then-not-has_room_beside-clause-plan : goal.blocks::run_block_text-returns-then-not-has_room_beside-clause-plan
 blocks::run_block_text-returns-then-not-has_room_beside-clause-plan g t c =
-    let s = programs_under (g.T.Templates.standing c.args.program.templates.now) (g.T.Templates.joins c.args.program.templates.now) (g.T.Callbacks.callables c.args.program.templates.now) (roots_of c.args.program) c.args.program.rules in
+    let s = programs_in g.T.Templates.standing g.T.Templates.joins g.T.Callbacks.callables c.args.program in
     refuses s (text_plan s.around c.args.pending c.args.state.now c.args.name.now) c.args.state.now c.args.left.now (g.S.Sink.taken c.args.sink.now) value c.new.result
     (refused_as s (text_plan s.around c.args.pending c.args.state.now c.args.name.now) c.args.state.now (InvalidOperation ∷ []) c.new.result c.new.ensures
     (refused_plan s (text_plan s.around c.args.pending c.args.state.now c.args.name.now) (room_for s.around.limit (1 + c.args.pending) c.args.state.now (text_within c.args.state.now c.args.pending (name_in c.in_ok-found.found) (home_of c.in_ok-found.found.home))) c.args.state.now (InvalidOperation ∷ []) (c.in_ok-found.ensures.found.planned (1 + c.args.pending) (text_within c.args.state.now c.args.pending))
@@ -1144,7 +1144,7 @@ blocks::run_block_text-enter_block_text-requires g t c =
 
 pub blocks::run_block_text-returns-in_err-caller-clause-plan : goal.blocks::run_block_text-returns-in_err-caller-clause-plan
 blocks::run_block_text-returns-in_err-caller-clause-plan g t c =
-    let s = programs_under (g.T.Templates.standing c.args.program.templates.now) (g.T.Templates.joins c.args.program.templates.now) (g.T.Callbacks.callables c.args.program.templates.now) (roots_of c.args.program) c.args.program.rules in
+    let s = programs_in g.T.Templates.standing g.T.Templates.joins g.T.Callbacks.callables c.args.program in
     lacks_first value s (text_plan s.around c.args.pending c.args.state.now c.args.name.now) c.args.state.now c.args.left.now (g.S.Sink.taken c.args.sink.now) _ c.from_residual-in_err-caller.result c.enter_block_text.new.self c.from_residual-in_err-caller.ensures.1 c.in_err-caller.ensures.refused
 
 pub blocks::run_block_text-returns-in_err-caller-clause-failures : goal.blocks::run_block_text-returns-in_err-caller-clause-failures
@@ -1170,7 +1170,7 @@ blocks::run_block_text-run_whole-ran-requires g t c κs within =
 
 pub blocks::run_block_text-returns-in-Ok-clause-plan : goal.blocks::run_block_text-returns-in-Ok-clause-plan
 blocks::run_block_text-returns-in-Ok-clause-plan g t c =
-    let s = programs_under (g.T.Templates.standing c.args.program.templates.now) (g.T.Templates.joins c.args.program.templates.now) (g.T.Callbacks.callables c.args.program.templates.now) (roots_of c.args.program) c.args.program.rules in
+    let s = programs_in g.T.Templates.standing g.T.Templates.joins g.T.Callbacks.callables c.args.program in
     let home = home_of c.in_ok-found.found.home in
     let stream = stream_in c.in_ok-found.found.block.now in
     let y = (text_within c.args.state.now c.args.pending (name_in c.in_ok-found.found) (home_of c.in_ok-found.found.home)) in
@@ -1186,7 +1186,7 @@ blocks::run_block_text-returns-in-Ok-clause-plan g t c =
 
 pub blocks::run_block_text-returns-in-Err-clause-plan : goal.blocks::run_block_text-returns-in-Err-clause-plan
 blocks::run_block_text-returns-in-Err-clause-plan g t c =
-    let s = programs_under (g.T.Templates.standing c.args.program.templates.now) (g.T.Templates.joins c.args.program.templates.now) (g.T.Callbacks.callables c.args.program.templates.now) (roots_of c.args.program) c.args.program.rules in
+    let s = programs_in g.T.Templates.standing g.T.Templates.joins g.T.Callbacks.callables c.args.program in
     let home = home_of c.in_ok-found.found.home in
     let stream = stream_in c.in_ok-found.found.block.now in
     let y = (text_within c.args.state.now c.args.pending (name_in c.in_ok-found.found) (home_of c.in_ok-found.found.home)) in
@@ -1244,7 +1244,7 @@ blocks::run_block_text-returns-in-Err-clause-frames g t c =
 -- rounds of a loop that is called again, in the place of a print
 pub rounds::print_rounds-returns-in_default-clause-plan : goal.rounds::print_rounds-returns-in_default-clause-plan
 rounds::print_rounds-returns-in_default-clause-plan g t c =
-    let s = programs_under (g.T.Templates.standing c.args.program.templates.now) (g.T.Templates.joins c.args.program.templates.now) (g.T.Callbacks.callables c.args.program.templates.now) (roots_of c.args.program) c.args.program.rules in
+    let s = programs_in g.T.Templates.standing g.T.Templates.joins g.T.Callbacks.callables c.args.program in
     refuses s (recurse_plan s.around c.args.state.now c.args.over) c.args.state.now c.args.left.now (g.S.Sink.taken c.args.sink.now) (λ (u : Unit {0}). done) c.new.result
     (no_loop_runs s c.args.state.now c.args.over c.new.result c.in_default.ensures c.new.ensures)
 
@@ -1253,7 +1253,7 @@ rounds::print_rounds-returns-in_default-clause-keeps g t c = world_stays c.args.
 
 pub rounds::print_rounds-returns-in_err-again-clause-plan : goal.rounds::print_rounds-returns-in_err-again-clause-plan
 rounds::print_rounds-returns-in_err-again-clause-plan g t c =
-    let s = programs_under (g.T.Templates.standing c.args.program.templates.now) (g.T.Templates.joins c.args.program.templates.now) (g.T.Callbacks.callables c.args.program.templates.now) (roots_of c.args.program) c.args.program.rules in
+    let s = programs_in g.T.Templates.standing g.T.Templates.joins g.T.Callbacks.callables c.args.program in
     stops_first (λ (u : Unit {0}). done) s (recurse_plan s.around c.args.state.now c.args.over) c.args.state.now c.args.left.now (g.S.Sink.taken c.args.sink.now) _ c.from_residual.result c.from_residual.ensures.1
     (inr (refused_plan s (recurse_plan s.around c.args.state.now c.args.over) (rounds_plan s.around c.args.state.now false c.args.over c.in-Some.current.now) c.args.state.now _ (loop_runs s c.args.state.now c.args.over c.in-Some.current.now c.in-Some.ensures) (not_recursive s c.args.state.now false c.args.over c.in-Some.current.now _ c.in_err-again.ensures.refused.0 c.in_err-again.ensures.refused.1)))
 
@@ -1266,7 +1266,7 @@ rounds::print_rounds-returns-in_err-again-clause-keeps g t c = world_stays c.arg
 
 pub rounds::print_rounds-returns-in_err-begun-clause-plan : goal.rounds::print_rounds-returns-in_err-begun-clause-plan
 rounds::print_rounds-returns-in_err-begun-clause-plan g t c =
-    let s = programs_under (g.T.Templates.standing c.args.program.templates.now) (g.T.Templates.joins c.args.program.templates.now) (g.T.Callbacks.callables c.args.program.templates.now) (roots_of c.args.program) c.args.program.rules in
+    let s = programs_in g.T.Templates.standing g.T.Templates.joins g.T.Callbacks.callables c.args.program in
     rounds_refused s c.args.state.now (λ (u : Unit {0}). done) false c.args.over c.in-Some.current.now (rounds_in c.in_ok-again.again.rounds) (recurse_plan s.around c.args.state.now c.args.over) c.args.left.now (g.S.Sink.taken c.args.sink.now) _ c.from_residual-in_err-begun.result (loop_runs s c.args.state.now c.args.over c.in-Some.current.now c.in-Some.ensures) c.in_ok-again.ensures.again.0 c.from_residual-in_err-begun.ensures.1
     c.in_err-begun.ensures.refused
 
@@ -1285,7 +1285,7 @@ rounds::print_rounds-enter_rounds-requires g t c =
 
 pub rounds::print_rounds-returns-in_err-caller-clause-plan : goal.rounds::print_rounds-returns-in_err-caller-clause-plan
 rounds::print_rounds-returns-in_err-caller-clause-plan g t c =
-    let s = programs_under (g.T.Templates.standing c.args.program.templates.now) (g.T.Templates.joins c.args.program.templates.now) (g.T.Callbacks.callables c.args.program.templates.now) (roots_of c.args.program) c.args.program.rules in
+    let s = programs_in g.T.Templates.standing g.T.Templates.joins g.T.Callbacks.callables c.args.program in
     lacks_first (λ (u : Unit {0}). done) s (recurse_plan s.around c.args.state.now c.args.over) c.args.state.now c.args.left.now (g.S.Sink.taken c.args.sink.now) _ c.from_residual-in_err-caller.result c.enter_rounds.new.self c.from_residual-in_err-caller.ensures.1 c.in_err-caller.ensures.refused
 
 pub rounds::print_rounds-returns-in_err-caller-clause-failures : goal.rounds::print_rounds-returns-in_err-caller-clause-failures
@@ -1310,7 +1310,7 @@ rounds::print_rounds-run_from-ran-requires g t c κs within =
 
 pub rounds::print_rounds-returns-in-Ok-clause-plan : goal.rounds::print_rounds-returns-in-Ok-clause-plan
 rounds::print_rounds-returns-in-Ok-clause-plan g t c =
-    let s = programs_under (g.T.Templates.standing c.args.program.templates.now) (g.T.Templates.joins c.args.program.templates.now) (g.T.Callbacks.callables c.args.program.templates.now) (roots_of c.args.program) c.args.program.rules in
+    let s = programs_in g.T.Templates.standing g.T.Templates.joins g.T.Callbacks.callables c.args.program in
     let found = (c.in_ok-begun.ensures.begun false c.in-Some.current.now c.in_ok-again.ensures.again.0) in
     let y = rounds_entered (g.T.Templates.standing c.args.program.templates.now) (g.T.Templates.joins c.args.program.templates.now) (g.T.Callbacks.callables c.args.program.templates.now) (roots_of c.args.program) c.args.program.rules c.args.state.now false c.in-Some.current.now (rounds_in c.in_ok-again.again.rounds) c.args.over c.in_ok-begun.begun found in
     plan_as (λ (u : Unit {0}). done) s (recurse_plan s.around c.args.state.now c.args.over) _ c.args.state.now c.args.left.now (g.S.Sink.taken c.args.sink.now) (Ok tt) c.leave_rounds.new.self c.run_from-ran.new.left (g.S.Sink.taken c.run_from-ran.new.sink) (loop_runs s c.args.state.now c.args.over c.in-Some.current.now c.in-Some.ensures ∙ found.planned)
@@ -1322,7 +1322,7 @@ rounds::print_rounds-returns-in-Ok-clause-plan g t c =
 
 pub rounds::print_rounds-returns-clause-plan : goal.rounds::print_rounds-returns-clause-plan
 rounds::print_rounds-returns-clause-plan g t c =
-    let s = programs_under (g.T.Templates.standing c.args.program.templates.now) (g.T.Templates.joins c.args.program.templates.now) (g.T.Callbacks.callables c.args.program.templates.now) (roots_of c.args.program) c.args.program.rules in
+    let s = programs_in g.T.Templates.standing g.T.Templates.joins g.T.Callbacks.callables c.args.program in
     let found = (c.in_ok-begun.ensures.begun false c.in-Some.current.now c.in_ok-again.ensures.again.0) in
     let y = rounds_entered (g.T.Templates.standing c.args.program.templates.now) (g.T.Templates.joins c.args.program.templates.now) (g.T.Callbacks.callables c.args.program.templates.now) (roots_of c.args.program) c.args.program.rules c.args.state.now false c.in-Some.current.now (rounds_in c.in_ok-again.again.rounds) c.args.over c.in_ok-begun.begun found in
     plan_as (λ (u : Unit {0}). done) s (recurse_plan s.around c.args.state.now c.args.over) _ c.args.state.now c.args.left.now (g.S.Sink.taken c.args.sink.now) (Err c.in-Err.stop) c.leave_rounds.new.self c.run_from-ran.new.left (g.S.Sink.taken c.run_from-ran.new.sink) (loop_runs s c.args.state.now c.args.over c.in-Some.current.now c.in-Some.ensures ∙ found.planned)
@@ -1359,7 +1359,7 @@ rounds::print_rounds-returns-clause-keeps g t c =
 -- by its name
 pub rounds::call_rounds-returns-in_err-over-clause-plan : goal.rounds::call_rounds-returns-in_err-over-clause-plan
 rounds::call_rounds-returns-in_err-over-clause-plan g t c =
-    let s = programs_under (g.T.Templates.standing c.args.program.templates.now) (g.T.Templates.joins c.args.program.templates.now) (g.T.Callbacks.callables c.args.program.templates.now) (roots_of c.args.program) c.args.program.rules in
+    let s = programs_in g.T.Templates.standing g.T.Templates.joins g.T.Callbacks.callables c.args.program in
     stops_first value s (again_plan s.around c.args.state.now c.args.args.items (loop_of c.args.state.now c.args.id c.args.number)) c.args.state.now c.args.left.now (g.S.Sink.taken c.args.sink.now) _ c.from_residual.result c.from_residual.ensures.1
     (inr (again_refused s c.args.state.now c.args.args.items (loop_of c.args.state.now c.args.id c.args.number) _ (c.in_err-over.ensures.refused.1 s.around c.args.state.now (loop_of c.args.state.now c.args.id c.args.number)) c.in_err-over.ensures.refused.0))
 
@@ -1372,7 +1372,7 @@ rounds::call_rounds-returns-in_err-over-clause-keeps g t c = world_stays c.args.
 
 pub rounds::call_rounds-returns-in_default-clause-plan : goal.rounds::call_rounds-returns-in_default-clause-plan
 rounds::call_rounds-returns-in_default-clause-plan g t c =
-    let s = programs_under (g.T.Templates.standing c.args.program.templates.now) (g.T.Templates.joins c.args.program.templates.now) (g.T.Callbacks.callables c.args.program.templates.now) (roots_of c.args.program) c.args.program.rules in
+    let s = programs_in g.T.Templates.standing g.T.Templates.joins g.T.Callbacks.callables c.args.program in
     refuses s (again_plan s.around c.args.state.now c.args.args.items (loop_of c.args.state.now c.args.id c.args.number)) c.args.state.now c.args.left.now (g.S.Sink.taken c.args.sink.now) value c.new.result
     (again_refused s c.args.state.now c.args.args.items (loop_of c.args.state.now c.args.id c.args.number) c.new.result (no_loop_known s c.args.state.now c.args.args.items c.in_ok-over.over (loop_of c.args.state.now c.args.id c.args.number) c.in_ok-over.ensures.only c.in_default.ensures) c.new.ensures)
 
@@ -1381,7 +1381,7 @@ rounds::call_rounds-returns-in_default-clause-keeps g t c = world_stays c.args.s
 
 pub rounds::call_rounds-returns-in_err-again-clause-plan : goal.rounds::call_rounds-returns-in_err-again-clause-plan
 rounds::call_rounds-returns-in_err-again-clause-plan g t c =
-    let s = programs_under (g.T.Templates.standing c.args.program.templates.now) (g.T.Templates.joins c.args.program.templates.now) (g.T.Callbacks.callables c.args.program.templates.now) (roots_of c.args.program) c.args.program.rules in
+    let s = programs_in g.T.Templates.standing g.T.Templates.joins g.T.Callbacks.callables c.args.program in
     stops_first value s (again_plan s.around c.args.state.now c.args.args.items (loop_of c.args.state.now c.args.id c.args.number)) c.args.state.now c.args.left.now (g.S.Sink.taken c.args.sink.now) _ c.from_residual-in_err-again.result c.from_residual-in_err-again.ensures.1
     (inr (refused_plan s (again_plan s.around c.args.state.now c.args.args.items (loop_of c.args.state.now c.args.id c.args.number)) (rounds_plan s.around c.args.state.now true c.in_ok-over.over c.in-Some.current.now) c.args.state.now _ (loop_known s c.args.state.now c.args.args.items c.in_ok-over.over c.in-Some.current.now (loop_of c.args.state.now c.args.id c.args.number) c.in_ok-over.ensures.only c.in-Some.ensures) (not_recursive s c.args.state.now true c.in_ok-over.over c.in-Some.current.now _ c.in_err-again.ensures.refused.0 c.in_err-again.ensures.refused.1)))
 
@@ -1394,7 +1394,7 @@ rounds::call_rounds-returns-in_err-again-clause-keeps g t c = world_stays c.args
 
 pub rounds::call_rounds-returns-in_err-begun-clause-plan : goal.rounds::call_rounds-returns-in_err-begun-clause-plan
 rounds::call_rounds-returns-in_err-begun-clause-plan g t c =
-    let s = programs_under (g.T.Templates.standing c.args.program.templates.now) (g.T.Templates.joins c.args.program.templates.now) (g.T.Callbacks.callables c.args.program.templates.now) (roots_of c.args.program) c.args.program.rules in
+    let s = programs_in g.T.Templates.standing g.T.Templates.joins g.T.Callbacks.callables c.args.program in
     rounds_refused s c.args.state.now value true c.in_ok-over.over c.in-Some.current.now (rounds_in c.in_ok-again.again.rounds) (again_plan s.around c.args.state.now c.args.args.items (loop_of c.args.state.now c.args.id c.args.number)) c.args.left.now (g.S.Sink.taken c.args.sink.now) _ c.from_residual-in_err-begun.result (loop_known s c.args.state.now c.args.args.items c.in_ok-over.over c.in-Some.current.now (loop_of c.args.state.now c.args.id c.args.number) c.in_ok-over.ensures.only c.in-Some.ensures) c.in_ok-again.ensures.again.0 c.from_residual-in_err-begun.ensures.1
     c.in_err-begun.ensures.refused
 
@@ -1413,7 +1413,7 @@ rounds::call_rounds-enter_rounds-requires g t c =
 
 pub rounds::call_rounds-returns-in_err-caller-clause-plan : goal.rounds::call_rounds-returns-in_err-caller-clause-plan
 rounds::call_rounds-returns-in_err-caller-clause-plan g t c =
-    let s = programs_under (g.T.Templates.standing c.args.program.templates.now) (g.T.Templates.joins c.args.program.templates.now) (g.T.Callbacks.callables c.args.program.templates.now) (roots_of c.args.program) c.args.program.rules in
+    let s = programs_in g.T.Templates.standing g.T.Templates.joins g.T.Callbacks.callables c.args.program in
     lacks_first value s (again_plan s.around c.args.state.now c.args.args.items (loop_of c.args.state.now c.args.id c.args.number)) c.args.state.now c.args.left.now (g.S.Sink.taken c.args.sink.now) _ c.from_residual-in_err-caller.result c.enter_rounds.new.self c.from_residual-in_err-caller.ensures.1 c.in_err-caller.ensures.refused
 
 pub rounds::call_rounds-returns-in_err-caller-clause-failures : goal.rounds::call_rounds-returns-in_err-caller-clause-failures
@@ -1441,7 +1441,7 @@ rounds::call_rounds-run_from-ran-requires g t c κs within =
 
 pub rounds::call_rounds-returns-in-Ok-clause-plan : goal.rounds::call_rounds-returns-in-Ok-clause-plan
 rounds::call_rounds-returns-in-Ok-clause-plan g t c =
-    let s = programs_under (g.T.Templates.standing c.args.program.templates.now) (g.T.Templates.joins c.args.program.templates.now) (g.T.Callbacks.callables c.args.program.templates.now) (roots_of c.args.program) c.args.program.rules in
+    let s = programs_in g.T.Templates.standing g.T.Templates.joins g.T.Callbacks.callables c.args.program in
     let found = (c.in_ok-begun.ensures.begun true c.in-Some.current.now c.in_ok-again.ensures.again.0) in
     let y = rounds_entered (g.T.Templates.standing c.args.program.templates.now) (g.T.Templates.joins c.args.program.templates.now) (g.T.Callbacks.callables c.args.program.templates.now) (roots_of c.args.program) c.args.program.rules c.args.state.now true c.in-Some.current.now (rounds_in c.in_ok-again.again.rounds) c.in_ok-over.over c.in_ok-begun.begun found in
     plan_as value s (again_plan s.around c.args.state.now c.args.args.items (loop_of c.args.state.now c.args.id c.args.number)) _ c.args.state.now c.args.left.now (g.S.Sink.taken c.args.sink.now) c.told_by.result c.leave_rounds_text.new.self c.run_from-ran.new.left (g.S.Sink.taken c.run_from-ran.new.sink) (loop_known s c.args.state.now c.args.args.items c.in_ok-over.over c.in-Some.current.now (loop_of c.args.state.now c.args.id c.args.number) c.in_ok-over.ensures.only c.in-Some.ensures ∙ found.planned)
@@ -1454,7 +1454,7 @@ rounds::call_rounds-returns-in-Ok-clause-plan g t c =
 
 pub rounds::call_rounds-returns-clause-plan : goal.rounds::call_rounds-returns-clause-plan
 rounds::call_rounds-returns-clause-plan g t c =
-    let s = programs_under (g.T.Templates.standing c.args.program.templates.now) (g.T.Templates.joins c.args.program.templates.now) (g.T.Callbacks.callables c.args.program.templates.now) (roots_of c.args.program) c.args.program.rules in
+    let s = programs_in g.T.Templates.standing g.T.Templates.joins g.T.Callbacks.callables c.args.program in
     let found = (c.in_ok-begun.ensures.begun true c.in-Some.current.now c.in_ok-again.ensures.again.0) in
     let y = rounds_entered (g.T.Templates.standing c.args.program.templates.now) (g.T.Templates.joins c.args.program.templates.now) (g.T.Callbacks.callables c.args.program.templates.now) (roots_of c.args.program) c.args.program.rules c.args.state.now true c.in-Some.current.now (rounds_in c.in_ok-again.again.rounds) c.in_ok-over.over c.in_ok-begun.begun found in
     plan_as value s (again_plan s.around c.args.state.now c.args.args.items (loop_of c.args.state.now c.args.id c.args.number)) _ c.args.state.now c.args.left.now (g.S.Sink.taken c.args.sink.now) (Err c.in-Err.stop) c.leave_named_rounds.new.self c.run_from-ran.new.left (g.S.Sink.taken c.run_from-ran.new.sink) (loop_known s c.args.state.now c.args.args.items c.in_ok-over.over c.in-Some.current.now (loop_of c.args.state.now c.args.id c.args.number) c.in_ok-over.ensures.only c.in-Some.ensures ∙ found.planned)
@@ -1509,7 +1509,7 @@ rounds::call_rounds-returns-clause-frames g t c =
 -- what a call enters
 pub entries::run_entering-returns-in-Macro-clause-plan : goal.entries::run_entering-returns-in-Macro-clause-plan
 entries::run_entering-returns-in-Macro-clause-plan g t c =
-    let s = programs_under (g.T.Templates.standing c.args.program.templates.now) (g.T.Templates.joins c.args.program.templates.now) (g.T.Callbacks.callables c.args.program.templates.now) (roots_of c.args.program) c.args.program.rules in
+    let s = programs_in g.T.Templates.standing g.T.Templates.joins g.T.Callbacks.callables c.args.program in
     plan_as value s (entering_plan s.around c.args.pending c.args.state.now c.args.entering) _ c.args.state.now c.args.left.now (g.S.Sink.taken c.args.sink.now) c.call_macro.result c.call_macro.new.state c.call_macro.new.left (g.S.Sink.taken c.call_macro.new.sink)
     (ap (entering_plan s.around c.args.pending c.args.state.now) c.in-Macro.is) c.call_macro.ensures.plan
 
@@ -1521,7 +1521,7 @@ entries::run_entering-call_macro-requires g t c κs within =
 
 pub entries::run_entering-returns-in-Rounds-clause-plan : goal.entries::run_entering-returns-in-Rounds-clause-plan
 entries::run_entering-returns-in-Rounds-clause-plan g t c =
-    let s = programs_under (g.T.Templates.standing c.args.program.templates.now) (g.T.Templates.joins c.args.program.templates.now) (g.T.Callbacks.callables c.args.program.templates.now) (roots_of c.args.program) c.args.program.rules in
+    let s = programs_in g.T.Templates.standing g.T.Templates.joins g.T.Callbacks.callables c.args.program in
     plan_as value s (entering_plan s.around c.args.pending c.args.state.now c.args.entering) _ c.args.state.now c.args.left.now (g.S.Sink.taken c.args.sink.now) c.call_rounds.result c.call_rounds.new.state c.call_rounds.new.left (g.S.Sink.taken c.call_rounds.new.sink)
     (ap (entering_plan s.around c.args.pending c.args.state.now) c.in-Rounds.is) c.call_rounds.ensures.plan
 
@@ -1533,7 +1533,7 @@ entries::run_entering-call_rounds-requires g t c κs within =
 
 pub entries::run_entering-returns-in-Block-clause-plan : goal.entries::run_entering-returns-in-Block-clause-plan
 entries::run_entering-returns-in-Block-clause-plan g t c =
-    let s = programs_under (g.T.Templates.standing c.args.program.templates.now) (g.T.Templates.joins c.args.program.templates.now) (g.T.Callbacks.callables c.args.program.templates.now) (roots_of c.args.program) c.args.program.rules in
+    let s = programs_in g.T.Templates.standing g.T.Templates.joins g.T.Callbacks.callables c.args.program in
     plan_as value s (entering_plan s.around c.args.pending c.args.state.now c.args.entering) _ c.args.state.now c.args.left.now (g.S.Sink.taken c.args.sink.now) c.run_block_text.result c.run_block_text.new.state c.run_block_text.new.left (g.S.Sink.taken c.run_block_text.new.sink)
     (ap (entering_plan s.around c.args.pending c.args.state.now) c.in-Block.is ∙ ap (λ n. text_plan s.around c.args.pending c.args.state.now n) (sym c.as_str.ensures.value)) c.run_block_text.ensures.plan
 
@@ -1551,7 +1551,7 @@ entries::run_entry-run_entering-requires g t c κs within =
 
 pub entries::run_entry-returns-in_err-value-clause-plan : goal.entries::run_entry-returns-in_err-value-clause-plan
 entries::run_entry-returns-in_err-value-clause-plan g t c =
-    let s = programs_under (g.T.Templates.standing c.args.program.templates.now) (g.T.Templates.joins c.args.program.templates.now) (g.T.Callbacks.callables c.args.program.templates.now) (roots_of c.args.program) c.args.program.rules in
+    let s = programs_in g.T.Templates.standing g.T.Templates.joins g.T.Callbacks.callables c.args.program in
     halted_as s (entry_plan s.around c.args.entry c.args.state.now) c.args.state.now c.args.left.now c.run_entering.new.left (g.S.Sink.taken c.args.sink.now) (g.S.Sink.taken c.run_entering.new.sink) _ c.from_residual.result c.run_entering.new.state
     (turned_halts s (entering_plan s.around c.args.entry.pending c.args.state.now c.args.entry.entering) c.args.state.now (turnings_in c.args.entry.turnings.items) c.args.left.now c.run_entering.new.left (g.S.Sink.taken c.args.sink.now) (g.S.Sink.taken c.run_entering.new.sink) _ c.run_entering.new.state c.in_err-value.ensures.plan) c.from_residual.ensures.1
 
@@ -1561,7 +1561,7 @@ entries::run_entry-returns-in_err-value-clause-failures g t c =
 
 pub entries::run_entry-returns-clause-plan : goal.entries::run_entry-returns-clause-plan
 entries::run_entry-returns-clause-plan g t c =
-    let s = programs_under (g.T.Templates.standing c.args.program.templates.now) (g.T.Templates.joins c.args.program.templates.now) (g.T.Callbacks.callables c.args.program.templates.now) (roots_of c.args.program) c.args.program.rules in
+    let s = programs_in g.T.Templates.standing g.T.Templates.joins g.T.Callbacks.callables c.args.program in
     turned_does s (entering_plan s.around c.args.entry.pending c.args.state.now c.args.entry.entering) c.args.state.now (turnings_in c.args.entry.turnings.items) c.args.left.now c.run_entering.new.left (g.S.Sink.taken c.args.sink.now) (g.S.Sink.taken c.run_entering.new.sink) c.in_ok-value.value c.run_entering.new.state c.turn_all.result c.in_ok-value.ensures.plan c.turn_all.ensures
 
 pub entries::run_entry-returns-clause-failures : goal.entries::run_entry-returns-clause-failures
@@ -1577,7 +1577,7 @@ entries::enter_call-run_entry-requires g t c κs within =
 
 pub entries::enter_call-returns-in_err-value-clause-does : goal.entries::enter_call-returns-in_err-value-clause-does
 entries::enter_call-returns-in_err-value-clause-does g t c code start w entered =
-    let s = programs_under (g.T.Templates.standing c.args.program.templates.now) (g.T.Templates.joins c.args.program.templates.now) (g.T.Callbacks.callables c.args.program.templates.now) (roots_of c.args.program) c.args.program.rules in
+    let s = programs_in g.T.Templates.standing g.T.Templates.joins g.T.Callbacks.callables c.args.program in
     call_halts s code start w c.args.state.now c.args.entry (operands_in c.args.operands.now) entered c.args.left.now c.run_entry.new.left (g.S.Sink.taken c.args.sink.now) (g.S.Sink.taken c.run_entry.new.sink) _ c.from_residual.result _ c.run_entry.new.state c.in_err-value.ensures.keeps c.in_err-value.ensures.plan c.from_residual.ensures.1
 
 pub entries::enter_call-returns-in_err-value-clause-failures : goal.entries::enter_call-returns-in_err-value-clause-failures
@@ -1586,7 +1586,7 @@ entries::enter_call-returns-in_err-value-clause-failures g t c =
 
 pub entries::enter_call-returns-clause-does : goal.entries::enter_call-returns-clause-does
 entries::enter_call-returns-clause-does g t c code start w entered =
-    let s = programs_under (g.T.Templates.standing c.args.program.templates.now) (g.T.Templates.joins c.args.program.templates.now) (g.T.Callbacks.callables c.args.program.templates.now) (roots_of c.args.program) c.args.program.rules in
+    let s = programs_in g.T.Templates.standing g.T.Templates.joins g.T.Callbacks.callables c.args.program in
     call_gives s code start w c.args.state.now c.args.entry (operands_in c.args.operands.now) entered c.args.left.now c.run_entry.new.left (g.S.Sink.taken c.args.sink.now) (g.S.Sink.taken c.run_entry.new.sink) c.in_ok-value.value c.told_by.result _ c.run_entry.new.state c.in_ok-value.ensures.keeps c.in_ok-value.ensures.plan
     (told_done c.push.result c.told_by.result _ c.push.ensures.pushed c.told_by.ensures) (told_short c.push.result c.told_by.result c.push.ensures.refused c.told_by.ensures)
 

@@ -6,7 +6,7 @@ use Rattle.template_machine_meaning.specs.Surroundings.{answer}
 use Rattle.template_machine_going.specs.Goings.{Goes}
 use Rattle.template_machine_operands.specs.Operands.{operands_in}
 use Rattle.template_machine_steps.specs.Performs.{spot}
-use Rattle.template_machine_loop.specs.Programs.{code_at, programs_under, roots_of}
+use Rattle.template_machine_loop.specs.Programs.{code_at, programs_in, roots_of}
 use Rattle.template_machine_loop.proofs.Followed.{HasEnded}
 use Rattle.template_machine_loop.proofs.+running.Given as goal
 
@@ -71,7 +71,7 @@ decreases-includes::run_included g l = 8 * (l.program.rules.limit - (length l.st
 abbrev pub invariant-running::run_from-loop : goal.invariant-running::run_from-loop
 invariant-running::run_from-loop g l =
     let templates = l.program.templates.now in
-    let s = programs_under (g.T.Templates.standing templates) (g.T.Templates.joins templates) (g.T.Callbacks.callables templates) (roots_of l.program) l.program.rules in
+    let s = programs_in g.T.Templates.standing g.T.Templates.joins g.T.Callbacks.callables l.program in
     Goes (answer s) (code_in l.code) (spot l.start (operands_in l.fn.operands) l.fn.state l.fn.left (g.S.Sink.taken l.fn.sink)) (spot l.place (operands_in l.operands) l.state l.left (g.S.Sink.taken l.sink))
     × (g.S.Sink.failures l.sink ≡ g.S.Sink.failures l.fn.sink)
 
