@@ -46,7 +46,7 @@ use Rattle.template_machine_loop.proofs.+running.Goals as goal
 pub running::step-returns-in_err-pay-clause-advances : goal.running::step-returns-in_err-pay-clause-advances
 running::step-returns-in_err-pay-clause-advances g t c at =
     steps_spent (programs_in g.T.Templates.standing g.T.Templates.joins g.T.Callbacks.callables c.args.program)
-    (code_in c.args.code.now) (code_of c.args.instruction.now) c.args.place (operands_in c.args.operands.now) c.args.state.now c.args.left.now (g.S.Sink.taken c.args.sink.now)
+    (code_in c.args.here.code.now) (code_of c.args.here.instruction.now) c.args.here.place (operands_in c.args.operands.now) c.args.state.now c.args.left.now (g.S.Sink.taken c.args.sink.now)
     c.from_residual.result (operands_in c.args.operands.now) c.args.state.now c.pay.new.left _ (world_stays c.args.state.now) at c.in_err-pay.ensures.priced c.in_err-pay.ensures.spent c.in_err-pay.ensures.nothing
     c.in_err-pay.ensures.kind c.from_residual.ensures.1
 
@@ -57,19 +57,19 @@ running::step-returns-in_err-pay-clause-failures g t c =
 pub running::step-returns-in-Performs-clause-advances : goal.running::step-returns-in-Performs-clause-advances
 running::step-returns-in-Performs-clause-advances g t c at =
     let s = programs_in g.T.Templates.standing g.T.Templates.joins g.T.Callbacks.callables c.args.program in
-    steps_on_there s _ c.args.place _ _ _ _ _ _ _ _ c.led.result c.on.result
-    (paid_leads s _ _ c.args.place _ _ _ _ _ _ _ _ c.perform_ahead.result c.led.result at c.in_ok-pay.ensures.paid (c.perform_ahead.ensures.steps s) c.led.ensures) c.on.ensures
+    steps_on_there s _ c.args.here.place _ _ _ _ _ _ _ _ c.led.result c.on.result
+    (paid_leads s _ _ c.args.here.place _ _ _ _ _ _ _ _ c.perform_ahead.result c.led.result at c.in_ok-pay.ensures.paid (c.perform_ahead.ensures.steps s) c.led.ensures) c.on.ensures
 
 pub running::step-returns-in-Performs-clause-failures : goal.running::step-returns-in-Performs-clause-failures
 running::step-returns-in-Performs-clause-failures g t c =
     tells_on_there c.led.result c.on.result (g.S.Sink.failures c.args.sink.now) (g.S.Sink.failures c.perform_ahead.new.sink) c.on.ensures
-    (tells_on_led c.args.place c.perform_ahead.result c.led.result (g.S.Sink.failures c.args.sink.now) (g.S.Sink.failures c.perform_ahead.new.sink) c.led.ensures c.perform_ahead.ensures.failures)
+    (tells_on_led c.args.here.place c.perform_ahead.result c.led.result (g.S.Sink.failures c.args.sink.now) (g.S.Sink.failures c.perform_ahead.new.sink) c.led.ensures c.perform_ahead.ensures.failures)
 
 -- one that calls
 pub running::step-returns-in_err-called-in-Calls-clause-advances : goal.running::step-returns-in_err-called-in-Calls-clause-advances
 running::step-returns-in_err-called-in-Calls-clause-advances g t c at =
     let s = programs_in g.T.Templates.standing g.T.Templates.joins g.T.Callbacks.callables c.args.program in
-    heard_lost s _ _ c.args.place _ _ _ _ _ c.from_residual-in_err-called-in-Calls.result (c.in_err-called-in-Calls.ensures s) c.from_residual-in_err-called-in-Calls.ensures.1 _ _ _ at
+    heard_lost s _ _ c.args.here.place _ _ _ _ _ c.from_residual-in_err-called-in-Calls.result (c.in_err-called-in-Calls.ensures s) c.from_residual-in_err-called-in-Calls.ensures.1 _ _ _ at
     c.in_ok-pay.ensures.paid
 
 pub running::step-returns-in_err-called-in-Calls-clause-failures : goal.running::step-returns-in_err-called-in-Calls-clause-failures
@@ -80,14 +80,14 @@ pub running::step-returns-in-Some-clause-advances : goal.running::step-returns-i
 running::step-returns-in-Some-clause-advances g t c at =
     let s = programs_in g.T.Templates.standing g.T.Templates.joins g.T.Callbacks.callables c.args.program in
     let entered = call_enters s _ _ _ _ _ _ c.in-Some.is (c.in_ok-called-in-Calls.ensures s) in
-    steps_on_there s _ c.args.place _ _ _ _ _ _ _ _ c.onward.result c.on-in-Some.result
-    (paid_onward s _ _ c.args.place _ _ _ _ _ _ _ _ _ c.enter_call.result c.onward.result at c.in_ok-pay.ensures.paid (c.enter_call.ensures.does _ _ _ entered) c.onward.ensures)
+    steps_on_there s _ c.args.here.place _ _ _ _ _ _ _ _ c.onward.result c.on-in-Some.result
+    (paid_onward s _ _ c.args.here.place _ _ _ _ _ _ _ _ _ c.enter_call.result c.onward.result at c.in_ok-pay.ensures.paid (c.enter_call.ensures.does _ _ _ entered) c.onward.ensures)
     c.on-in-Some.ensures
 
 pub running::step-returns-in-Some-clause-failures : goal.running::step-returns-in-Some-clause-failures
 running::step-returns-in-Some-clause-failures g t c =
     tells_on_there c.onward.result c.on-in-Some.result (g.S.Sink.failures c.args.sink.now) (g.S.Sink.failures c.enter_call.new.sink) c.on-in-Some.ensures
-    (tells_onward c.args.place c.enter_call.result c.onward.result (g.S.Sink.failures c.args.sink.now) (g.S.Sink.failures c.enter_call.new.sink) c.onward.ensures c.enter_call.ensures.failures)
+    (tells_onward c.args.here.place c.enter_call.result c.onward.result (g.S.Sink.failures c.args.sink.now) (g.S.Sink.failures c.enter_call.new.sink) c.onward.ensures c.enter_call.ensures.failures)
 
 pub running::step-enter_call-requires : goal.running::step-enter_call-requires
 running::step-enter_call-requires g t c κs within =
@@ -103,21 +103,21 @@ running::step-enter_call-requires g t c κs within =
 pub running::step-returns-in-None-clause-advances : goal.running::step-returns-in-None-clause-advances
 running::step-returns-in-None-clause-advances g t c at =
     let s = programs_in g.T.Templates.standing g.T.Templates.joins g.T.Callbacks.callables c.args.program in
-    heard_acts (tt {0}) s _ _ c.args.place (c.args.place + 1) _ _ _ _ _ _ _ at c.in_ok-pay.ensures.paid
+    heard_acts (tt {0}) s _ _ c.args.here.place (c.args.here.place + 1) _ _ _ _ _ _ _ at c.in_ok-pay.ensures.paid
     (call_done s _ _ _ _ _ c.in-None.is (c.in_ok-called-in-Calls.ensures s)) (omega arith)
 
 -- one that may enter a run within
 pub running::step-returns-in-Enters-clause-advances : goal.running::step-returns-in-Enters-clause-advances
 running::step-returns-in-Enters-clause-advances g t c at =
     let s = programs_in g.T.Templates.standing g.T.Templates.joins g.T.Callbacks.callables c.args.program in
-    steps_on_there s _ c.args.place _ _ _ _ _ _ _ _ c.onward-in-Enters.result c.on-in-Enters.result
-    (paid_onward s _ _ c.args.place _ _ _ _ _ _ _ _ _ c.enter.result c.onward-in-Enters.result at c.in_ok-pay.ensures.paid c.enter.ensures.does c.onward-in-Enters.ensures)
+    steps_on_there s _ c.args.here.place _ _ _ _ _ _ _ _ c.onward-in-Enters.result c.on-in-Enters.result
+    (paid_onward s _ _ c.args.here.place _ _ _ _ _ _ _ _ _ c.enter.result c.onward-in-Enters.result at c.in_ok-pay.ensures.paid c.enter.ensures.does c.onward-in-Enters.ensures)
     c.on-in-Enters.ensures
 
 pub running::step-returns-in-Enters-clause-failures : goal.running::step-returns-in-Enters-clause-failures
 running::step-returns-in-Enters-clause-failures g t c =
     tells_on_there c.onward-in-Enters.result c.on-in-Enters.result (g.S.Sink.failures c.args.sink.now) (g.S.Sink.failures c.enter.new.sink) c.on-in-Enters.ensures
-    (tells_onward c.args.place c.enter.result c.onward-in-Enters.result (g.S.Sink.failures c.args.sink.now) (g.S.Sink.failures c.enter.new.sink) c.onward-in-Enters.ensures c.enter.ensures.failures)
+    (tells_onward c.args.here.place c.enter.result c.onward-in-Enters.result (g.S.Sink.failures c.args.sink.now) (g.S.Sink.failures c.enter.new.sink) c.onward-in-Enters.ensures c.enter.ensures.failures)
 
 -- one that opens or closes a loop, or makes a macro
 pub running::step-scope-requires-clause-task : goal.running::step-scope-requires-clause-task
@@ -134,7 +134,7 @@ running::step-returns-in-Scopes-clause-failures g t c = spared c.scope.result (g
 pub running::step-returns-in-Ends-clause-advances : goal.running::step-returns-in-Ends-clause-advances
 running::step-returns-in-Ends-clause-advances g t c at =
     let s = programs_in g.T.Templates.standing g.T.Templates.joins g.T.Callbacks.callables c.args.program in
-    advance_over s _ _ c.args.place _ _ _ _ _ at (ended_task _ (sym c.in-Ends.ensures)) c.in_ok-pay.ensures.paid
+    advance_over s _ _ c.args.here.place _ _ _ _ _ at (ended_task _ (sym c.in-Ends.ensures)) c.in_ok-pay.ensures.paid
 
 pub running::step-enter-requires : goal.running::step-enter-requires
 running::step-enter-requires g t c κs within =
