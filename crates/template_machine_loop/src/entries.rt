@@ -13,8 +13,8 @@ ghost use Rattle.template_machine_loop.specs.Plans.{DoesPlan};
 ghost use Rattle.template_machine_loop.specs.Programs.{programs_in};
 
 use crate::blocks::run_block_text;
-use crate::macros::call_macro;
-use crate::rounds::call_rounds;
+use crate::macros::{Asked, call_macro};
+use crate::rounds::{Which, call_rounds};
 use crate::templates::{Program, Templates};
 use crate::told::told_by;
 use std::alloc::Global;
@@ -106,11 +106,17 @@ fn run_entering<'env, T: Templates, S: Sink>(
     ensures failures { CountsFailures result (S.failures sink.old) (S.failures sink.new) }
 {
     match entering {
-        Entering::Macro(id, number, args) => call_macro(
-            alloc, program, id, number, args, pending, state, left, scratch, sink,
-        ),
+        Entering::Macro(id, number, args) => {
+            let asked = Asked {
+                id,
+                number,
+                pending,
+            };
+            call_macro(alloc, program, asked, args, state, left, scratch, sink)
+        }
         Entering::Rounds(id, number, args) => {
-            call_rounds(alloc, program, id, number, args, state, left, scratch, sink)
+            let which = Which { id, number };
+            call_rounds(alloc, program, which, args, state, left, scratch, sink)
         }
         Entering::Block(name) => run_block_text(
             alloc,

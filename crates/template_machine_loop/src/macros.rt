@@ -16,7 +16,7 @@ ghost use Rattle.template_machine_loop.specs.Programs.{programs_in, roots_of};
 use crate::blocks::has_room_beside;
 use crate::counting::macro_at;
 use crate::found::code_of_stream;
-use crate::running::run_from;
+use crate::running::{Start, run_from};
 use crate::templates::{Program, Templates};
 use crate::told::told_by;
 use std::alloc::Global;
@@ -32,6 +32,14 @@ use template_values_errors::{Error, ErrorKind};
 // So many levels deeper a macro runs.
 const MACRO_LEVELS: usize = 6;
 
+/// A macro that is called, by the state of an id and its number there; and how many calls are pending.
+#[derive(Clone, Copy)]
+pub(crate) struct Asked {
+    pub(crate) id: u64,
+    pub(crate) number: usize,
+    pub(crate) pending: usize,
+}
+
 /// A macro's body, and what it runs over.
 #[derive(Drop)]
 pub(crate) struct Begun<'env> {
@@ -44,8 +52,7 @@ pub(crate) struct Begun<'env> {
     pub(crate) operands: Operands,
 }
 
-/// Runs the macro of a number, in the state of an id, over arguments, where so many calls are pending, which count as levels, and
-/// gives its text.
+/// Runs the macro that is called over arguments, where the calls that are pending count as levels, and gives its text.
 ///
 /// # Errors
 ///
@@ -55,23 +62,21 @@ pub(crate) struct Begun<'env> {
 pub(crate) fn call_macro<'env, T: Templates, S: Sink>(
     alloc: Global,
     program: Program<'env, '_, T>,
-    id: u64,
-    number: usize,
+    asked: Asked,
     args: Vec<Value>,
-    pending: usize,
     state: &mut State<'env>,
     left: &mut Option<u64>,
     scratch: &mut String,
     sink: &mut S,
 ) -> Result<Value, Stop>
     ensures plan { let s = programs_in T.standing T.joins T.callables program.entry in
-        DoesPlan value s (macro_plan s.around.limit pending state.old args.items (macro_of state.old id number))
+        DoesPlan value s (macro_plan s.around.limit asked.pending state.old args.items (macro_of state.old asked.id asked.number))
         state.old left.old (S.taken sink.old) result state.new left.new (S.taken sink.new) }
     ensures keeps { KeepsWorld state.old state.new }
     ensures frames { state.new.frames ≡ state.old.frames }
     ensures failures { CountsFailures result (S.failures sink.old) (S.failures sink.new) }
 {
-    let begun = begin(alloc, program, id, number, args, pending, state)?;
+    let begun = begin(alloc, program, asked, args, state)?;
     let Begun {
         stream,
         closure,
@@ -80,10 +85,9 @@ pub(crate) fn call_macro<'env, T: Templates, S: Sink>(
         place,
         operands,
     } = begun;
-    let caller = state.enter_macro(alloc, stream, closure, given, pending)?;
-    let ran = run_from(
-        alloc, program, code, place, operands, state, left, scratch, sink,
-    );
+    let caller = state.enter_macro(alloc, stream, closure, given, asked.pending)?;
+    let start = Start { code, place };
+    let ran = run_from(alloc, program, start, operands, state, left, scratch, sink);
     match ran {
         Ok(_) => told_by(state.leave_macro_text(alloc, caller)),
         Err(stop) => {
@@ -101,21 +105,19 @@ pub(crate) fn call_macro<'env, T: Templates, S: Sink>(
 fn begin<'env, T: Templates>(
     alloc: Global,
     program: Program<'env, '_, T>,
-    id: u64,
-    number: usize,
+    asked: Asked,
     args: Vec<Value>,
-    pending: usize,
     state: &State<'env>,
 ) -> Result<Begun<'env>, Error>
     ensures begun { let s = programs_in T.standing T.joins T.callables program.entry in
-        let planned = macro_plan s.around.limit pending state.now args.items (macro_of state.now id number) in
-        IfOk result (FindsMacro s (T.standing program.entry.templates.now) (roots_of program.entry) state.now pending planned) }
+        let planned = macro_plan s.around.limit asked.pending state.now args.items (macro_of state.now asked.id asked.number) in
+        IfOk result (FindsMacro s (T.standing program.entry.templates.now) (roots_of program.entry) state.now asked.pending planned) }
     ensures refused { let s = programs_in T.standing T.joins T.callables program.entry in
-        let planned = macro_plan s.around.limit pending state.now args.items (macro_of state.now id number) in
+        let planned = macro_plan s.around.limit asked.pending state.now args.items (macro_of state.now asked.id asked.number) in
         IfErr result (λ kinds. NoMemory kinds ⊎ IsRefused s planned state.now kinds) }
     ensures spares { IfErr result SparesSink }
 {
-    let Some(called) = state.macro_of(id, number) else {
+    let Some(called) = state.macro_of(asked.id, asked.number) else {
         return Err(Error::new(ErrorKind::InvalidOperation));
     };
     let bound = bind(alloc, called.arguments(), called.takes_caller(), args)?;
@@ -123,7 +125,7 @@ fn begin<'env, T: Templates>(
         arguments,
         caller: given,
     } = bound;
-    if !has_room_beside(state, program.rules.limit, MACRO_LEVELS, pending) {
+    if !has_room_beside(state, program.rules.limit, MACRO_LEVELS, asked.pending) {
         return Err(Error::new(ErrorKind::InvalidOperation));
     }
     let stream = called.stream();

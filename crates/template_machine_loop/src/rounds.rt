@@ -17,7 +17,7 @@ ghost use Rattle.template_machine_loop.specs.Programs.{programs_in, roots_of};
 
 use crate::counting::rounds_at;
 use crate::found::code_of_stream;
-use crate::running::run_from;
+use crate::running::{Start, run_from};
 use crate::templates::{Program, Templates};
 use crate::told::told_by;
 use std::alloc::Global;
@@ -36,6 +36,13 @@ use template_values_items::Items;
 pub(crate) struct Again<'env> {
     pub(crate) rounds: Rounds<'env>,
     pub(crate) variable: bool,
+}
+
+/// A loop, by the state of an id and its number there.
+#[derive(Clone, Copy)]
+pub(crate) struct Which {
+    pub(crate) id: u64,
+    pub(crate) number: usize,
 }
 
 /// Where rounds begin, and what they go over.
@@ -77,9 +84,8 @@ pub(crate) fn print_rounds<'env, T: Templates, S: Sink>(
     let Begun { code, place, items } = begun;
     let caller = state.enter_rounds(alloc, again.rounds, again.variable, items, false)?;
     let operands = Operands::new(alloc);
-    let ran = run_from(
-        alloc, program, code, place, operands, state, left, scratch, sink,
-    );
+    let start = Start { code, place };
+    let ran = run_from(alloc, program, start, operands, state, left, scratch, sink);
     // Whatever the run's end.
     state.leave_rounds(alloc, caller);
     match ran {
@@ -88,7 +94,7 @@ pub(crate) fn print_rounds<'env, T: Templates, S: Sink>(
     }
 }
 
-/// Runs the rounds of the loop of a number, in the state of an id, again over the items of the one argument, and gives their text.
+/// Runs the rounds of a loop again over the items of the one argument, and gives their text.
 /// Behind them, and behind an error, the frames around them are as they were.
 ///
 /// # Errors
@@ -98,8 +104,7 @@ pub(crate) fn print_rounds<'env, T: Templates, S: Sink>(
 pub(crate) fn call_rounds<'env, T: Templates, S: Sink>(
     alloc: Global,
     program: Program<'env, '_, T>,
-    id: u64,
-    number: usize,
+    which: Which,
     args: Vec<Value>,
     state: &mut State<'env>,
     left: &mut Option<u64>,
@@ -107,14 +112,14 @@ pub(crate) fn call_rounds<'env, T: Templates, S: Sink>(
     sink: &mut S,
 ) -> Result<Value, Stop>
     ensures plan { let s = programs_in T.standing T.joins T.callables program.entry in
-        DoesPlan value s (again_plan s.around state.old args.items (loop_of state.old id number))
+        DoesPlan value s (again_plan s.around state.old args.items (loop_of state.old which.id which.number))
         state.old left.old (S.taken sink.old) result state.new left.new (S.taken sink.new) }
     ensures keeps { KeepsWorld state.old state.new }
     ensures frames { state.new.frames ≡ state.old.frames }
     ensures failures { CountsFailures result (S.failures sink.old) (S.failures sink.new) }
 {
     let over = only(args)?;
-    let Some(current) = state.loop_of(id, number) else {
+    let Some(current) = state.loop_of(which.id, which.number) else {
         return Err(Stop::Fault(Error::new(ErrorKind::InvalidOperation)));
     };
     let again = again_of(current)?;
@@ -122,9 +127,8 @@ pub(crate) fn call_rounds<'env, T: Templates, S: Sink>(
     let Begun { code, place, items } = begun;
     let caller = state.enter_rounds(alloc, again.rounds, again.variable, items, true)?;
     let operands = Operands::new(alloc);
-    let ran = run_from(
-        alloc, program, code, place, operands, state, left, scratch, sink,
-    );
+    let start = Start { code, place };
+    let ran = run_from(alloc, program, start, operands, state, left, scratch, sink);
     match ran {
         Ok(_) => told_by(state.leave_rounds_text(alloc, caller)),
         Err(stop) => {

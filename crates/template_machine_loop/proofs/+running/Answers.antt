@@ -145,7 +145,7 @@ running::step-enter-requires g t c κs within =
 
 -- code to its end
 pub running::run_from-loop-init : goal.running::run_from-loop-init
-running::run_from-loop-init g t c = (goes_nowhere World _ (code_in c.args.code.now) _, refl)
+running::run_from-loop-init g t c = (goes_nowhere World _ (code_in c.args.start.code.now) _, refl)
 
 pub running::run_from-returns-in_err-ahead-clause-runs : goal.running::run_from-returns-in_err-ahead-clause-runs
 running::run_from-returns-in_err-ahead-clause-runs g t c =
@@ -160,7 +160,7 @@ running::run_from-returns-in_err-ahead-clause-failures g t c =
 pub running::run_from-returns-in_err-ahead-clause-keeps : goal.running::run_from-returns-in_err-ahead-clause-keeps
 running::run_from-returns-in_err-ahead-clause-keeps g t c =
     let s = programs_in g.T.Templates.standing g.T.Templates.joins g.T.Callbacks.callables c.args.program in
-    let so_far : KeepsWorld c.args.state.now c.loop.state = goes_keep s (code_in c.args.code.now) _ _ c.loop.invariant.0 in
+    let so_far : KeepsWorld c.args.state.now c.loop.state = goes_keep s (code_in c.args.start.code.now) _ _ c.loop.invariant.0 in
     world_on c.args.state.now c.loop.state c.advance_unpaid.new.state so_far (c.in_err-ahead.ensures.advances s c.formats-formatted.ensures).keeps
 
 pub running::run_from-returns-in_default-clause-runs : goal.running::run_from-returns-in_default-clause-runs
@@ -172,7 +172,7 @@ running::run_from-returns-in_default-clause-runs g t c =
 pub running::run_from-returns-in_default-clause-keeps : goal.running::run_from-returns-in_default-clause-keeps
 running::run_from-returns-in_default-clause-keeps g t c =
     let s = programs_in g.T.Templates.standing g.T.Templates.joins g.T.Callbacks.callables c.args.program in
-    goes_keep s (code_in c.args.code.now) _ _ (goes_further s _ _ _ _ _ _ _ _ _ _ _ _ c.loop.invariant.0 (c.in_ok-ahead.ensures.advances s c.formats-formatted.ensures))
+    goes_keep s (code_in c.args.start.code.now) _ _ (goes_further s _ _ _ _ _ _ _ _ _ _ _ _ c.loop.invariant.0 (c.in_ok-ahead.ensures.advances s c.formats-formatted.ensures))
 
 pub running::run_from-returns-in_err-next-clause-runs : goal.running::run_from-returns-in_err-next-clause-runs
 running::run_from-returns-in_err-next-clause-runs g t c =
@@ -189,7 +189,7 @@ running::run_from-returns-in_err-next-clause-failures g t c =
 pub running::run_from-returns-in_err-next-clause-keeps : goal.running::run_from-returns-in_err-next-clause-keeps
 running::run_from-returns-in_err-next-clause-keeps g t c =
     let s = programs_in g.T.Templates.standing g.T.Templates.joins g.T.Callbacks.callables c.args.program in
-    let on : KeepsWorld c.args.state.now c.advance_unpaid.new.state = goes_keep s (code_in c.args.code.now) _ _ (goes_further s _ _ _ _ _ _ _ _ _ _ _ _ c.loop.invariant.0 (c.in_ok-ahead.ensures.advances s c.formats-formatted.ensures)) in
+    let on : KeepsWorld c.args.state.now c.advance_unpaid.new.state = goes_keep s (code_in c.args.start.code.now) _ _ (goes_further s _ _ _ _ _ _ _ _ _ _ _ _ c.loop.invariant.0 (c.in_ok-ahead.ensures.advances s c.formats-formatted.ensures)) in
     world_on c.args.state.now c.advance_unpaid.new.state c.step.new.state on (c.in_err-next.ensures.advances (sym c.in-Some.ensures)).keeps
 
 pub running::run_from-returns-in-None-clause-runs : goal.running::run_from-returns-in-None-clause-runs
@@ -205,9 +205,9 @@ running::run_from-returns-in-None-clause-failures g t c = c.in_ok-next.ensures.f
 pub running::run_from-returns-in-None-clause-keeps : goal.running::run_from-returns-in-None-clause-keeps
 running::run_from-returns-in-None-clause-keeps g t c =
     let s = programs_in g.T.Templates.standing g.T.Templates.joins g.T.Callbacks.callables c.args.program in
-    let on : KeepsWorld c.args.state.now c.advance_unpaid.new.state = goes_keep s (code_in c.args.code.now) _ _ (goes_further s _ _ _ _ _ _ _ _ _ _ _ _ c.loop.invariant.0 (c.in_ok-ahead.ensures.advances s c.formats-formatted.ensures)) in
+    let on : KeepsWorld c.args.state.now c.advance_unpaid.new.state = goes_keep s (code_in c.args.start.code.now) _ _ (goes_further s _ _ _ _ _ _ _ _ _ _ _ _ c.loop.invariant.0 (c.in_ok-ahead.ensures.advances s c.formats-formatted.ensures)) in
     let over : KeepsWorld c.advance_unpaid.new.state c.step.new.state =
-    ends_keep s (code_in c.args.code.now) _ _ _ _ _ (steps_over s _ _ _ _ _ _ _ _ _ _ _ c.in-None.is (c.in_ok-next.ensures.advances (sym c.in-Some.ensures))) in
+    ends_keep s (code_in c.args.start.code.now) _ _ _ _ _ (steps_over s _ _ _ _ _ _ _ _ _ _ _ c.in-None.is (c.in_ok-next.ensures.advances (sym c.in-Some.ensures))) in
     world_on c.args.state.now c.advance_unpaid.new.state c.step.new.state on over
 
 pub running::run_from-loop-preserved : goal.running::run_from-loop-preserved
@@ -223,7 +223,7 @@ pub running::run_from-step-requires : goal.running::run_from-step-requires
 running::run_from-step-requires g t c κs within =
     let s = programs_in g.T.Templates.standing g.T.Templates.joins g.T.Callbacks.callables c.args.program in
     let kept : KeepsWorld c.args.state.now c.advance_unpaid.new.state =
-    goes_keep s (code_in c.args.code.now) _ _ (goes_further s _ _ _ _ _ _ _ _ _ _ _ _ c.loop.invariant.0 (c.in_ok-ahead.ensures.advances s c.formats-formatted.ensures)) in
+    goes_keep s (code_in c.args.start.code.now) _ _ (goes_further s _ _ _ _ _ _ _ _ _ _ _ _ c.loop.invariant.0 (c.in_ok-ahead.ensures.advances s c.formats-formatted.ensures)) in
     let outer : c.advance_unpaid.new.state.outer ≡ c.args.state.now.outer = kept.outer in
     let floor : c.advance_unpaid.new.state.floor ≡ c.args.state.now.floor = kept.floor in
     let many : c.args.state.now.floor ≤ length c.advance_unpaid.new.state.frames = (kept.frames c.requires).many in
@@ -232,7 +232,7 @@ running::run_from-step-requires g t c κs within =
     let bound : 8 * (c.args.program.rules.limit - (c.args.state.now.floor + c.args.state.now.outer)) + 6 ≡ t = c.decreases in
     let below : 8 * (c.args.program.rules.limit - (c.advance_unpaid.new.state.floor + c.advance_unpaid.new.state.outer)) + 5 < t = omega (arith, less, bound) in
     let there : c.advance_unpaid.new.state.floor ≤ length c.advance_unpaid.new.state.frames = omega (arith, floor, many) in
-    (below, (within.0, (within.1, (c.formats-formatted.ensures, (there, place_fits c.args.code.now c.in_ok-ahead.ahead _ (sym c.in-Some.ensures))))))
+    (below, (within.0, (within.1, (c.formats-formatted.ensures, (there, place_fits c.args.start.code.now c.in_ok-ahead.ahead _ (sym c.in-Some.ensures))))))
 
 pub running::run_from-returns-clause-runs : goal.running::run_from-returns-clause-runs
 running::run_from-returns-clause-runs g t c = run_wanting (programs_in g.T.Templates.standing g.T.Templates.joins g.T.Callbacks.callables c.args.program) _ _ _ _ _ _ _ _ _ _ _ _ c.loop.invariant.0 c.new.ensures
@@ -243,7 +243,7 @@ running::run_from-returns-clause-failures g t c = inr (other c.new.result (OutOf
 pub running::run_from-returns-clause-keeps : goal.running::run_from-returns-clause-keeps
 running::run_from-returns-clause-keeps g t c =
     let s = programs_in g.T.Templates.standing g.T.Templates.joins g.T.Callbacks.callables c.args.program in
-    goes_keep s (code_in c.args.code.now) _ _ c.loop.invariant.0
+    goes_keep s (code_in c.args.start.code.now) _ _ c.loop.invariant.0
 
 -- from its first place on
 pub running::run_to_end-run_from-requires : goal.running::run_to_end-run_from-requires
@@ -991,7 +991,7 @@ entering::enter-returns-in_ok-text-in-CallFunction-clause-does g t c =
 pub macros::call_macro-returns-in_err-begun-clause-plan : goal.macros::call_macro-returns-in_err-begun-clause-plan
 macros::call_macro-returns-in_err-begun-clause-plan g t c =
     let s = programs_in g.T.Templates.standing g.T.Templates.joins g.T.Callbacks.callables c.args.program in
-    stops_first value s (macro_plan s.around.limit c.args.pending c.args.state.now c.args.args.items (macro_of c.args.state.now c.args.id c.args.number)) c.args.state.now c.args.left.now (g.S.Sink.taken c.args.sink.now) _ c.from_residual.result c.from_residual.ensures.1 c.in_err-begun.ensures.refused
+    stops_first value s (macro_plan s.around.limit c.args.asked.pending c.args.state.now c.args.args.items (macro_of c.args.state.now c.args.asked.id c.args.asked.number)) c.args.state.now c.args.left.now (g.S.Sink.taken c.args.sink.now) _ c.from_residual.result c.from_residual.ensures.1 c.in_err-begun.ensures.refused
 
 pub macros::call_macro-returns-in_err-begun-clause-failures : goal.macros::call_macro-returns-in_err-begun-clause-failures
 macros::call_macro-returns-in_err-begun-clause-failures g t c =
@@ -1003,13 +1003,13 @@ macros::call_macro-returns-in_err-begun-clause-keeps g t c = world_stays c.args.
 pub macros::call_macro-enter_macro-requires : goal.macros::call_macro-enter_macro-requires
 macros::call_macro-enter_macro-requires g t c =
     let found = c.in_ok-begun.ensures.begun in
-    let room : length c.args.state.now.frames + c.args.state.now.outer + (macro_levels + c.args.pending) ≤ c.args.program.rules.limit = roomy c.args.program.rules.limit (macro_levels + c.args.pending) c.args.state.now found.room in
+    let room : length c.args.state.now.frames + c.args.state.now.outer + (macro_levels + c.args.asked.pending) ≤ c.args.program.rules.limit = roomy c.args.program.rules.limit (macro_levels + c.args.asked.pending) c.args.state.now found.room in
     omega (arith, room)
 
 pub macros::call_macro-returns-in_err-caller-clause-plan : goal.macros::call_macro-returns-in_err-caller-clause-plan
 macros::call_macro-returns-in_err-caller-clause-plan g t c =
     let s = programs_in g.T.Templates.standing g.T.Templates.joins g.T.Callbacks.callables c.args.program in
-    lacks_first value s (macro_plan s.around.limit c.args.pending c.args.state.now c.args.args.items (macro_of c.args.state.now c.args.id c.args.number)) c.args.state.now c.args.left.now (g.S.Sink.taken c.args.sink.now) _ c.from_residual-in_err-caller.result c.enter_macro.new.self c.from_residual-in_err-caller.ensures.1 c.in_err-caller.ensures.refused
+    lacks_first value s (macro_plan s.around.limit c.args.asked.pending c.args.state.now c.args.args.items (macro_of c.args.state.now c.args.asked.id c.args.asked.number)) c.args.state.now c.args.left.now (g.S.Sink.taken c.args.sink.now) _ c.from_residual-in_err-caller.result c.enter_macro.new.self c.from_residual-in_err-caller.ensures.1 c.in_err-caller.ensures.refused
 
 pub macros::call_macro-returns-in_err-caller-clause-failures : goal.macros::call_macro-returns-in_err-caller-clause-failures
 macros::call_macro-returns-in_err-caller-clause-failures g t c =
@@ -1025,9 +1025,9 @@ pub macros::call_macro-run_from-ran-requires : goal.macros::call_macro-run_from-
 macros::call_macro-run_from-ran-requires g t c κs within =
     let found = c.in_ok-begun.ensures.begun in
     let floor : c.enter_macro.new.self.floor ≡ suc (length c.args.state.now.frames) = ap (λ w. w.floor) c.in_ok-caller.ensures.within in
-    let outer : c.enter_macro.new.self.outer ≡ c.args.state.now.outer + 5 + c.args.pending = ap (λ w. w.outer) c.in_ok-caller.ensures.within in
+    let outer : c.enter_macro.new.self.outer ≡ c.args.state.now.outer + 5 + c.args.asked.pending = ap (λ w. w.outer) c.in_ok-caller.ensures.within in
     let many : length c.enter_macro.new.self.frames ≡ suc (length c.args.state.now.frames) = ap (λ w. length w.frames) c.in_ok-caller.ensures.within in
-    let room : length c.args.state.now.frames + c.args.state.now.outer + (6 + c.args.pending) ≤ c.args.program.rules.limit = roomy c.args.program.rules.limit (6 + c.args.pending) c.args.state.now found.room in
+    let room : length c.args.state.now.frames + c.args.state.now.outer + (6 + c.args.asked.pending) ≤ c.args.program.rules.limit = roomy c.args.program.rules.limit (6 + c.args.asked.pending) c.args.state.now found.room in
     let bound : 8 * (c.args.program.rules.limit - (length c.args.state.now.frames + c.args.state.now.outer)) + 1 ≡ t = c.decreases in
     let below : 8 * (c.args.program.rules.limit - (c.enter_macro.new.self.floor + c.enter_macro.new.self.outer)) + 6 < t = omega (arith, floor, outer, room, bound) in
     let there : c.enter_macro.new.self.floor ≤ length c.enter_macro.new.self.frames = omega (arith, floor, many) in
@@ -1038,13 +1038,13 @@ macros::call_macro-returns-in-Ok-clause-plan g t c =
     let s = programs_in g.T.Templates.standing g.T.Templates.joins g.T.Callbacks.callables c.args.program in
     let begun = c.in_ok-begun.begun in
     let found = c.in_ok-begun.ensures.begun in
-    let y = macro_entered (g.T.Templates.standing c.args.program.templates.now) (g.T.Templates.joins c.args.program.templates.now) (g.T.Callbacks.callables c.args.program.templates.now) (roots_of c.args.program) c.args.program.rules c.args.state.now c.args.pending (macro_plan s.around.limit c.args.pending c.args.state.now c.args.args.items (macro_of c.args.state.now c.args.id c.args.number)) begun found in
-    plan_as value s (macro_plan s.around.limit c.args.pending c.args.state.now c.args.args.items (macro_of c.args.state.now c.args.id c.args.number)) _ c.args.state.now c.args.left.now (g.S.Sink.taken c.args.sink.now) c.told_by.result c.leave_macro_text.new.self c.run_from-ran.new.left (g.S.Sink.taken c.run_from-ran.new.sink) found.planned
-    (within_gives (g.T.Templates.standing c.args.program.templates.now) (g.T.Templates.joins c.args.program.templates.now) (g.T.Callbacks.callables c.args.program.templates.now) (roots_of c.args.program) c.args.program.rules (macro_levels + c.args.pending) c.args.state.now y
-    (macro_keyed (g.T.Templates.standing c.args.program.templates.now) (g.T.Templates.joins c.args.program.templates.now) (g.T.Callbacks.callables c.args.program.templates.now) (roots_of c.args.program) c.args.program.rules c.args.state.now c.args.pending (macro_plan s.around.limit c.args.pending c.args.state.now c.args.args.items (macro_of c.args.state.now c.args.id c.args.number)) begun found) refl found.room c.args.left.now c.run_from-ran.new.left (g.S.Sink.taken c.args.sink.now) (g.S.Sink.taken c.run_from-ran.new.sink) c.enter_macro.new.self c.run_from-ran.new.state
-    (macro_begins (g.T.Templates.standing c.args.program.templates.now) (g.T.Templates.joins c.args.program.templates.now) (g.T.Callbacks.callables c.args.program.templates.now) (roots_of c.args.program) c.args.program.rules c.args.state.now c.args.pending (macro_plan s.around.limit c.args.pending c.args.state.now c.args.args.items (macro_of c.args.state.now c.args.id c.args.number)) begun found c.enter_macro.new.self c.in_ok-caller.ensures.within) _ (captured c.args.state.now.escape (innermost (outermost (suc (length c.args.state.now.captures)) c.run_from-ran.new.state.captures)))
+    let y = macro_entered (g.T.Templates.standing c.args.program.templates.now) (g.T.Templates.joins c.args.program.templates.now) (g.T.Callbacks.callables c.args.program.templates.now) (roots_of c.args.program) c.args.program.rules c.args.state.now c.args.asked.pending (macro_plan s.around.limit c.args.asked.pending c.args.state.now c.args.args.items (macro_of c.args.state.now c.args.asked.id c.args.asked.number)) begun found in
+    plan_as value s (macro_plan s.around.limit c.args.asked.pending c.args.state.now c.args.args.items (macro_of c.args.state.now c.args.asked.id c.args.asked.number)) _ c.args.state.now c.args.left.now (g.S.Sink.taken c.args.sink.now) c.told_by.result c.leave_macro_text.new.self c.run_from-ran.new.left (g.S.Sink.taken c.run_from-ran.new.sink) found.planned
+    (within_gives (g.T.Templates.standing c.args.program.templates.now) (g.T.Templates.joins c.args.program.templates.now) (g.T.Callbacks.callables c.args.program.templates.now) (roots_of c.args.program) c.args.program.rules (macro_levels + c.args.asked.pending) c.args.state.now y
+    (macro_keyed (g.T.Templates.standing c.args.program.templates.now) (g.T.Templates.joins c.args.program.templates.now) (g.T.Callbacks.callables c.args.program.templates.now) (roots_of c.args.program) c.args.program.rules c.args.state.now c.args.asked.pending (macro_plan s.around.limit c.args.asked.pending c.args.state.now c.args.args.items (macro_of c.args.state.now c.args.asked.id c.args.asked.number)) begun found) refl found.room c.args.left.now c.run_from-ran.new.left (g.S.Sink.taken c.args.sink.now) (g.S.Sink.taken c.run_from-ran.new.sink) c.enter_macro.new.self c.run_from-ran.new.state
+    (macro_begins (g.T.Templates.standing c.args.program.templates.now) (g.T.Templates.joins c.args.program.templates.now) (g.T.Callbacks.callables c.args.program.templates.now) (roots_of c.args.program) c.args.program.rules c.args.state.now c.args.asked.pending (macro_plan s.around.limit c.args.asked.pending c.args.state.now c.args.args.items (macro_of c.args.state.now c.args.asked.id c.args.asked.number)) begun found c.enter_macro.new.self c.in_ok-caller.ensures.within) _ (captured c.args.state.now.escape (innermost (outermost (suc (length c.args.state.now.captures)) c.run_from-ran.new.state.captures)))
     c.run_from-ran.result c.leave_macro_text.result c.told_by.result c.leave_macro_text.new.self c.in-Ok.is
-    (macro_runs (g.T.Templates.standing c.args.program.templates.now) (g.T.Templates.joins c.args.program.templates.now) (g.T.Callbacks.callables c.args.program.templates.now) (roots_of c.args.program) c.args.program.rules c.args.state.now c.args.pending (macro_plan s.around.limit c.args.pending c.args.state.now c.args.args.items (macro_of c.args.state.now c.args.id c.args.number)) begun found c.enter_macro.new.self c.args.left.now c.run_from-ran.new.left (g.S.Sink.taken c.args.sink.now) (g.S.Sink.taken c.run_from-ran.new.sink) c.run_from-ran.result c.run_from-ran.new.state c.run_from-ran.ensures.runs) refl
+    (macro_runs (g.T.Templates.standing c.args.program.templates.now) (g.T.Templates.joins c.args.program.templates.now) (g.T.Callbacks.callables c.args.program.templates.now) (roots_of c.args.program) c.args.program.rules c.args.state.now c.args.asked.pending (macro_plan s.around.limit c.args.asked.pending c.args.state.now c.args.args.items (macro_of c.args.state.now c.args.asked.id c.args.asked.number)) begun found c.enter_macro.new.self c.args.left.now c.run_from-ran.new.left (g.S.Sink.taken c.args.sink.now) (g.S.Sink.taken c.run_from-ran.new.sink) c.run_from-ran.result c.run_from-ran.new.state c.run_from-ran.ensures.runs) refl
     (c.leave_macro_text.ensures.ended ∙ ap (λ (k : Caller). after_by calls_macro k c.run_from-ran.new.state) c.in_ok-caller.ensures.kept)
     (as_kept c.leave_macro_text.result c.in_ok-caller.caller c.args.state.now c.run_from-ran.new.state.captures c.in_ok-caller.ensures.kept c.leave_macro_text.ensures.given) c.leave_macro_text.ensures.refused c.told_by.ensures)
 
@@ -1053,13 +1053,13 @@ macros::call_macro-returns-clause-plan g t c =
     let s = programs_in g.T.Templates.standing g.T.Templates.joins g.T.Callbacks.callables c.args.program in
     let begun = c.in_ok-begun.begun in
     let found = c.in_ok-begun.ensures.begun in
-    let y = macro_entered (g.T.Templates.standing c.args.program.templates.now) (g.T.Templates.joins c.args.program.templates.now) (g.T.Callbacks.callables c.args.program.templates.now) (roots_of c.args.program) c.args.program.rules c.args.state.now c.args.pending (macro_plan s.around.limit c.args.pending c.args.state.now c.args.args.items (macro_of c.args.state.now c.args.id c.args.number)) begun found in
-    plan_as value s (macro_plan s.around.limit c.args.pending c.args.state.now c.args.args.items (macro_of c.args.state.now c.args.id c.args.number)) _ c.args.state.now c.args.left.now (g.S.Sink.taken c.args.sink.now) (Err c.in-Err.stop) c.leave_macro.new.self c.run_from-ran.new.left (g.S.Sink.taken c.run_from-ran.new.sink) found.planned
-    (within_breaks (g.T.Templates.standing c.args.program.templates.now) (g.T.Templates.joins c.args.program.templates.now) (g.T.Callbacks.callables c.args.program.templates.now) (roots_of c.args.program) c.args.program.rules (macro_levels + c.args.pending) c.args.state.now y
-    (macro_keyed (g.T.Templates.standing c.args.program.templates.now) (g.T.Templates.joins c.args.program.templates.now) (g.T.Callbacks.callables c.args.program.templates.now) (roots_of c.args.program) c.args.program.rules c.args.state.now c.args.pending (macro_plan s.around.limit c.args.pending c.args.state.now c.args.args.items (macro_of c.args.state.now c.args.id c.args.number)) begun found) refl found.room c.args.left.now c.run_from-ran.new.left (g.S.Sink.taken c.args.sink.now) (g.S.Sink.taken c.run_from-ran.new.sink) c.enter_macro.new.self c.run_from-ran.new.state
-    (macro_begins (g.T.Templates.standing c.args.program.templates.now) (g.T.Templates.joins c.args.program.templates.now) (g.T.Callbacks.callables c.args.program.templates.now) (roots_of c.args.program) c.args.program.rules c.args.state.now c.args.pending (macro_plan s.around.limit c.args.pending c.args.state.now c.args.args.items (macro_of c.args.state.now c.args.id c.args.number)) begun found c.enter_macro.new.self c.in_ok-caller.ensures.within) _ _ value c.in-Err.stop c.in-Err.stop
+    let y = macro_entered (g.T.Templates.standing c.args.program.templates.now) (g.T.Templates.joins c.args.program.templates.now) (g.T.Callbacks.callables c.args.program.templates.now) (roots_of c.args.program) c.args.program.rules c.args.state.now c.args.asked.pending (macro_plan s.around.limit c.args.asked.pending c.args.state.now c.args.args.items (macro_of c.args.state.now c.args.asked.id c.args.asked.number)) begun found in
+    plan_as value s (macro_plan s.around.limit c.args.asked.pending c.args.state.now c.args.args.items (macro_of c.args.state.now c.args.asked.id c.args.asked.number)) _ c.args.state.now c.args.left.now (g.S.Sink.taken c.args.sink.now) (Err c.in-Err.stop) c.leave_macro.new.self c.run_from-ran.new.left (g.S.Sink.taken c.run_from-ran.new.sink) found.planned
+    (within_breaks (g.T.Templates.standing c.args.program.templates.now) (g.T.Templates.joins c.args.program.templates.now) (g.T.Callbacks.callables c.args.program.templates.now) (roots_of c.args.program) c.args.program.rules (macro_levels + c.args.asked.pending) c.args.state.now y
+    (macro_keyed (g.T.Templates.standing c.args.program.templates.now) (g.T.Templates.joins c.args.program.templates.now) (g.T.Callbacks.callables c.args.program.templates.now) (roots_of c.args.program) c.args.program.rules c.args.state.now c.args.asked.pending (macro_plan s.around.limit c.args.asked.pending c.args.state.now c.args.args.items (macro_of c.args.state.now c.args.asked.id c.args.asked.number)) begun found) refl found.room c.args.left.now c.run_from-ran.new.left (g.S.Sink.taken c.args.sink.now) (g.S.Sink.taken c.run_from-ran.new.sink) c.enter_macro.new.self c.run_from-ran.new.state
+    (macro_begins (g.T.Templates.standing c.args.program.templates.now) (g.T.Templates.joins c.args.program.templates.now) (g.T.Callbacks.callables c.args.program.templates.now) (roots_of c.args.program) c.args.program.rules c.args.state.now c.args.asked.pending (macro_plan s.around.limit c.args.asked.pending c.args.state.now c.args.args.items (macro_of c.args.state.now c.args.asked.id c.args.asked.number)) begun found c.enter_macro.new.self c.in_ok-caller.ensures.within) _ _ value c.in-Err.stop c.in-Err.stop
     c.run_from-ran.result c.leave_macro.new.self c.in-Err.is
-    (macro_runs (g.T.Templates.standing c.args.program.templates.now) (g.T.Templates.joins c.args.program.templates.now) (g.T.Callbacks.callables c.args.program.templates.now) (roots_of c.args.program) c.args.program.rules c.args.state.now c.args.pending (macro_plan s.around.limit c.args.pending c.args.state.now c.args.args.items (macro_of c.args.state.now c.args.id c.args.number)) begun found c.enter_macro.new.self c.args.left.now c.run_from-ran.new.left (g.S.Sink.taken c.args.sink.now) (g.S.Sink.taken c.run_from-ran.new.sink) c.run_from-ran.result c.run_from-ran.new.state c.run_from-ran.ensures.runs) refl
+    (macro_runs (g.T.Templates.standing c.args.program.templates.now) (g.T.Templates.joins c.args.program.templates.now) (g.T.Callbacks.callables c.args.program.templates.now) (roots_of c.args.program) c.args.program.rules c.args.state.now c.args.asked.pending (macro_plan s.around.limit c.args.asked.pending c.args.state.now c.args.args.items (macro_of c.args.state.now c.args.asked.id c.args.asked.number)) begun found c.enter_macro.new.self c.args.left.now c.run_from-ran.new.left (g.S.Sink.taken c.args.sink.now) (g.S.Sink.taken c.run_from-ran.new.sink) c.run_from-ran.result c.run_from-ran.new.state c.run_from-ran.ensures.runs) refl
     (c.leave_macro.ensures ∙ ap (λ (k : Caller). after_by calls_macro k c.run_from-ran.new.state) c.in_ok-caller.ensures.kept))
 
 pub macros::call_macro-returns-in-Ok-clause-failures : goal.macros::call_macro-returns-in-Ok-clause-failures
@@ -1071,9 +1071,9 @@ macros::call_macro-returns-in-Ok-clause-keeps g t c =
     let s = programs_in g.T.Templates.standing g.T.Templates.joins g.T.Callbacks.callables c.args.program in
     let begun = c.in_ok-begun.begun in
     let found = c.in_ok-begun.ensures.begun in
-    comes_back c.args.state.now (macro_entered (g.T.Templates.standing c.args.program.templates.now) (g.T.Templates.joins c.args.program.templates.now) (g.T.Callbacks.callables c.args.program.templates.now) (roots_of c.args.program) c.args.program.rules c.args.state.now c.args.pending (macro_plan s.around.limit c.args.pending c.args.state.now c.args.args.items (macro_of c.args.state.now c.args.id c.args.number)) begun found) c.enter_macro.new.self c.run_from-ran.new.state
-    (macro_begins (g.T.Templates.standing c.args.program.templates.now) (g.T.Templates.joins c.args.program.templates.now) (g.T.Callbacks.callables c.args.program.templates.now) (roots_of c.args.program) c.args.program.rules c.args.state.now c.args.pending (macro_plan s.around.limit c.args.pending c.args.state.now c.args.args.items (macro_of c.args.state.now c.args.id c.args.number)) begun found c.enter_macro.new.self c.in_ok-caller.ensures.within) c.run_from-ran.ensures.keeps
-    (macro_begun c.args.state.now c.args.pending found.called found.over) c.leave_macro_text.new.self
+    comes_back c.args.state.now (macro_entered (g.T.Templates.standing c.args.program.templates.now) (g.T.Templates.joins c.args.program.templates.now) (g.T.Callbacks.callables c.args.program.templates.now) (roots_of c.args.program) c.args.program.rules c.args.state.now c.args.asked.pending (macro_plan s.around.limit c.args.asked.pending c.args.state.now c.args.args.items (macro_of c.args.state.now c.args.asked.id c.args.asked.number)) begun found) c.enter_macro.new.self c.run_from-ran.new.state
+    (macro_begins (g.T.Templates.standing c.args.program.templates.now) (g.T.Templates.joins c.args.program.templates.now) (g.T.Callbacks.callables c.args.program.templates.now) (roots_of c.args.program) c.args.program.rules c.args.state.now c.args.asked.pending (macro_plan s.around.limit c.args.asked.pending c.args.state.now c.args.args.items (macro_of c.args.state.now c.args.asked.id c.args.asked.number)) begun found c.enter_macro.new.self c.in_ok-caller.ensures.within) c.run_from-ran.ensures.keeps
+    (macro_begun c.args.state.now c.args.asked.pending found.called found.over) c.leave_macro_text.new.self
     (c.leave_macro_text.ensures.ended ∙ ap (λ (k : Caller). after_by calls_macro k c.run_from-ran.new.state) c.in_ok-caller.ensures.kept)
 
 pub macros::call_macro-returns-in-Ok-clause-frames : goal.macros::call_macro-returns-in-Ok-clause-frames
@@ -1081,8 +1081,8 @@ macros::call_macro-returns-in-Ok-clause-frames g t c =
     let s = programs_in g.T.Templates.standing g.T.Templates.joins g.T.Callbacks.callables c.args.program in
     let begun = c.in_ok-begun.begun in
     let found = c.in_ok-begun.ensures.begun in
-    frames_back c.args.state.now (macro_entered (g.T.Templates.standing c.args.program.templates.now) (g.T.Templates.joins c.args.program.templates.now) (g.T.Callbacks.callables c.args.program.templates.now) (roots_of c.args.program) c.args.program.rules c.args.state.now c.args.pending (macro_plan s.around.limit c.args.pending c.args.state.now c.args.args.items (macro_of c.args.state.now c.args.id c.args.number)) begun found) c.enter_macro.new.self c.run_from-ran.new.state
-    (macro_begins (g.T.Templates.standing c.args.program.templates.now) (g.T.Templates.joins c.args.program.templates.now) (g.T.Callbacks.callables c.args.program.templates.now) (roots_of c.args.program) c.args.program.rules c.args.state.now c.args.pending (macro_plan s.around.limit c.args.pending c.args.state.now c.args.args.items (macro_of c.args.state.now c.args.id c.args.number)) begun found c.enter_macro.new.self c.in_ok-caller.ensures.within) c.run_from-ran.ensures.keeps
+    frames_back c.args.state.now (macro_entered (g.T.Templates.standing c.args.program.templates.now) (g.T.Templates.joins c.args.program.templates.now) (g.T.Callbacks.callables c.args.program.templates.now) (roots_of c.args.program) c.args.program.rules c.args.state.now c.args.asked.pending (macro_plan s.around.limit c.args.asked.pending c.args.state.now c.args.args.items (macro_of c.args.state.now c.args.asked.id c.args.asked.number)) begun found) c.enter_macro.new.self c.run_from-ran.new.state
+    (macro_begins (g.T.Templates.standing c.args.program.templates.now) (g.T.Templates.joins c.args.program.templates.now) (g.T.Callbacks.callables c.args.program.templates.now) (roots_of c.args.program) c.args.program.rules c.args.state.now c.args.asked.pending (macro_plan s.around.limit c.args.asked.pending c.args.state.now c.args.args.items (macro_of c.args.state.now c.args.asked.id c.args.asked.number)) begun found c.enter_macro.new.self c.in_ok-caller.ensures.within) c.run_from-ran.ensures.keeps
     (record empty_frame { locals = found.over.locals; reads = found.called.closure }) refl refl c.leave_macro_text.new.self
     (ap (λ (w : World). w.frames)
     (c.leave_macro_text.ensures.ended ∙ ap (λ (k : Caller). after_by calls_macro k c.run_from-ran.new.state) c.in_ok-caller.ensures.kept))
@@ -1096,9 +1096,9 @@ macros::call_macro-returns-clause-keeps g t c =
     let s = programs_in g.T.Templates.standing g.T.Templates.joins g.T.Callbacks.callables c.args.program in
     let begun = c.in_ok-begun.begun in
     let found = c.in_ok-begun.ensures.begun in
-    comes_back c.args.state.now (macro_entered (g.T.Templates.standing c.args.program.templates.now) (g.T.Templates.joins c.args.program.templates.now) (g.T.Callbacks.callables c.args.program.templates.now) (roots_of c.args.program) c.args.program.rules c.args.state.now c.args.pending (macro_plan s.around.limit c.args.pending c.args.state.now c.args.args.items (macro_of c.args.state.now c.args.id c.args.number)) begun found) c.enter_macro.new.self c.run_from-ran.new.state
-    (macro_begins (g.T.Templates.standing c.args.program.templates.now) (g.T.Templates.joins c.args.program.templates.now) (g.T.Callbacks.callables c.args.program.templates.now) (roots_of c.args.program) c.args.program.rules c.args.state.now c.args.pending (macro_plan s.around.limit c.args.pending c.args.state.now c.args.args.items (macro_of c.args.state.now c.args.id c.args.number)) begun found c.enter_macro.new.self c.in_ok-caller.ensures.within) c.run_from-ran.ensures.keeps
-    (macro_begun c.args.state.now c.args.pending found.called found.over) c.leave_macro.new.self
+    comes_back c.args.state.now (macro_entered (g.T.Templates.standing c.args.program.templates.now) (g.T.Templates.joins c.args.program.templates.now) (g.T.Callbacks.callables c.args.program.templates.now) (roots_of c.args.program) c.args.program.rules c.args.state.now c.args.asked.pending (macro_plan s.around.limit c.args.asked.pending c.args.state.now c.args.args.items (macro_of c.args.state.now c.args.asked.id c.args.asked.number)) begun found) c.enter_macro.new.self c.run_from-ran.new.state
+    (macro_begins (g.T.Templates.standing c.args.program.templates.now) (g.T.Templates.joins c.args.program.templates.now) (g.T.Callbacks.callables c.args.program.templates.now) (roots_of c.args.program) c.args.program.rules c.args.state.now c.args.asked.pending (macro_plan s.around.limit c.args.asked.pending c.args.state.now c.args.args.items (macro_of c.args.state.now c.args.asked.id c.args.asked.number)) begun found c.enter_macro.new.self c.in_ok-caller.ensures.within) c.run_from-ran.ensures.keeps
+    (macro_begun c.args.state.now c.args.asked.pending found.called found.over) c.leave_macro.new.self
     (c.leave_macro.ensures ∙ ap (λ (k : Caller). after_by calls_macro k c.run_from-ran.new.state) c.in_ok-caller.ensures.kept)
 
 pub macros::call_macro-returns-clause-frames : goal.macros::call_macro-returns-clause-frames
@@ -1106,8 +1106,8 @@ macros::call_macro-returns-clause-frames g t c =
     let s = programs_in g.T.Templates.standing g.T.Templates.joins g.T.Callbacks.callables c.args.program in
     let begun = c.in_ok-begun.begun in
     let found = c.in_ok-begun.ensures.begun in
-    frames_back c.args.state.now (macro_entered (g.T.Templates.standing c.args.program.templates.now) (g.T.Templates.joins c.args.program.templates.now) (g.T.Callbacks.callables c.args.program.templates.now) (roots_of c.args.program) c.args.program.rules c.args.state.now c.args.pending (macro_plan s.around.limit c.args.pending c.args.state.now c.args.args.items (macro_of c.args.state.now c.args.id c.args.number)) begun found) c.enter_macro.new.self c.run_from-ran.new.state
-    (macro_begins (g.T.Templates.standing c.args.program.templates.now) (g.T.Templates.joins c.args.program.templates.now) (g.T.Callbacks.callables c.args.program.templates.now) (roots_of c.args.program) c.args.program.rules c.args.state.now c.args.pending (macro_plan s.around.limit c.args.pending c.args.state.now c.args.args.items (macro_of c.args.state.now c.args.id c.args.number)) begun found c.enter_macro.new.self c.in_ok-caller.ensures.within) c.run_from-ran.ensures.keeps
+    frames_back c.args.state.now (macro_entered (g.T.Templates.standing c.args.program.templates.now) (g.T.Templates.joins c.args.program.templates.now) (g.T.Callbacks.callables c.args.program.templates.now) (roots_of c.args.program) c.args.program.rules c.args.state.now c.args.asked.pending (macro_plan s.around.limit c.args.asked.pending c.args.state.now c.args.args.items (macro_of c.args.state.now c.args.asked.id c.args.asked.number)) begun found) c.enter_macro.new.self c.run_from-ran.new.state
+    (macro_begins (g.T.Templates.standing c.args.program.templates.now) (g.T.Templates.joins c.args.program.templates.now) (g.T.Callbacks.callables c.args.program.templates.now) (roots_of c.args.program) c.args.program.rules c.args.state.now c.args.asked.pending (macro_plan s.around.limit c.args.asked.pending c.args.state.now c.args.args.items (macro_of c.args.state.now c.args.asked.id c.args.asked.number)) begun found c.enter_macro.new.self c.in_ok-caller.ensures.within) c.run_from-ran.ensures.keeps
     (record empty_frame { locals = found.over.locals; reads = found.called.closure }) refl refl c.leave_macro.new.self
     (ap (λ (w : World). w.frames)
     (c.leave_macro.ensures ∙ ap (λ (k : Caller). after_by calls_macro k c.run_from-ran.new.state) c.in_ok-caller.ensures.kept))
@@ -1360,8 +1360,8 @@ rounds::print_rounds-returns-clause-keeps g t c =
 pub rounds::call_rounds-returns-in_err-over-clause-plan : goal.rounds::call_rounds-returns-in_err-over-clause-plan
 rounds::call_rounds-returns-in_err-over-clause-plan g t c =
     let s = programs_in g.T.Templates.standing g.T.Templates.joins g.T.Callbacks.callables c.args.program in
-    stops_first value s (again_plan s.around c.args.state.now c.args.args.items (loop_of c.args.state.now c.args.id c.args.number)) c.args.state.now c.args.left.now (g.S.Sink.taken c.args.sink.now) _ c.from_residual.result c.from_residual.ensures.1
-    (inr (again_refused s c.args.state.now c.args.args.items (loop_of c.args.state.now c.args.id c.args.number) _ (c.in_err-over.ensures.refused.1 s.around c.args.state.now (loop_of c.args.state.now c.args.id c.args.number)) c.in_err-over.ensures.refused.0))
+    stops_first value s (again_plan s.around c.args.state.now c.args.args.items (loop_of c.args.state.now c.args.which.id c.args.which.number)) c.args.state.now c.args.left.now (g.S.Sink.taken c.args.sink.now) _ c.from_residual.result c.from_residual.ensures.1
+    (inr (again_refused s c.args.state.now c.args.args.items (loop_of c.args.state.now c.args.which.id c.args.which.number) _ (c.in_err-over.ensures.refused.1 s.around c.args.state.now (loop_of c.args.state.now c.args.which.id c.args.which.number)) c.in_err-over.ensures.refused.0))
 
 pub rounds::call_rounds-returns-in_err-over-clause-failures : goal.rounds::call_rounds-returns-in_err-over-clause-failures
 rounds::call_rounds-returns-in_err-over-clause-failures g t c =
@@ -1373,8 +1373,8 @@ rounds::call_rounds-returns-in_err-over-clause-keeps g t c = world_stays c.args.
 pub rounds::call_rounds-returns-in_default-clause-plan : goal.rounds::call_rounds-returns-in_default-clause-plan
 rounds::call_rounds-returns-in_default-clause-plan g t c =
     let s = programs_in g.T.Templates.standing g.T.Templates.joins g.T.Callbacks.callables c.args.program in
-    refuses s (again_plan s.around c.args.state.now c.args.args.items (loop_of c.args.state.now c.args.id c.args.number)) c.args.state.now c.args.left.now (g.S.Sink.taken c.args.sink.now) value c.new.result
-    (again_refused s c.args.state.now c.args.args.items (loop_of c.args.state.now c.args.id c.args.number) c.new.result (no_loop_known s c.args.state.now c.args.args.items c.in_ok-over.over (loop_of c.args.state.now c.args.id c.args.number) c.in_ok-over.ensures.only c.in_default.ensures) c.new.ensures)
+    refuses s (again_plan s.around c.args.state.now c.args.args.items (loop_of c.args.state.now c.args.which.id c.args.which.number)) c.args.state.now c.args.left.now (g.S.Sink.taken c.args.sink.now) value c.new.result
+    (again_refused s c.args.state.now c.args.args.items (loop_of c.args.state.now c.args.which.id c.args.which.number) c.new.result (no_loop_known s c.args.state.now c.args.args.items c.in_ok-over.over (loop_of c.args.state.now c.args.which.id c.args.which.number) c.in_ok-over.ensures.only c.in_default.ensures) c.new.ensures)
 
 pub rounds::call_rounds-returns-in_default-clause-keeps : goal.rounds::call_rounds-returns-in_default-clause-keeps
 rounds::call_rounds-returns-in_default-clause-keeps g t c = world_stays c.args.state.now
@@ -1382,8 +1382,8 @@ rounds::call_rounds-returns-in_default-clause-keeps g t c = world_stays c.args.s
 pub rounds::call_rounds-returns-in_err-again-clause-plan : goal.rounds::call_rounds-returns-in_err-again-clause-plan
 rounds::call_rounds-returns-in_err-again-clause-plan g t c =
     let s = programs_in g.T.Templates.standing g.T.Templates.joins g.T.Callbacks.callables c.args.program in
-    stops_first value s (again_plan s.around c.args.state.now c.args.args.items (loop_of c.args.state.now c.args.id c.args.number)) c.args.state.now c.args.left.now (g.S.Sink.taken c.args.sink.now) _ c.from_residual-in_err-again.result c.from_residual-in_err-again.ensures.1
-    (inr (refused_plan s (again_plan s.around c.args.state.now c.args.args.items (loop_of c.args.state.now c.args.id c.args.number)) (rounds_plan s.around c.args.state.now true c.in_ok-over.over c.in-Some.current.now) c.args.state.now _ (loop_known s c.args.state.now c.args.args.items c.in_ok-over.over c.in-Some.current.now (loop_of c.args.state.now c.args.id c.args.number) c.in_ok-over.ensures.only c.in-Some.ensures) (not_recursive s c.args.state.now true c.in_ok-over.over c.in-Some.current.now _ c.in_err-again.ensures.refused.0 c.in_err-again.ensures.refused.1)))
+    stops_first value s (again_plan s.around c.args.state.now c.args.args.items (loop_of c.args.state.now c.args.which.id c.args.which.number)) c.args.state.now c.args.left.now (g.S.Sink.taken c.args.sink.now) _ c.from_residual-in_err-again.result c.from_residual-in_err-again.ensures.1
+    (inr (refused_plan s (again_plan s.around c.args.state.now c.args.args.items (loop_of c.args.state.now c.args.which.id c.args.which.number)) (rounds_plan s.around c.args.state.now true c.in_ok-over.over c.in-Some.current.now) c.args.state.now _ (loop_known s c.args.state.now c.args.args.items c.in_ok-over.over c.in-Some.current.now (loop_of c.args.state.now c.args.which.id c.args.which.number) c.in_ok-over.ensures.only c.in-Some.ensures) (not_recursive s c.args.state.now true c.in_ok-over.over c.in-Some.current.now _ c.in_err-again.ensures.refused.0 c.in_err-again.ensures.refused.1)))
 
 pub rounds::call_rounds-returns-in_err-again-clause-failures : goal.rounds::call_rounds-returns-in_err-again-clause-failures
 rounds::call_rounds-returns-in_err-again-clause-failures g t c =
@@ -1395,7 +1395,7 @@ rounds::call_rounds-returns-in_err-again-clause-keeps g t c = world_stays c.args
 pub rounds::call_rounds-returns-in_err-begun-clause-plan : goal.rounds::call_rounds-returns-in_err-begun-clause-plan
 rounds::call_rounds-returns-in_err-begun-clause-plan g t c =
     let s = programs_in g.T.Templates.standing g.T.Templates.joins g.T.Callbacks.callables c.args.program in
-    rounds_refused s c.args.state.now value true c.in_ok-over.over c.in-Some.current.now (rounds_in c.in_ok-again.again.rounds) (again_plan s.around c.args.state.now c.args.args.items (loop_of c.args.state.now c.args.id c.args.number)) c.args.left.now (g.S.Sink.taken c.args.sink.now) _ c.from_residual-in_err-begun.result (loop_known s c.args.state.now c.args.args.items c.in_ok-over.over c.in-Some.current.now (loop_of c.args.state.now c.args.id c.args.number) c.in_ok-over.ensures.only c.in-Some.ensures) c.in_ok-again.ensures.again.0 c.from_residual-in_err-begun.ensures.1
+    rounds_refused s c.args.state.now value true c.in_ok-over.over c.in-Some.current.now (rounds_in c.in_ok-again.again.rounds) (again_plan s.around c.args.state.now c.args.args.items (loop_of c.args.state.now c.args.which.id c.args.which.number)) c.args.left.now (g.S.Sink.taken c.args.sink.now) _ c.from_residual-in_err-begun.result (loop_known s c.args.state.now c.args.args.items c.in_ok-over.over c.in-Some.current.now (loop_of c.args.state.now c.args.which.id c.args.which.number) c.in_ok-over.ensures.only c.in-Some.ensures) c.in_ok-again.ensures.again.0 c.from_residual-in_err-begun.ensures.1
     c.in_err-begun.ensures.refused
 
 pub rounds::call_rounds-returns-in_err-begun-clause-failures : goal.rounds::call_rounds-returns-in_err-begun-clause-failures
@@ -1414,7 +1414,7 @@ rounds::call_rounds-enter_rounds-requires g t c =
 pub rounds::call_rounds-returns-in_err-caller-clause-plan : goal.rounds::call_rounds-returns-in_err-caller-clause-plan
 rounds::call_rounds-returns-in_err-caller-clause-plan g t c =
     let s = programs_in g.T.Templates.standing g.T.Templates.joins g.T.Callbacks.callables c.args.program in
-    lacks_first value s (again_plan s.around c.args.state.now c.args.args.items (loop_of c.args.state.now c.args.id c.args.number)) c.args.state.now c.args.left.now (g.S.Sink.taken c.args.sink.now) _ c.from_residual-in_err-caller.result c.enter_rounds.new.self c.from_residual-in_err-caller.ensures.1 c.in_err-caller.ensures.refused
+    lacks_first value s (again_plan s.around c.args.state.now c.args.args.items (loop_of c.args.state.now c.args.which.id c.args.which.number)) c.args.state.now c.args.left.now (g.S.Sink.taken c.args.sink.now) _ c.from_residual-in_err-caller.result c.enter_rounds.new.self c.from_residual-in_err-caller.ensures.1 c.in_err-caller.ensures.refused
 
 pub rounds::call_rounds-returns-in_err-caller-clause-failures : goal.rounds::call_rounds-returns-in_err-caller-clause-failures
 rounds::call_rounds-returns-in_err-caller-clause-failures g t c =
@@ -1444,7 +1444,7 @@ rounds::call_rounds-returns-in-Ok-clause-plan g t c =
     let s = programs_in g.T.Templates.standing g.T.Templates.joins g.T.Callbacks.callables c.args.program in
     let found = (c.in_ok-begun.ensures.begun true c.in-Some.current.now c.in_ok-again.ensures.again.0) in
     let y = rounds_entered (g.T.Templates.standing c.args.program.templates.now) (g.T.Templates.joins c.args.program.templates.now) (g.T.Callbacks.callables c.args.program.templates.now) (roots_of c.args.program) c.args.program.rules c.args.state.now true c.in-Some.current.now (rounds_in c.in_ok-again.again.rounds) c.in_ok-over.over c.in_ok-begun.begun found in
-    plan_as value s (again_plan s.around c.args.state.now c.args.args.items (loop_of c.args.state.now c.args.id c.args.number)) _ c.args.state.now c.args.left.now (g.S.Sink.taken c.args.sink.now) c.told_by.result c.leave_rounds_text.new.self c.run_from-ran.new.left (g.S.Sink.taken c.run_from-ran.new.sink) (loop_known s c.args.state.now c.args.args.items c.in_ok-over.over c.in-Some.current.now (loop_of c.args.state.now c.args.id c.args.number) c.in_ok-over.ensures.only c.in-Some.ensures ∙ found.planned)
+    plan_as value s (again_plan s.around c.args.state.now c.args.args.items (loop_of c.args.state.now c.args.which.id c.args.which.number)) _ c.args.state.now c.args.left.now (g.S.Sink.taken c.args.sink.now) c.told_by.result c.leave_rounds_text.new.self c.run_from-ran.new.left (g.S.Sink.taken c.run_from-ran.new.sink) (loop_known s c.args.state.now c.args.args.items c.in_ok-over.over c.in-Some.current.now (loop_of c.args.state.now c.args.which.id c.args.which.number) c.in_ok-over.ensures.only c.in-Some.ensures ∙ found.planned)
     (within_gives (g.T.Templates.standing c.args.program.templates.now) (g.T.Templates.joins c.args.program.templates.now) (g.T.Callbacks.callables c.args.program.templates.now) (roots_of c.args.program) c.args.program.rules 1 c.args.state.now y
     (rounds_keyed (g.T.Templates.standing c.args.program.templates.now) (g.T.Templates.joins c.args.program.templates.now) (g.T.Callbacks.callables c.args.program.templates.now) (roots_of c.args.program) c.args.program.rules c.args.state.now true c.in-Some.current.now (rounds_in c.in_ok-again.again.rounds) c.in_ok-over.over c.in_ok-begun.begun found) refl found.room c.args.left.now c.run_from-ran.new.left (g.S.Sink.taken c.args.sink.now) (g.S.Sink.taken c.run_from-ran.new.sink) c.enter_rounds.new.self c.run_from-ran.new.state
     (c.in_ok-caller.ensures.within c.in-Some.current.now c.in_ok-again.ensures.again.1) _ (captured c.args.state.now.escape (innermost c.run_from-ran.new.state.captures)) c.run_from-ran.result c.leave_rounds_text.result c.told_by.result c.leave_rounds_text.new.self c.in-Ok.is
@@ -1457,7 +1457,7 @@ rounds::call_rounds-returns-clause-plan g t c =
     let s = programs_in g.T.Templates.standing g.T.Templates.joins g.T.Callbacks.callables c.args.program in
     let found = (c.in_ok-begun.ensures.begun true c.in-Some.current.now c.in_ok-again.ensures.again.0) in
     let y = rounds_entered (g.T.Templates.standing c.args.program.templates.now) (g.T.Templates.joins c.args.program.templates.now) (g.T.Callbacks.callables c.args.program.templates.now) (roots_of c.args.program) c.args.program.rules c.args.state.now true c.in-Some.current.now (rounds_in c.in_ok-again.again.rounds) c.in_ok-over.over c.in_ok-begun.begun found in
-    plan_as value s (again_plan s.around c.args.state.now c.args.args.items (loop_of c.args.state.now c.args.id c.args.number)) _ c.args.state.now c.args.left.now (g.S.Sink.taken c.args.sink.now) (Err c.in-Err.stop) c.leave_named_rounds.new.self c.run_from-ran.new.left (g.S.Sink.taken c.run_from-ran.new.sink) (loop_known s c.args.state.now c.args.args.items c.in_ok-over.over c.in-Some.current.now (loop_of c.args.state.now c.args.id c.args.number) c.in_ok-over.ensures.only c.in-Some.ensures ∙ found.planned)
+    plan_as value s (again_plan s.around c.args.state.now c.args.args.items (loop_of c.args.state.now c.args.which.id c.args.which.number)) _ c.args.state.now c.args.left.now (g.S.Sink.taken c.args.sink.now) (Err c.in-Err.stop) c.leave_named_rounds.new.self c.run_from-ran.new.left (g.S.Sink.taken c.run_from-ran.new.sink) (loop_known s c.args.state.now c.args.args.items c.in_ok-over.over c.in-Some.current.now (loop_of c.args.state.now c.args.which.id c.args.which.number) c.in_ok-over.ensures.only c.in-Some.ensures ∙ found.planned)
     (within_breaks (g.T.Templates.standing c.args.program.templates.now) (g.T.Templates.joins c.args.program.templates.now) (g.T.Callbacks.callables c.args.program.templates.now) (roots_of c.args.program) c.args.program.rules 1 c.args.state.now y
     (rounds_keyed (g.T.Templates.standing c.args.program.templates.now) (g.T.Templates.joins c.args.program.templates.now) (g.T.Callbacks.callables c.args.program.templates.now) (roots_of c.args.program) c.args.program.rules c.args.state.now true c.in-Some.current.now (rounds_in c.in_ok-again.again.rounds) c.in_ok-over.over c.in_ok-begun.begun found) refl found.room c.args.left.now c.run_from-ran.new.left (g.S.Sink.taken c.args.sink.now) (g.S.Sink.taken c.run_from-ran.new.sink) c.enter_rounds.new.self c.run_from-ran.new.state
     (c.in_ok-caller.ensures.within c.in-Some.current.now c.in_ok-again.ensures.again.1) _ _ value c.in-Err.stop c.in-Err.stop c.run_from-ran.result c.leave_named_rounds.new.self c.in-Err.is

@@ -72,7 +72,7 @@ abbrev pub invariant-running::run_from-loop : goal.invariant-running::run_from-l
 invariant-running::run_from-loop g l =
     let templates = l.program.templates.now in
     let s = programs_in g.T.Templates.standing g.T.Templates.joins g.T.Callbacks.callables l.program in
-    Goes (answer s) (code_in l.code) (spot l.start (operands_in l.fn.operands) l.fn.state l.fn.left (g.S.Sink.taken l.fn.sink)) (spot l.place (operands_in l.operands) l.state l.left (g.S.Sink.taken l.sink))
+    Goes (answer s) (code_in l.start.code.now) (spot l.start.place (operands_in l.fn.operands) l.fn.state l.fn.left (g.S.Sink.taken l.fn.sink)) (spot l.place (operands_in l.operands) l.state l.left (g.S.Sink.taken l.sink))
     × (g.S.Sink.failures l.sink ≡ g.S.Sink.failures l.fn.sink)
 
 abbrev pub invariant-whole::run_whole-loop : goal.invariant-whole::run_whole-loop

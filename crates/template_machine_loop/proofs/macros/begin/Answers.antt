@@ -10,36 +10,36 @@ use Rattle.template_machine_loop.proofs.macros.begin.Goals as goal
 
 pub returns-in_default-clause-refused : goal.returns-in_default-clause-refused
 returns-in_default-clause-refused g c =
-    inr (no_macro (g.T.Templates.standing c.args.program.templates.now) (g.T.Templates.joins c.args.program.templates.now) (g.T.Callbacks.callables c.args.program.templates.now) (roots_of c.args.program) c.args.program.rules c.args.state.now c.args.id c.args.number c.args.pending c.args.args.items
+    inr (no_macro (g.T.Templates.standing c.args.program.templates.now) (g.T.Templates.joins c.args.program.templates.now) (g.T.Callbacks.callables c.args.program.templates.now) (roots_of c.args.program) c.args.program.rules c.args.state.now c.args.asked.id c.args.asked.number c.args.asked.pending c.args.args.items
     c.in_default.ensures c.new.result c.new.ensures)
 
 pub returns-in_err-bound-clause-refused : goal.returns-in_err-bound-clause-refused
 returns-in_err-bound-clause-refused g c =
     err_on _ _ c.from_residual.result c.from_residual.ensures.1
-    (unbound (g.T.Templates.standing c.args.program.templates.now) (g.T.Templates.joins c.args.program.templates.now) (g.T.Callbacks.callables c.args.program.templates.now) (roots_of c.args.program) c.args.program.rules c.args.state.now c.args.id c.args.number c.args.pending c.args.args.items
+    (unbound (g.T.Templates.standing c.args.program.templates.now) (g.T.Templates.joins c.args.program.templates.now) (g.T.Callbacks.callables c.args.program.templates.now) (roots_of c.args.program) c.args.program.rules c.args.state.now c.args.asked.id c.args.asked.number c.args.asked.pending c.args.args.items
     c.in-Some.called.now c.in-Some.ensures _ (c.in_err-bound.ensures c.in-Some.called.now (sym c.arguments.ensures) (sym c.takes_caller.ensures)))
 
 pub returns-in_err-bound-clause-spares : goal.returns-in_err-bound-clause-spares
 returns-in_err-bound-clause-spares g c =
     err_on _ _ c.from_residual.result c.from_residual.ensures.1
-    (unbound_spares (g.T.Templates.standing c.args.program.templates.now) (g.T.Templates.joins c.args.program.templates.now) (g.T.Callbacks.callables c.args.program.templates.now) (roots_of c.args.program) c.args.program.rules c.args.state.now c.args.id c.args.number c.args.pending c.args.args.items
+    (unbound_spares (g.T.Templates.standing c.args.program.templates.now) (g.T.Templates.joins c.args.program.templates.now) (g.T.Callbacks.callables c.args.program.templates.now) (roots_of c.args.program) c.args.program.rules c.args.state.now c.args.asked.id c.args.asked.number c.args.asked.pending c.args.args.items
     c.in-Some.called.now c.in-Some.ensures _ (c.in_err-bound.ensures c.in-Some.called.now (sym c.arguments.ensures) (sym c.takes_caller.ensures)))
 
 pub returns-then-not-has_room_beside-clause-refused : goal.returns-then-not-has_room_beside-clause-refused
 returns-then-not-has_room_beside-clause-refused g c =
-    inr (no_room (g.T.Templates.standing c.args.program.templates.now) (g.T.Templates.joins c.args.program.templates.now) (g.T.Callbacks.callables c.args.program.templates.now) (roots_of c.args.program) c.args.program.rules c.args.state.now c.args.id c.args.number c.args.pending c.args.args.items
+    inr (no_room (g.T.Templates.standing c.args.program.templates.now) (g.T.Templates.joins c.args.program.templates.now) (g.T.Callbacks.callables c.args.program.templates.now) (roots_of c.args.program) c.args.program.rules c.args.state.now c.args.asked.id c.args.asked.number c.args.asked.pending c.args.args.items
     c.in-Some.called.now c.in-Some.ensures c.in_ok-bound.bound (c.in_ok-bound.ensures c.in-Some.called.now (sym c.arguments.ensures) (sym c.takes_caller.ensures))
     (sym c.has_room_beside.ensures ∙ c.if-not-has_room_beside.true) c.new-then-not-has_room_beside.result c.new-then-not-has_room_beside.ensures)
 
 pub returns-in_default-code_of_stream-clause-refused : goal.returns-in_default-code_of_stream-clause-refused
 returns-in_default-code_of_stream-clause-refused g c =
-    inr (no_code (g.T.Templates.standing c.args.program.templates.now) (g.T.Templates.joins c.args.program.templates.now) (g.T.Callbacks.callables c.args.program.templates.now) (roots_of c.args.program) c.args.program.rules c.args.state.now c.args.id c.args.number c.args.pending c.args.args.items
+    inr (no_code (g.T.Templates.standing c.args.program.templates.now) (g.T.Templates.joins c.args.program.templates.now) (g.T.Callbacks.callables c.args.program.templates.now) (roots_of c.args.program) c.args.program.rules c.args.state.now c.args.asked.id c.args.asked.number c.args.asked.pending c.args.args.items
     c.in-Some.called.now c.in-Some.ensures c.in_ok-bound.bound (c.in_ok-bound.ensures c.in-Some.called.now (sym c.arguments.ensures) (sym c.takes_caller.ensures))
     (c.in_default-code_of_stream.ensures ∙ ap (code_at (g.T.Templates.standing c.args.program.templates.now) (roots_of c.args.program)) c.stream-stream.ensures) c.new-in_default-code_of_stream.result c.new-in_default-code_of_stream.ensures)
 
 pub returns-in_default-macro_at-clause-refused : goal.returns-in_default-macro_at-clause-refused
 returns-in_default-macro_at-clause-refused g c =
-    inr (no_place (g.T.Templates.standing c.args.program.templates.now) (g.T.Templates.joins c.args.program.templates.now) (g.T.Callbacks.callables c.args.program.templates.now) (roots_of c.args.program) c.args.program.rules c.args.state.now c.args.id c.args.number c.args.pending c.args.args.items
+    inr (no_place (g.T.Templates.standing c.args.program.templates.now) (g.T.Templates.joins c.args.program.templates.now) (g.T.Callbacks.callables c.args.program.templates.now) (roots_of c.args.program) c.args.program.rules c.args.state.now c.args.asked.id c.args.asked.number c.args.asked.pending c.args.args.items
     c.in-Some.called.now c.in-Some.ensures c.in_ok-bound.bound (c.in_ok-bound.ensures c.in-Some.called.now (sym c.arguments.ensures) (sym c.takes_caller.ensures))
     (code_in c.in-Some-code_of_stream.code.now)
     (c.in-Some-code_of_stream.ensures ∙ ap (code_at (g.T.Templates.standing c.args.program.templates.now) (roots_of c.args.program)) c.stream-stream.ensures)
@@ -49,7 +49,7 @@ returns-in_default-macro_at-clause-refused g c =
 pub returns-then-place-len-clause-refused : goal.returns-then-place-len-clause-refused
 returns-then-place-len-clause-refused g c =
     let arguments = c.in_ok-bound.bound.arguments in
-    inr (misfit (g.T.Templates.standing c.args.program.templates.now) (g.T.Templates.joins c.args.program.templates.now) (g.T.Callbacks.callables c.args.program.templates.now) (roots_of c.args.program) c.args.program.rules c.args.state.now c.args.id c.args.number c.args.pending c.args.args.items
+    inr (misfit (g.T.Templates.standing c.args.program.templates.now) (g.T.Templates.joins c.args.program.templates.now) (g.T.Callbacks.callables c.args.program.templates.now) (roots_of c.args.program) c.args.program.rules c.args.state.now c.args.asked.id c.args.asked.number c.args.asked.pending c.args.args.items
     c.in-Some.called.now c.in-Some.ensures c.in_ok-bound.bound (c.in_ok-bound.ensures c.in-Some.called.now (sym c.arguments.ensures) (sym c.takes_caller.ensures))
     (code_in c.in-Some-code_of_stream.code.now)
     (c.in-Some-code_of_stream.ensures ∙ ap (code_at (g.T.Templates.standing c.args.program.templates.now) (roots_of c.args.program)) c.stream-stream.ensures)
@@ -60,7 +60,7 @@ returns-then-place-len-clause-refused g c =
 pub returns-clause-begun : goal.returns-clause-begun
 returns-clause-begun g c =
     let arguments = c.in_ok-bound.bound.arguments in
-    finds (g.T.Templates.standing c.args.program.templates.now) (g.T.Templates.joins c.args.program.templates.now) (g.T.Callbacks.callables c.args.program.templates.now) (roots_of c.args.program) c.args.program.rules c.args.state.now c.args.id c.args.number c.args.pending c.args.args.items
+    finds (g.T.Templates.standing c.args.program.templates.now) (g.T.Templates.joins c.args.program.templates.now) (g.T.Callbacks.callables c.args.program.templates.now) (roots_of c.args.program) c.args.program.rules c.args.state.now c.args.asked.id c.args.asked.number c.args.asked.pending c.args.args.items
     c.in-Some.called.now c.in-Some.ensures c.in_ok-bound.bound (c.in_ok-bound.ensures c.in-Some.called.now (sym c.arguments.ensures) (sym c.takes_caller.ensures))
     (code_in c.in-Some-code_of_stream.code.now)
     (c.in-Some-code_of_stream.ensures ∙ ap (code_at (g.T.Templates.standing c.args.program.templates.now) (roots_of c.args.program)) c.stream-stream.ensures)
