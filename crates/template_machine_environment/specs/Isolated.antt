@@ -54,7 +54,8 @@ abbrev pub AgreeForSource : Brought → Registry → Source → Val → Val → 
 AgreeForSource k e source c d = (name : List ℕ) → IsContextName (setting_of k e) (tree_in source) name → AgreesAt c d name
 
 abbrev pub source_rendering : Brought → Registry → List ℕ → ℕ → Source → AutoEscape → ℕ → Val → Run World
-source_rendering k e name id source escape n c = rendered (setting_of k e) id n (record { name = name; tree = tree_in source; escape = escape }) c
+source_rendering k e name id source escape n c =
+    rendered (setting_of k e) id n (record { name = name; tree = tree_in source; escape = escape }) c
 
 abbrev pub IsSameForSource : Brought → Registry → Source → Val → Val → Type 0
 IsSameForSource k e source c d = (name : List ℕ) (id : ℕ) (escape : AutoEscape) (n : ℕ) (fuel : Option ℕ) →

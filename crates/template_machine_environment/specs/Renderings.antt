@@ -72,7 +72,8 @@ IsCut (Err kinds) failed fails = (NoMemory kinds × (fails ≡ failed)) ⊎ ((ki
 
 -- The call answers as the run ends, and its sink took the text without a failure. Or it was cut short, and its sink took a
 -- beginning of the text.
-pub data Renders {X S : Type 0} (result : Result X (List ErrorKind)) (before after : Option (List ℕ)) (failed fails : ℕ) (r : Run S) : Type 0 where
+pub data Renders {X S : Type 0} (result : Result X (List ErrorKind)) (before after : Option (List ℕ)) (failed fails : ℕ) (r : Run S)
+    : Type 0 where
   whole : EndsAs result r → Appends before after (text_of r.items) → fails ≡ failed → Renders result before after failed fails r
   broken : IsCut result failed fails → AppendsBeginning before after (text_of r.items) → Renders result before after failed fails r
 
@@ -100,7 +101,8 @@ pub record RendersText {X : Type 0} (k : Brought) (e : Registry) (c : Compiled) 
   pub exhausted : id ≡ last_id → (result ≡ Err (InvalidOperation ∷ [])) × (next ≡ id)
 
 -- The source is refused, and takes no number; or it is accepted, and rendered as a template of the name.
-abbrev pub RendersSource : {X : Type 0} → Brought → Registry → List ℕ → Source → Val → ℕ → ℕ → (X → List ℕ) → Result X (List ErrorKind) → Type 0
+abbrev pub RendersSource : {X : Type 0} → Brought → Registry → List ℕ → Source → Val → ℕ → ℕ
+    → (X → List ℕ) → Result X (List ErrorKind) → Type 0
 RendersSource k e name source context id next text result =
     (IsErrAnd result (IsRefusedWith source) × (next ≡ id))
     ⊎ (IsAccepted source × ((escape : AutoEscape) → IsEscapeOf source.escapes name escape
