@@ -2,6 +2,7 @@
 #![tactic(auto)]
 
 mod bringing;
+mod calls;
 mod environment;
 mod escaping;
 mod expression;
@@ -12,6 +13,7 @@ mod levels;
 mod names;
 mod namespaces;
 mod registry;
+mod running;
 mod starting;
 mod state;
 mod template;

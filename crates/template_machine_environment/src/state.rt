@@ -1,48 +1,29 @@
 //! States of templates, as callers see them.
-ghost use Rattle.std.specs.Prelude.{◌≡◌, ◌≢◌, ◌+◌, ◌∷◌, ◌⊎◌, [], ℕ, List, IfOk, IfErr, OnOk, OnErr, None, Some, Ok, Err, is_some, option_copied, option_map, string_bytes};
+ghost use Rattle.std.specs.Prelude.{◌≡◌, ◌≢◌, ◌+◌, ◌∷◌, ◌⊎◌, [], ℕ, List, IfOk, IfErr, OnOk, OnErr, Some, Ok, Err, is_some, option_copied, option_map};
 ghost use Rattle.std.specs.BTreeSet.{contains_text};
 ghost use Rattle.template_values_errors.specs.Memory.{NoMemory};
 ghost use Rattle.template_values_named.specs.Named.{local_at};
-ghost use Rattle.template_compiler_process.specs.Fuel.{under};
-ghost use Rattle.template_compiler_process.specs.Process.{value};
-ghost use Rattle.template_values_model.specs.Val.{truth};
 ghost use Rattle.template_machine_meaning.specs.Calls.{with_temps};
-ghost use Rattle.template_machine_meaning.specs.Functions.{filter_named, test_named};
-ghost use Rattle.template_machine_meaning.specs.Keeps.{KeepsWorld};
-ghost use Rattle.template_machine_meaning.specs.Plans.{put_back};
 ghost use Rattle.template_machine_meaning.specs.World.{looked_up};
 ghost use Rattle.template_machine_calls.specs.Formatted.{outside};
-ghost use Rattle.template_machine_calls.specs.Left.{entry_plan, reached_by};
-ghost use Rattle.template_machine_going.specs.Told.{SparesSink};
-ghost use Rattle.template_machine_renders.specs.Plans.{PutsBack, run_of};
 ghost use Rattle.template_machine_state.specs.Names.{is_exported};
-ghost use Rattle.template_compiler_code_shapes.specs.Checked.{kind_in};
-ghost use Rattle.template_compiler_code_shapes.specs.declared.StreamKind.{StreamKind};
 ghost use Rattle.template_machine_environment.specs.Extras.{user_answers};
 ghost use Rattle.template_machine_environment.specs.Reading.{registry_of};
-ghost use Rattle.template_machine_environment.specs.Renderings.{AnswersFailure, Finishes, GivesText, IsNoMore, LeavesFuel, Renders, WhereFinished, left_of, set_of};
 
 use crate::environment::Environment;
-use crate::laws::{every_block_ends, every_call_ends};
-use crate::levels::Levels;
-use crate::starting::{begun, own_name, program};
+use crate::levels::{Levels, unspent};
+use crate::starting::{begun, own_name};
 use crate::template::Template;
 use std::collections::BTreeSet;
 use template_callables::{Extension, NoExtension};
 use template_compiled::CompiledTemplate;
-use template_compiler_code_shapes::Checked;
-use template_machine_calls::{
-    Entry, Reached, call_filter, call_found, call_test, format_value, turn_all,
-};
-use template_machine_going::Stop;
-use template_machine_renders::{Templates, run_block, run_entry, run_stream};
-use template_machine_state::{Caller, State as MachineState};
-use template_machine_surroundings::{NullWriter, Sink, StateIds};
+use template_machine_calls::format_value;
+use template_machine_renders::Templates;
+use template_machine_state::State as MachineState;
+use template_machine_surroundings::StateIds;
 use template_values_core::{Entry as MapEntry, Value};
 use template_values_errors::{AutoEscape, Error, ErrorKind, UndefinedBehavior};
 use template_values_forms::{LoopView, MacroView, Records};
-use template_values_operators::growth::copies;
-use template_values_print::print_to;
 
 /// What surrounds a template: as a render of it left it, or without any frame.
 pub struct State<'env, 'source, E: Extension = NoExtension> {
@@ -72,7 +53,7 @@ impl<'env, 'source, E: Extension> Drop for State<'env, 'source, E> {
 
 impl<'env, 'source, E: Extension> State<'env, 'source, E> {
     ghost use Rattle.template_machine_environment.specs.Standing.{settings_of, source_at};
-    ghost use Rattle.template_machine_environment.specs.States.{DoesThere, EndsIn, GivesLeft, GivesPrinted, GivesTold, IsMissing, KeepsRest, KeepsState, LeavesWorld, Returns, WhereReturned, around_in, block_in, call_in, environment_in, format_in, frameless, fuel_left_in, fuel_set_in, head_of_template, id_in, joined_in, macro_in, name_in, own_in, stream_in, streams_in, template_in, worded_in, world_in};
+    ghost use Rattle.template_machine_environment.specs.States.{GivesPrinted, IsMissing, KeepsRest, environment_in, format_in, frameless, fuel_left_in, fuel_set_in, head_of_template, id_in, joined_in, name_in, template_in, world_in};
     ghost use Rattle.template_machine_environment.specs.Views.{environment_of, name_of, source_of};
 
     // A state without frames, of a template if one is given, with its escape and blocks, that has consumed no fuel.
@@ -189,220 +170,6 @@ impl<'env, 'source, E: Extension> State<'env, 'source, E> {
         self.machine.known_variables(self.environment.allocator())
     }
 
-    /// What a filter comes to for these arguments, the first of which is what it filters; and what it asks the machine further: that
-    /// may run a macro or a block, which consume the fuel that remains. Costs what the filter costs, and what it asks for.
-    ///
-    /// # Errors
-    ///
-    /// [`ErrorKind::UnknownFilter`] where the environment has none of this name; the fault that the filter answers with, or what
-    /// it asks for, by the kinds that it states; [`ErrorKind::InvalidOperation`] where more is asked for at once than there are
-    /// levels left; the fault of what runs; [`ErrorKind::OutOfMemory`] alone where a growth was refused. What was open before is
-    /// so again; temps may have been set, and of a fuel that ran out nothing is left.
-    pub fn apply_filter(&mut self, name: &str, args: &[Value]) -> Result<Value, Error>
-        // It is finished under some bound.
-        ensures finished { let says = user_answers E.Callable.answer E.Method.answer E.Formatter.answer E.Join.answer in
-            Returns (call_in says self.old (filter_named name.now) args.now) }
-
-        // Under each bound where it is finished, it is what the call comes to.
-        ensures told { let says = user_answers E.Callable.answer E.Method.answer E.Formatter.answer E.Join.answer in
-            WhereReturned (call_in says self.old (filter_named name.now) args.now) (GivesTold value (fuel_left_in self.old) result) }
-        ensures remains { let says = user_answers E.Callable.answer E.Method.answer E.Formatter.answer E.Join.answer in
-            WhereReturned (call_in says self.old (filter_named name.now) args.now)
-            (λ reply. LeavesFuel (fuel_left_in self.old) (run_of reply) result (fuel_left_in self.new)) }
-        ensures world { let says = user_answers E.Callable.answer E.Method.answer E.Formatter.answer E.Join.answer in
-            WhereReturned (call_in says self.old (filter_named name.now) args.now)
-            (λ reply. LeavesWorld (fuel_left_in self.old) (world_in self.old) result reply (world_in self.new)) }
-
-        // Whatever its end, the frames are as before, and so is what every run keeps: the state's number, what the environment gives,
-        // the block that runs, the names of what was loaded, with others before them at most, and the bodies that blocks run, with
-        // others behind them at most.
-        ensures frames { (world_in self.new).frames ≡ (world_in self.old).frames }
-        ensures keeps { KeepsWorld (world_in self.old) (world_in self.new) }
-
-        // Behind a fault what else was open is so again.
-        ensures put_back { OnErr result (PutsBack (world_in self.old) (world_in self.new)) }
-        ensures rest { KeepsState self.old self.new }
-    {
-        every_call_ends(self);
-        let environment = self.environment;
-        let rules = environment.registry.rules(own_name(self.template));
-        let alloc = environment.allocator();
-        let mark = self.machine.mark(alloc)?;
-        let reached = match call_filter(alloc, rules, environment, name, args, &mut self.machine) {
-            Ok(reached) => reached,
-            Err(stop) => return Err(stop.into_error()),
-        };
-        match self.come_to(reached) {
-            Ok(value) => Ok(value),
-            Err(stop) => Err(self.failed(mark, stop.into_error())),
-        }
-    }
-
-    /// What a test comes to for these arguments, the first of which is what it tests; and what it asks the machine further.
-    /// Costs what the test costs, and what it asks for.
-    ///
-    /// # Errors
-    ///
-    /// [`ErrorKind::UnknownTest`] where the environment has none of this name; else as [`State::apply_filter`].
-    pub fn perform_test(&mut self, name: &str, args: &[Value]) -> Result<bool, Error>
-        // It is finished under some bound.
-        ensures finished { let says = user_answers E.Callable.answer E.Method.answer E.Formatter.answer E.Join.answer in
-            Returns (call_in says self.old (test_named name.now) args.now) }
-
-        // Under each bound where it is finished, it is what the call comes to.
-        ensures told { let says = user_answers E.Callable.answer E.Method.answer E.Formatter.answer E.Join.answer in
-            WhereReturned (call_in says self.old (test_named name.now) args.now)
-            (GivesTold (λ is. value (truth is)) (fuel_left_in self.old) result) }
-        ensures remains { let says = user_answers E.Callable.answer E.Method.answer E.Formatter.answer E.Join.answer in
-            WhereReturned (call_in says self.old (test_named name.now) args.now)
-            (λ reply. LeavesFuel (fuel_left_in self.old) (run_of reply) result (fuel_left_in self.new)) }
-        ensures world { let says = user_answers E.Callable.answer E.Method.answer E.Formatter.answer E.Join.answer in
-            WhereReturned (call_in says self.old (test_named name.now) args.now)
-            (λ reply. LeavesWorld (fuel_left_in self.old) (world_in self.old) result reply (world_in self.new)) }
-
-        // Whatever its end, the frames are as before, and so is what every run keeps: the state's number, what the environment gives,
-        // the block that runs, the names of what was loaded, with others before them at most, and the bodies that blocks run, with
-        // others behind them at most.
-        ensures frames { (world_in self.new).frames ≡ (world_in self.old).frames }
-        ensures keeps { KeepsWorld (world_in self.old) (world_in self.new) }
-
-        // Behind a fault what else was open is so again.
-        ensures put_back { OnErr result (PutsBack (world_in self.old) (world_in self.new)) }
-        ensures rest { KeepsState self.old self.new }
-    {
-        every_call_ends(self);
-        let environment = self.environment;
-        let rules = environment.registry.rules(own_name(self.template));
-        let alloc = environment.allocator();
-        let mark = self.machine.mark(alloc)?;
-        let reached = match call_test(alloc, rules, environment, name, args, &mut self.machine) {
-            Ok(reached) => reached,
-            Err(stop) => return Err(stop.into_error()),
-        };
-        match self.come_to(reached) {
-            Ok(value) => Ok(value.is_true()),
-            Err(stop) => Err(self.failed(mark, stop.into_error())),
-        }
-    }
-
-    /// The text of what a call comes to of what stands under a name, with these arguments: of a macro that the template has made or
-    /// imported, over what is left of its closure and under the escape in force, or of a function. Keywords are one keyword map behind
-    /// the other arguments. The fuel that remains is consumed on. Costs what the call costs, and is linear in its text.
-    ///
-    /// # Errors
-    ///
-    /// [`ErrorKind::UnknownFunction`] where nothing stands under the name; [`ErrorKind::InvalidOperation`] at what cannot be called, as
-    /// a loop, where no level is left, and at a value that cannot be printed; [`ErrorKind::TooManyArguments`] at arguments that a macro
-    /// does not take; the fault of what runs, as [`ErrorKind::OutOfFuel`]; [`ErrorKind::OutOfMemory`]. Then as [`State::apply_filter`].
-    pub fn call_macro(&mut self, name: &str, args: &[Value]) -> Result<String, Error>
-        // It is finished under some bound.
-        ensures finished { let says = user_answers E.Callable.answer E.Method.answer E.Formatter.answer E.Join.answer in
-            Returns (macro_in says self.old name.now args.now) }
-
-        // Under each bound where it is finished, it is the text that the call comes to.
-        ensures told { let says = user_answers E.Callable.answer E.Method.answer E.Formatter.answer E.Join.answer in
-            WhereReturned (macro_in says self.old name.now args.now) (GivesTold (worded_in self.new) (fuel_left_in self.old) result) }
-        ensures remains { let says = user_answers E.Callable.answer E.Method.answer E.Formatter.answer E.Join.answer in
-            WhereReturned (macro_in says self.old name.now args.now)
-            (λ reply. LeavesFuel (fuel_left_in self.old) (run_of reply) result (fuel_left_in self.new)) }
-        ensures world { let says = user_answers E.Callable.answer E.Method.answer E.Formatter.answer E.Join.answer in
-            WhereReturned (macro_in says self.old name.now args.now)
-            (λ reply. LeavesWorld (fuel_left_in self.old) (world_in self.old) result reply (world_in self.new)) }
-
-        // Whatever its end, the frames are as before, and so is what every run keeps: the state's number, what the environment gives,
-        // the block that runs, the names of what was loaded, with others before them at most, and the bodies that blocks run, with
-        // others behind them at most.
-        ensures frames { (world_in self.new).frames ≡ (world_in self.old).frames }
-        ensures keeps { KeepsWorld (world_in self.old) (world_in self.new) }
-
-        // Behind a fault what else was open is so again.
-        ensures put_back { OnErr result (PutsBack (world_in self.old) (world_in self.new)) }
-        ensures rest { KeepsState self.old self.new }
-    {
-        every_call_ends(self);
-        let environment = self.environment;
-        let rules = environment.registry.rules(own_name(self.template));
-        let alloc = environment.allocator();
-        let given = copies(alloc, args)?;
-        let mark = self.machine.mark(alloc)?;
-        let reached = match call_found(alloc, rules, environment, name, given, &mut self.machine) {
-            Ok(reached) => reached,
-            Err(stop) => return Err(stop.into_error()),
-        };
-        let value = match self.come_to(reached) {
-            Ok(value) => value,
-            Err(stop) => return Err(self.failed(mark, stop.into_error())),
-        };
-        let mut text = String::new(alloc);
-        match print_to(&value, &self.machine, &mut text) {
-            Ok(()) => Ok(text),
-            Err(error) => Err(self.failed(mark, error)),
-        }
-    }
-
-    // The error of a call, behind which is open again what was open where it was marked.
-    fn failed(&mut self, mark: Caller<'env>, error: Error) -> Error
-        ensures same { result ≡ error }
-        ensures put_back { world_in self.new ≡ put_back mark.entry (world_in self.old) }
-        ensures rest { KeepsRest self.old self.new }
-    {
-        self.machine.leave_block(mark);
-        error
-    }
-
-    // What a call came to: a value, or that of what it enters, and what is made of it.
-    //
-    // # Errors
-    //
-    // Those of `turn_all` and `enter`.
-    fn come_to(&mut self, reached: Reached) -> Result<Value, Stop>
-        ensures does { let says = user_answers E.Callable.answer E.Method.answer E.Formatter.answer E.Join.answer in
-            DoesThere says (reached_by (around_in says self.old) reached (world_in self.old)) self.old self.new result }
-        ensures frames { (world_in self.new).frames ≡ (world_in self.old).frames }
-        ensures keeps { KeepsWorld (world_in self.old) (world_in self.new) }
-        ensures spares { IfErr result SparesSink }
-        ensures rest { KeepsState self.old self.new }
-    {
-        match reached {
-            Reached::Value(value, turnings) => {
-                let alloc = self.environment.allocator();
-                turn_all(alloc, turnings, value, &self.machine)
-            }
-            Reached::Enters(entry) => self.enter(entry),
-        }
-    }
-
-    // The value of what a call enters, which runs with the fuel that remains; what it writes goes into captures alone.
-    //
-    // # Errors
-    //
-    // Those of `run_entry`.
-    fn enter(&mut self, entry: Entry) -> Result<Value, Stop>
-        ensures does { let says = user_answers E.Callable.answer E.Method.answer E.Formatter.answer E.Join.answer in
-            DoesThere says (entry_plan (around_in says self.old) entry (world_in self.old)) self.old self.new result }
-        ensures frames { (world_in self.new).frames ≡ (world_in self.old).frames }
-        ensures keeps { KeepsWorld (world_in self.old) (world_in self.new) }
-        ensures spares { IfErr result SparesSink }
-        ensures rest { KeepsState self.old self.new }
-    {
-        let environment = self.environment;
-        let alloc = environment.allocator();
-        let mut left = remaining(self.fuel);
-        let mut scratch = String::new(alloc);
-        let mut sink = NullWriter;
-        let told = run_entry(
-            alloc,
-            program(environment, self.template),
-            entry,
-            &mut self.machine,
-            &mut left,
-            &mut scratch,
-            &mut sink,
-        );
-        self.fuel = spend(self.fuel, left);
-        told
-    }
-
     /// What was set last under a name, by a callable or by [`State::set_temp`]. Logarithmic in the number of temps. The value
     /// shares its contents.
     ///
@@ -485,181 +252,6 @@ impl<'env, 'source, E: Extension> State<'env, 'source, E> {
         environment.get_template(joined.as_str())
     }
 
-    /// The text of a block of the template, or of one that it extends, over what its frames hold: as a call of the block in the
-    /// template gives it, but also where what is written there is dropped. The fuel that remains is consumed on. Linear in
-    /// the instructions that it runs and in its text, besides what operators and calls cost.
-    ///
-    /// # Errors
-    ///
-    /// As [`State::render_block_to_write`]; [`ErrorKind::WriteFailure`] only where a callable states it.
-    pub fn render_block(&mut self, block: &str) -> Result<String, Error>
-        // Its meaning is finished under some bound.
-        ensures finished { let says = user_answers E.Callable.answer E.Method.answer E.Formatter.answer E.Join.answer in
-            Finishes (block_in says self.old block.now) }
-
-        // Under each bound where its meaning is finished, its text is the one that the call gives.
-        ensures text { let says = user_answers E.Callable.answer E.Method.answer E.Formatter.answer E.Join.answer in
-            WhereFinished (block_in says self.old block.now)
-            (λ run. GivesText (λ text. string_bytes text) result (under (fuel_left_in self.old) run)) }
-        ensures remains { let says = user_answers E.Callable.answer E.Method.answer E.Formatter.answer E.Join.answer in
-            WhereFinished (block_in says self.old block.now)
-            (λ run. LeavesFuel (fuel_left_in self.old) run result (fuel_left_in self.new)) }
-        ensures world { let says = user_answers E.Callable.answer E.Method.answer E.Formatter.answer E.Join.answer in
-            WhereFinished (block_in says self.old block.now) (λ run. EndsIn (fuel_left_in self.old) result run (world_in self.new)) }
-
-        // Whatever its end, the frames are as before, and so is what every run keeps: the state's number, what the environment gives,
-        // the block that runs, the names of what was loaded, with others before them at most, and the bodies that blocks run, with
-        // others behind them at most.
-        ensures frames { (world_in self.new).frames ≡ (world_in self.old).frames }
-        ensures keeps { KeepsWorld (world_in self.old) (world_in self.new) }
-
-        // What else was open is so again.
-        ensures put_back { PutsBack (world_in self.old) (world_in self.new) }
-        ensures rest { KeepsState self.old self.new }
-    {
-        let mut text = String::new(self.environment.allocator());
-        self.render_block_to_write(block, &mut text)?;
-        Ok(text)
-    }
-
-    /// The same into a sink, in one or more pieces.
-    ///
-    /// # Errors
-    ///
-    /// [`ErrorKind::UnknownBlock`] where there is no block of this name; [`ErrorKind::InvalidOperation`] where its only body
-    /// requires another, and where no level is left; the fault that the block ends with, as [`ErrorKind::OutOfFuel`]: the
-    /// text before it is then in the sink. [`ErrorKind::OutOfMemory`] where a growth was refused, and
-    /// [`ErrorKind::WriteFailure`] where the sink failed; it has then taken a beginning of the text. Where a callable states
-    /// either as its fault, the sink has not failed. Frames, captures, the escape and the block that runs are then as before;
-    /// temps, and what the block loaded, stay; of a fuel that ran out nothing is left.
-    pub fn render_block_to_write<S: Sink>(&mut self, block: &str, sink: &mut S) -> Result<(), Error>
-        // Its meaning is finished under some bound.
-        ensures finished { let says = user_answers E.Callable.answer E.Method.answer E.Formatter.answer E.Join.answer in
-            Finishes (block_in says self.old block.now) }
-
-        // Under each bound where its meaning is finished, its text is the one that goes into the sink.
-        ensures renders { let says = user_answers E.Callable.answer E.Method.answer E.Formatter.answer E.Join.answer in
-            WhereFinished (block_in says self.old block.now)
-            (λ run. Renders result (S.taken sink.old) (S.taken sink.new) (S.failures sink.old) (S.failures sink.new)
-            (under (fuel_left_in self.old) run)) }
-
-        // Where the sink does not fail, the fuel and the world that are left are what that leaves.
-        ensures remains { let says = user_answers E.Callable.answer E.Method.answer E.Formatter.answer E.Join.answer in
-            S.failures sink.new ≡ S.failures sink.old → WhereFinished (block_in says self.old block.now)
-            (λ run. LeavesFuel (fuel_left_in self.old) run result (fuel_left_in self.new)) }
-        ensures world { let says = user_answers E.Callable.answer E.Method.answer E.Formatter.answer E.Join.answer in
-            S.failures sink.new ≡ S.failures sink.old → WhereFinished (block_in says self.old block.now)
-            (λ run. EndsIn (fuel_left_in self.old) result run (world_in self.new)) }
-
-        // Whatever its end, the frames are as before, and so is what every run keeps: the state's number, what the environment gives,
-        // the block that runs, the names of what was loaded, with others before them at most, and the bodies that blocks run, with
-        // others behind them at most.
-        ensures frames { (world_in self.new).frames ≡ (world_in self.old).frames }
-        ensures keeps { KeepsWorld (world_in self.old) (world_in self.new) }
-
-        // What else was open is so again.
-        ensures put_back { PutsBack (world_in self.old) (world_in self.new) }
-        ensures failures { AnswersFailure result (S.failures sink.old) (S.failures sink.new) }
-        ensures rest { KeepsState self.old self.new }
-    {
-        every_block_ends(self);
-        let environment = self.environment;
-        let alloc = environment.allocator();
-        let mut left = remaining(self.fuel);
-        let mut scratch = String::new(alloc);
-        let done = run_block(
-            alloc,
-            program(environment, self.template),
-            block,
-            &mut self.machine,
-            &mut left,
-            &mut scratch,
-            sink,
-        );
-        self.fuel = spend(self.fuel, left);
-        match done {
-            Ok(()) => Ok(()),
-            Err(stop) => Err(stop.into_error()),
-        }
-    }
-
-    /// Runs a stream that no compiler wrote as a template's, in a frame of its own, with the templates that it extends: the text goes
-    /// into a sink, in one or more pieces, and the value is given that its own instructions leave. An expression's leave one, a
-    /// template's none. The fuel that remains is consumed on. Linear in the instructions that it runs and in its text, besides what
-    /// operators and calls cost. What the stream makes, macros and loops that may be called again, can be run while it runs alone: a
-    /// later call of one is refused by [`ErrorKind::InvalidOperation`].
-    ///
-    /// # Errors
-    ///
-    /// [`ErrorKind::InvalidOperation`] where no level is left; the fault that the run ends with, as [`ErrorKind::OutOfFuel`]: the text
-    /// before it is then in the sink. [`ErrorKind::OutOfMemory`] where a growth was refused, and [`ErrorKind::WriteFailure`] where the
-    /// sink failed; it has then taken a beginning of the text. Where a callable states either as its fault, the sink has not failed.
-    /// Frames, captures, the escape and the block that runs are then as before; temps, and what the stream loaded, stay; of a fuel that
-    /// ran out nothing is left.
-    pub fn run_checked<S: Sink>(
-        &mut self,
-        stream: &'env Checked<'source>,
-        sink: &mut S,
-    ) -> Result<Option<Value>, Error>
-        // Under each bound where the stream's run is finished, its text is the one that goes into the sink.
-        ensures renders { let says = user_answers E.Callable.answer E.Method.answer E.Formatter.answer E.Join.answer in
-            WhereFinished (stream_in says self.old stream.now)
-            (λ run. Renders result (S.taken sink.old) (S.taken sink.new) (S.failures sink.old) (S.failures sink.new)
-            (under (fuel_left_in self.old) run)) }
-
-        // The value is the one that its own instructions leave, if they leave one: those of a template's stream leave none.
-        ensures gives { let says = user_answers E.Callable.answer E.Method.answer E.Formatter.answer E.Join.answer in
-            IfOk result (GivesLeft (own_in says self.old stream.now)) }
-        ensures template { IfOk result (λ given. kind_in stream.now ≡ StreamKind.Template → given ≡ None) }
-
-        // Where the sink does not fail, the fuel and the world that are left are what the run leaves.
-        ensures remains { let says = user_answers E.Callable.answer E.Method.answer E.Formatter.answer E.Join.answer in
-            S.failures sink.new ≡ S.failures sink.old → WhereFinished (stream_in says self.old stream.now)
-            (λ run. LeavesFuel (fuel_left_in self.old) run result (fuel_left_in self.new)) }
-        ensures world { let says = user_answers E.Callable.answer E.Method.answer E.Formatter.answer E.Join.answer in
-            S.failures sink.new ≡ S.failures sink.old → WhereFinished (stream_in says self.old stream.now)
-            (λ run. EndsIn (fuel_left_in self.old) result run (world_in self.new)) }
-
-        // Whatever its end, the frames are as before, and so is what every run keeps: the state's number, what the environment gives,
-        // the block that runs, the names of what was loaded, with others before them at most, and the bodies that blocks run, with
-        // others behind them at most.
-        ensures frames { (world_in self.new).frames ≡ (world_in self.old).frames }
-        ensures keeps { KeepsWorld (world_in self.old) (world_in self.new) }
-
-        // What else was open is so again.
-        ensures put_back { PutsBack (world_in self.old) (world_in self.new) }
-        ensures failures { AnswersFailure result (S.failures sink.old) (S.failures sink.new) }
-
-        // The next stream that is handed in has another number.
-        ensures counted { streams_in self.old ≢ usize.MAX → streams_in self.new ≡ streams_in self.old + 1 }
-        ensures rest { KeepsState self.old (record self.new { streams = streams_in self.old }) }
-    {
-        let number = self.streams;
-        let Some(next) = number.checked_add(1) else {
-            return Err(Error::new(ErrorKind::OutOfMemory));
-        };
-        self.streams = next;
-        let environment = self.environment;
-        let alloc = environment.allocator();
-        let mut left = remaining(self.fuel);
-        let mut scratch = String::new(alloc);
-        let done = run_stream(
-            alloc,
-            program(environment, self.template),
-            number,
-            stream,
-            &mut self.machine,
-            &mut left,
-            &mut scratch,
-            sink,
-        );
-        self.fuel = spend(self.fuel, left);
-        match done {
-            Ok(given) => Ok(given),
-            Err(stop) => Err(stop.into_error()),
-        }
-    }
-
     /// What was consumed of the fuel and what remains of it, where one was set.
     pub fn fuel_levels(&self) -> Option<(u64, u64)>
         ensures remaining { option_map (λ levels. levels.1) result ≡ fuel_left_in self.now }
@@ -689,46 +281,5 @@ impl<'env, 'source, E: Extension> Records for State<'env, 'source, E> {
 
     fn macro_view(&self, id: u64, number: usize) -> Option<MacroView<'_>> {
         self.machine.macro_view(id, number)
-    }
-}
-
-// The levels of a fuel of which nothing was consumed.
-pub(crate) fn unspent(fuel: Option<u64>) -> Option<Levels>
-    ensures set { set_of result ≡ fuel }
-    ensures left { left_of result ≡ fuel }
-{
-    match fuel {
-        Some(fuel) => Some(Levels {
-            consumed: 0,
-            remaining: fuel,
-        }),
-        None => None,
-    }
-}
-
-// What is left of a fuel.
-fn remaining(levels: Option<Levels>) -> Option<u64>
-    ensures { result ≡ left_of levels }
-{
-    match levels {
-        Some(levels) => Some(levels.remaining),
-        None => None,
-    }
-}
-
-// The levels of a fuel of which so much is left now: no more than was.
-pub(crate) fn spend(levels: Option<Levels>, left: Option<u64>) -> Option<Levels>
-    ensures set { set_of result ≡ set_of levels }
-    ensures left { IsNoMore (left_of levels) left → left_of result ≡ left }
-{
-    match (levels, left) {
-        (Some(levels), Some(left)) => {
-            let remaining = left.min(levels.remaining);
-            Some(Levels {
-                consumed: levels.consumed + (levels.remaining - remaining),
-                remaining,
-            })
-        }
-        _ => levels,
     }
 }

@@ -13,8 +13,9 @@ ghost use Rattle.template_machine_environment.specs.States.{environment_in, fuel
 
 use crate::environment::Environment;
 use crate::laws::{every_render_ends, isolated_renders, plain_renders};
+use crate::levels::{spend, unspent};
 use crate::starting::{begun_with, program};
-use crate::state::{State, spend, unspent};
+use crate::state::State;
 use crate::using::UsesState;
 use template_callables::{Extension, NoExtension};
 use template_compiled::CompiledTemplate;
