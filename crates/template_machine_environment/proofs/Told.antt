@@ -51,7 +51,8 @@ use Rattle.template_compiled.specs.Compiled.{standing_of}
 use Rattle.template_machine_environment.specs.Extras.{UserAnswers}
 use Rattle.template_machine_environment.specs.Reading.{callables_of, registry_of, setting_in}
 use Rattle.template_machine_environment.specs.Renderings.{IsNoMore, LeavesFuel}
-use Rattle.template_machine_environment.specs.States.{DoesThere, GivesTold, IsMissing, KeepsRest, KeepsState, LeavesWorld, around_in, codes_in, environment_in, found_in, fuel_left_in, fuel_set_in, id_in, own_name_in, programs_in, streams_in, template_in, worded_in, world_in}
+use Rattle.template_machine_environment.specs.States.{DoesThere, GivesTold, IsMissing, KeepsRest, KeepsState, LeavesWorld, around_in, codes_in, environment_in, found_in, fuel_left_in, fuel_set_in, id_in, own_name_in, plan_in, programs_in, streams_in, template_in, worded_in, world_in}
+use Rattle.template_machine_environment.specs.declared.calls.Named.{Named}
 use Rattle.template_machine_environment.specs.declared.registry.Registry.{Registry}
 use Rattle.template_machine_environment.specs.declared.state.State.{State}
 
@@ -160,12 +161,7 @@ stopped_world fuel w after now r (Fault kinds) spares stopped (inr is) back = in
 stopped_world fuel w after now r (Want kinds) spares (inl want, text) left back = inl want
 stopped_world fuel w after now r (Want kinds) spares (inr failed, text) left back = absurd (spares (ap (λ ks. Want ks) failed))
 
--- nothing was open where nothing but temps is other
-pub temps_same : (w v : World) → OnlyTemps w v → v ≡ put_back (caller_of w) v
-temps_same w v only =
-    let there : World = record w { temps = v.temps; held = v.held } in
-    only ∙ put_back_itself there ∙ ap (put_back (caller_of w)) (sym only)
-
+-- what was open is so where it was put back
 pub mark_back : (w v after : World) (mark : Caller) → mark ≡ record (caller_of w) { blocks = [] } → after ≡ put_back mark v → after ≡ put_back (caller_of w) v
 mark_back w v after mark is same = same ∙ ap (λ (c : Caller). put_back c v) is
 
@@ -263,7 +259,7 @@ module _ {E C M F J R : Type 0} (says : UserAnswers C M F J) (s : State E C M F 
           (tells_there t (Err stop) there n finished).0 (tells_there t (Err stop) there n finished).2 back)
 
   -- what a call fails with
-  pub failed_there : (p : Plan) (after : World) (stop : Stop) → FaultsSo (λ kinds. p ≡ replies (told after (fails kinds))) stop
+  failed_there : (p : Plan) (after : World) (stop : Stop) → FaultsSo (λ kinds. p ≡ replies (told after (fails kinds))) stop
       → DoesThere says p s (record s { machine = after }) (Err stop)
   failed_there p after stop failed = record {
     left = fuel_left_in s;
@@ -271,25 +267,11 @@ module _ {E C M F J R : Type 0} (says : UserAnswers C M F J) (s : State E C M F 
     spent = λ less. refl;
   }
 
-  -- so it is told
-  module _ (p : Plan) (after : World) (stop : Stop) (failed : FaultsSo (λ kinds. p ≡ replies (told after (fails kinds))) stop) where
-    pub failing_told : {X : Type 0} (give : X → Answer) (result : Result X (List ErrorKind)) → IsErrAnd result (λ ks. ks ≡ kinds_in stop) → (n : ℕ) → Finished p n
-        → GivesTold give (fuel_left_in s) result (meant p n)
-    failing_told give result is n finished =
-        stopped_told p (record s { machine = after }) stop (failed_there p after stop failed) (so_spares (λ kinds. p ≡ replies (told after (fails kinds))) stop failed) n finished
-        give result is
-
-    pub failing_left : {X : Type 0} (result : Result X (List ErrorKind)) → IsErrAnd result (λ ks. ks ≡ kinds_in stop) → (n : ℕ) → Finished p n
-        → LeavesFuel (fuel_left_in s) (run_of (meant p n)) result (fuel_left_in s)
-    failing_left result is n finished =
-        stopped_remains p (record s { machine = after }) stop (failed_there p after stop failed) (so_spares (λ kinds. p ≡ replies (told after (fails kinds))) stop failed) n finished
-        result is
-
-    pub failing_in : {X : Type 0} (result : Result X (List ErrorKind)) → IsErrAnd result (λ ks. ks ≡ kinds_in stop) → OnlyTemps (world_in s) after → (n : ℕ) → Finished p n
-        → LeavesWorld (fuel_left_in s) (world_in s) result (meant p n) after
-    failing_in result is only n finished =
-        stopped_in p (record s { machine = after }) stop (failed_there p after stop failed) (so_spares (λ kinds. p ≡ replies (told after (fails kinds))) stop failed) n finished
-        result is after (temps_same (world_in s) after only)
+  -- so it does where nothing but the world is other
+  pub failed_from : (p : Plan) (r : State E C M F J R) (stop : Stop) → KeepsRest s r → FaultsSo (λ kinds. p ≡ replies (told (world_in r) (fails kinds))) stop
+      → DoesThere says p s r (Err stop)
+  failed_from p r stop rest failed =
+      subst (λ (x : State E C M F J R). DoesThere says p s x (Err stop)) (sym rest) (failed_there p (world_in r) stop failed)
 
   -- what is around calls, and what they come to there
   pub around_there : (rules : Rules) → rules.name.now ≡ own_name_in s → rules.limit ≡ (registry_of (environment_in s)).recursion_limit
@@ -319,7 +301,7 @@ module _ {E C M F J R : Type 0} (says : UserAnswers C M F J) (s : State E C M F 
   }
 
   -- what a call came to, from where it began
-  pub reached_there : (came : Reached) (v : World) (p : Plan) (t : State E C M F J R) (result : Result Val Stop) → KeptUnlessValue (Ok came) (world_in s) v
+  reached_there : (came : Reached) (v : World) (p : Plan) (t : State E C M F J R) (result : Result Val Stop) → KeptUnlessValue (Ok came) (world_in s) v
       → p ≡ reached_by (around_in says s) came v → DoesThere says (reached_by (around_in says s) came v) (record s { machine = v }) t result
       → DoesThere says p s t result
   reached_there came v p t result kept is there = record {
@@ -328,6 +310,20 @@ module _ {E C M F J R : Type 0} (says : UserAnswers C M F J) (s : State E C M F 
         (reached_does (codes_in says s) came (world_in s) v (fuel_left_in s) there.left None None result (world_in t) kept there.does);
     spent = there.spent;
   }
+
+  -- and from a state that was left there
+  pub reached_from : (came : Reached) (r : State E C M F J R) (p : Plan) (t : State E C M F J R) (result : Result Val Stop) → KeepsRest s r
+      → KeptUnlessValue (Ok came) (world_in s) (world_in r) → p ≡ reached_by (around_in says s) came (world_in r)
+      → DoesThere says (reached_by (around_in says r) came (world_in r)) r t result → DoesThere says p s t result
+  reached_from came r p t result rest kept is there =
+      reached_there came (world_in r) p t result kept is
+      (subst (λ (x : State E C M F J R). DoesThere says (reached_by (around_in says x) came (world_in x)) x t result) rest there)
+
+  -- a call by its own name
+  pub planned_as : (called same : Named) (vs : List Val) (result : Result Reached Stop) (after : World) → same ≡ called
+      → Planned (reached_by (around_in says s)) (plan_in says s called vs) result after → Planned (reached_by (around_in says s)) (plan_in says s same vs) result after
+  planned_as called same vs result after is planned =
+      subst (λ (x : Named). Planned (reached_by (around_in says s)) (plan_in says s x vs) result after) (sym is) planned
 
   -- its value is printed
   pub printed_there : (p : Plan) (t : State E C M F J R) (v : Val) (result : Result Val Stop)
@@ -382,12 +378,6 @@ pub worded_told : {E C M F J R : Type 0} (fuel : Option ℕ) (r : Reply World) (
     → GivesTold value fuel (Ok (captured (world_in t).escape (keeps (string_bytes text)))) r → GivesTold (worded_in t) fuel (Ok text) r
 worded_told fuel r t text told = told
 
--- a text that a plan fails to come to
-pub text_failed : (w : World) (p : Plan) (stop : Stop) → FaultsSo (λ kinds. p ≡ replies (told w (fails kinds))) stop
-    → FaultsSo (λ kinds. with_turning to_text p ≡ replies (told w (fails kinds))) stop
-text_failed w p (Fault kinds) fault = ap (with_turning to_text) fault
-text_failed w p (Want kinds) want = want
-
 -- a test gives true or false
 decided_truth : (r : Result Bool ErrorKind) (v : Val) → decided r ≡ tells (value v) → values.truth (is_true v) ≡ v
 decided_truth (Ok b) v e = let same : values.truth b ≡ v = cc in subst (λ (x : Val). values.truth (is_true x) ≡ x) same refl
@@ -425,8 +415,10 @@ module _ {E C M F J R : Type 0} (says : UserAnswers C M F J) (s : State E C M F 
       (told.0, told.1 ∙ ap (λ x. tells (value x)) (sym same ∙ ap (λ x. values.truth x) (sym is)))
 
 -- a call that went on from another world was in the same state
-pub rest_from : {E C M F J R : Type 0} (s t : State E C M F J R) (w : World) → KeepsState (record s { machine = w }) t → KeepsState s t
-rest_from s t w h = record { environment = h.environment; template = h.template; id = h.id; fuel = h.fuel; streams = h.streams }
+pub rest_from : {E C M F J R : Type 0} (s r t : State E C M F J R) → KeepsRest s r → KeepsState r t → KeepsState s t
+rest_from s r t rest h =
+    let from : KeepsState (record s { machine = world_in r }) t = subst (λ (x : State E C M F J R). KeepsState x t) rest h in
+    record { environment = from.environment; template = from.template; id = from.id; fuel = from.fuel; streams = from.streams }
 
 -- a call that failed leaves what it came to, but for its world
 module _ {E C M F J R : Type 0} (s t u : State E C M F J R) (kept : KeepsRest t u) where

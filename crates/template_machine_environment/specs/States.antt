@@ -19,7 +19,7 @@ use Rattle.template_compiler_code_shapes.specs.Checked as checked
 use Rattle.template_compiler_code_shapes.specs.declared.checked.Checked.{Checked}
 use Rattle.template_machine_meaning.specs.Calls.{call_plan}
 use Rattle.template_machine_meaning.specs.Captures.{captured}
-use Rattle.template_machine_meaning.specs.Functions.{Invoked, found_called, invokes}
+use Rattle.template_machine_meaning.specs.Functions.{Invoked, filter_named, found_called, invokes, test_named}
 use Rattle.template_machine_meaning.specs.Keys.{Around, Head}
 use Rattle.template_machine_meaning.specs.Meaning.{head_of, named_so, no_head, walks_of}
 use Rattle.template_machine_meaning.specs.Names as names
@@ -42,6 +42,8 @@ use Rattle.template_machine_environment.specs.Extras.{UserAnswers, joins_by}
 use Rattle.template_machine_environment.specs.Reading.{callables_of, extras_of, registry_of, setting_in}
 use Rattle.template_machine_environment.specs.Renderings.{Finishes, IsNoMore, left_of, set_of}
 use Rattle.template_machine_environment.specs.Standing.{source_at, unit_of, units_of}
+use Rattle.template_machine_environment.specs.declared.calls.Named.{Named}
+use Rattle.template_machine_environment.specs.declared.calls.Named.TheVariants.{Filter, Test, Found}
 use Rattle.template_machine_environment.specs.declared.environment.Environment.{Environment}
 use Rattle.template_machine_environment.specs.declared.registry.Registry.{Registry}
 use Rattle.template_machine_environment.specs.declared.state.State.{State}
@@ -135,9 +137,26 @@ module _ {E C M F J R : Type 0} where
   abbrev pub macro_in : UserAnswers C M F J → State E C M F J R → List ℕ → List Val → ℕ → Reply World
   macro_in says s name vs n = replies_of (programs_in says s) (with_turning to_text (found_in says s name vs)) (world_in s) n
 
+  -- the plan of a call of what stands under a name: of a filter, of a test, or of the value that the name stands for; and what that
+  -- comes to, under a bound
+  abbrev pub plan_in : UserAnswers C M F J → State E C M F J R → Named → List Val → Plan
+  plan_in says s (Filter name) vs = call_plan (around_in says s) (world_in s) (invokes (filter_named name.now) vs)
+  plan_in says s (Test name) vs = call_plan (around_in says s) (world_in s) (invokes (test_named name.now) vs)
+  plan_in says s (Found name) vs = found_in says s name.now vs
+
+  abbrev pub named_in : UserAnswers C M F J → State E C M F J R → Named → List Val → ℕ → Reply World
+  named_in says s named vs n = replies_of (programs_in says s) (plan_in says s named vs) (world_in s) n
+
   -- a text as a value in it, which is safe under an escape
+  abbrev pub word_in : State E C M F J R → String Global → Val
+  word_in s text = captured (world_in s).escape (keeps (string_bytes text))
+
   abbrev pub worded_in : State E C M F J R → String Global → Answer
-  worded_in s text = value (captured (world_in s).escape (keeps (string_bytes text)))
+  worded_in s text = value (word_in s text)
+
+  abbrev pub worded_by : State E C M F J R → Result (String Global) Stop → Result Val Stop
+  worded_by s (Ok text) = Ok (word_in s text)
+  worded_by s (Err stop) = Err stop
 
   -- the programs of code that run in it
   abbrev pub codes_in : UserAnswers C M F J → State E C M F J R → Programs

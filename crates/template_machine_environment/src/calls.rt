@@ -4,8 +4,9 @@ ghost use Rattle.template_compiler_process.specs.Process.{value};
 ghost use Rattle.template_values_model.specs.Val.{truth};
 ghost use Rattle.template_machine_meaning.specs.Functions.{filter_named, test_named};
 ghost use Rattle.template_machine_meaning.specs.Keeps.{KeepsWorld};
-ghost use Rattle.template_machine_meaning.specs.Plans.{put_back};
-ghost use Rattle.template_machine_calls.specs.Left.{entry_plan, reached_by};
+ghost use Rattle.template_machine_meaning.specs.Plans.{put_back, with_turning};
+ghost use Rattle.template_machine_meaning.specs.Turnings.{to_text};
+ghost use Rattle.template_machine_calls.specs.Left.{KeptUnlessValue, Planned, entry_plan, reached_by};
 ghost use Rattle.template_machine_going.specs.Told.{SparesSink};
 ghost use Rattle.template_machine_renders.specs.Plans.{PutsBack, run_of};
 ghost use Rattle.template_machine_environment.specs.Extras.{user_answers};
@@ -26,8 +27,17 @@ use template_values_errors::Error;
 use template_values_operators::growth::copies;
 use template_values_print::print_to;
 
+// What is called by its name.
+#[derive(Clone, Copy)]
+pub(crate) enum Named<'a> {
+    Filter(&'a str),
+    Test(&'a str),
+    // The value that the name stands for.
+    Found(&'a str),
+}
+
 impl<'env, 'source, E: Extension> State<'env, 'source, E> {
-    ghost use Rattle.template_machine_environment.specs.States.{DoesThere, GivesTold, KeepsRest, KeepsState, LeavesWorld, Returns, WhereReturned, around_in, call_in, fuel_left_in, macro_in, worded_in, world_in};
+    ghost use Rattle.template_machine_environment.specs.States.{DoesThere, GivesTold, KeepsRest, KeepsState, LeavesWorld, Returns, WhereReturned, around_in, call_in, found_in, fuel_left_in, macro_in, named_in, plan_in, worded_by, worded_in, world_in};
 
     /// What a filter comes to for these arguments, the first of which is what it filters; and what it asks the machine further: that
     /// may run a macro or a block, which consume the fuel that remains. Costs what the filter costs, and what it asks for.
@@ -64,18 +74,7 @@ impl<'env, 'source, E: Extension> State<'env, 'source, E> {
         ensures rest { KeepsState self.old self.new }
     {
         every_call_ends(self);
-        let environment = self.environment;
-        let rules = environment.registry.rules(own_name(self.template));
-        let alloc = environment.allocator();
-        let mark = self.machine.mark(alloc)?;
-        let reached = match call_filter(alloc, rules, environment, name, args, &mut self.machine) {
-            Ok(reached) => reached,
-            Err(stop) => return Err(stop.into_error()),
-        };
-        match self.come_to(reached) {
-            Ok(value) => Ok(value),
-            Err(stop) => Err(self.failed(mark, stop.into_error())),
-        }
+        self.answered(Named::Filter(name), args)
     }
 
     /// What a test comes to for these arguments, the first of which is what it tests; and what it asks the machine further.
@@ -111,17 +110,9 @@ impl<'env, 'source, E: Extension> State<'env, 'source, E> {
         ensures rest { KeepsState self.old self.new }
     {
         every_call_ends(self);
-        let environment = self.environment;
-        let rules = environment.registry.rules(own_name(self.template));
-        let alloc = environment.allocator();
-        let mark = self.machine.mark(alloc)?;
-        let reached = match call_test(alloc, rules, environment, name, args, &mut self.machine) {
-            Ok(reached) => reached,
-            Err(stop) => return Err(stop.into_error()),
-        };
-        match self.come_to(reached) {
+        match self.answered(Named::Test(name), args) {
             Ok(value) => Ok(value.is_true()),
-            Err(stop) => Err(self.failed(mark, stop.into_error())),
+            Err(error) => Err(error),
         }
     }
 
@@ -160,23 +151,107 @@ impl<'env, 'source, E: Extension> State<'env, 'source, E> {
         ensures rest { KeepsState self.old self.new }
     {
         every_call_ends(self);
+        let mark = self.machine.mark(self.environment.allocator())?;
+        match self.text_of(name, args) {
+            Ok(text) => Ok(text),
+            Err(stop) => Err(self.failed(mark, stop.into_error())),
+        }
+    }
+
+    // The value of what a call comes to, behind whose error is open again what was open before.
+    //
+    // # Errors
+    //
+    // A want of memory; those of `come_of`.
+    fn answered(&mut self, named: Named<'_>, args: &[Value]) -> Result<Value, Error>
+        ensures told { let says = user_answers E.Callable.answer E.Method.answer E.Formatter.answer E.Join.answer in
+            WhereReturned (named_in says self.old named.entry args.now) (GivesTold value (fuel_left_in self.old) result) }
+        ensures remains { let says = user_answers E.Callable.answer E.Method.answer E.Formatter.answer E.Join.answer in
+            WhereReturned (named_in says self.old named.entry args.now)
+            (λ reply. LeavesFuel (fuel_left_in self.old) (run_of reply) result (fuel_left_in self.new)) }
+        ensures world { let says = user_answers E.Callable.answer E.Method.answer E.Formatter.answer E.Join.answer in
+            WhereReturned (named_in says self.old named.entry args.now)
+            (λ reply. LeavesWorld (fuel_left_in self.old) (world_in self.old) result reply (world_in self.new)) }
+        ensures frames { (world_in self.new).frames ≡ (world_in self.old).frames }
+        ensures keeps { KeepsWorld (world_in self.old) (world_in self.new) }
+        ensures put_back { OnErr result (PutsBack (world_in self.old) (world_in self.new)) }
+        ensures rest { KeepsState self.old self.new }
+    {
+        let mark = self.machine.mark(self.environment.allocator())?;
+        match self.come_of(named, args) {
+            Ok(value) => Ok(value),
+            Err(stop) => Err(self.failed(mark, stop.into_error())),
+        }
+    }
+
+    // The text of what a call comes to of what a name stands for.
+    //
+    // # Errors
+    //
+    // Those of `come_of`, and of printing its value.
+    fn text_of(&mut self, name: &str, args: &[Value]) -> Result<String, Stop>
+        ensures does { let says = user_answers E.Callable.answer E.Method.answer E.Formatter.answer E.Join.answer in
+            DoesThere says (with_turning to_text (found_in says self.old name.now args.now)) self.old self.new (worded_by self.new result) }
+        ensures frames { (world_in self.new).frames ≡ (world_in self.old).frames }
+        ensures keeps { KeepsWorld (world_in self.old) (world_in self.new) }
+        ensures spares { IfErr result SparesSink }
+        ensures rest { KeepsState self.old self.new }
+    {
+        let value = match self.come_of(Named::Found(name), args) {
+            Ok(value) => value,
+            Err(stop) => return Err(stop),
+        };
+        let mut text = String::new(self.environment.allocator());
+        match print_to(&value, &self.machine, &mut text) {
+            Ok(()) => Ok(text),
+            Err(error) => Err(error.into()),
+        }
+    }
+
+    // The value of what a call comes to of what stands under a name.
+    //
+    // # Errors
+    //
+    // Those of `reach` and `come_to`.
+    fn come_of(&mut self, named: Named<'_>, args: &[Value]) -> Result<Value, Stop>
+        ensures does { let says = user_answers E.Callable.answer E.Method.answer E.Formatter.answer E.Join.answer in
+            DoesThere says (plan_in says self.old named.entry args.now) self.old self.new result }
+        ensures frames { (world_in self.new).frames ≡ (world_in self.old).frames }
+        ensures keeps { KeepsWorld (world_in self.old) (world_in self.new) }
+        ensures spares { IfErr result SparesSink }
+        ensures rest { KeepsState self.old self.new }
+    {
+        match self.reach(named, args) {
+            Ok(reached) => self.come_to(reached),
+            Err(stop) => Err(stop),
+        }
+    }
+
+    // What a call comes to of what stands under a name: a value, or what it enters.
+    //
+    // # Errors
+    //
+    // A want of memory; those of `call_filter`, `call_test` and `call_found`.
+    fn reach(&mut self, named: Named<'_>, args: &[Value]) -> Result<Reached, Stop>
+        ensures told { let says = user_answers E.Callable.answer E.Method.answer E.Formatter.answer E.Join.answer in
+            Planned (reached_by (around_in says self.old)) (plan_in says self.old named.entry args.now) result (world_in self.new) }
+        ensures kept { KeptUnlessValue result (world_in self.old) (world_in self.new) }
+        ensures rest { KeepsRest self.old self.new }
+    {
         let environment = self.environment;
         let rules = environment.registry.rules(own_name(self.template));
         let alloc = environment.allocator();
-        let given = copies(alloc, args)?;
-        let mark = self.machine.mark(alloc)?;
-        let reached = match call_found(alloc, rules, environment, name, given, &mut self.machine) {
-            Ok(reached) => reached,
-            Err(stop) => return Err(stop.into_error()),
-        };
-        let value = match self.come_to(reached) {
-            Ok(value) => value,
-            Err(stop) => return Err(self.failed(mark, stop.into_error())),
-        };
-        let mut text = String::new(alloc);
-        match print_to(&value, &self.machine, &mut text) {
-            Ok(()) => Ok(text),
-            Err(error) => Err(self.failed(mark, error)),
+        match named {
+            Named::Filter(name) => {
+                call_filter(alloc, rules, environment, name, args, &mut self.machine)
+            }
+            Named::Test(name) => {
+                call_test(alloc, rules, environment, name, args, &mut self.machine)
+            }
+            Named::Found(name) => {
+                let given = copies(alloc, args)?;
+                call_found(alloc, rules, environment, name, given, &mut self.machine)
+            }
         }
     }
 
